@@ -1,0 +1,70 @@
+-- What an operation leaves consistent.
+use Rattle.std.proofs.Common.{◌≡◌, ℕ, ◌+◌, ◌<◌, ◌≤◌, true, false, not, Bool, List, [], ◌∷◌, ◌++◌, length, get_or, Option, arith, inl, inr, sym, ap, refl, subst, ◌∙◌, cond}
+use Rattle.std.specs.Prelude.{◌==◌, map, filter, sum_by}
+use Rattle.std.specs.List.{list_any, All}
+use Rattle.std.specs.List.Sorted.{IsStrictlyIncreasing}
+use Rattle.std.proofs.lemmas.List.{map-append}
+use Rattle.std.proofs.lemmas.List.Elements.{All-filter, All-map}
+use Rattle.std.proofs.lemmas.List.Kept.{IsStrictlyIncreasing-filter}
+use Rattle.std.proofs.lemmas.List.Filters.{length-filter_both, sum_by-filter_both}
+use Rattle.std.proofs.lemmas.Grind.{common_steps}
+use Rattle.maildrop.specs.Text.{octets_of}
+use Rattle.maildrop.specs.Limits.{Limits, AreLimits}
+use Rattle.maildrop.specs.Ticket.{Ticket}
+use Rattle.maildrop.specs.Taken.{message_octets, unique_ids, AreTaken}
+use Rattle.maildrop.specs.Maildrop.{Maildrop, IsConsistent, without, with_message}
+use Rattle.maildrop.specs.declared.message.Message.{Message}
+use Rattle.maildrop.proofs.UniqueIds.{ascending-push}
+
+-- whether a message of that unique id stays
+abbrev is_kept : List ℕ → ℕ → Bool
+is_kept uids u = not (list_any (λ uid. uid == u) uids)
+
+module _ {A : Type 0} where
+  pub message_octets-push : (messages : List (Message A)) (m : Message A) → message_octets (messages ++ m ∷ []) ≡ message_octets messages + octets_of m.text
+  message_octets-push messages m = grind (arith, common_steps)
+
+  -- a maildrop with one message more, for which there is room
+  pub consistent_with_message : (maildrop : Maildrop A) (text : List (List ℕ)) → IsConsistent maildrop
+      → length maildrop.messages < maildrop.limits.messages → message_octets maildrop.messages + octets_of text ≤ maildrop.limits.octets
+      → IsConsistent (with_message maildrop text)
+  consistent_with_message maildrop text old room small =
+      let m : Message A = record { uid = maildrop.next_uid; text = text } in
+      let more = message_octets-push maildrop.messages m in
+      record {
+        few = grind (arith, common_steps, room);
+        small = rw more small;
+        ascending = rw (map-append (λ (n : Message A). n.uid) maildrop.messages (m ∷ [])) (ascending-push (unique_ids maildrop.messages) maildrop.next_uid old.ascending (All-map (λ u. u < maildrop.next_uid) (λ (n : Message A). n.uid) maildrop.messages old.given));
+        given = grind (arith, common_steps, old.given);
+      }
+
+  -- the unique ids of the messages that stay
+  unique_ids-without : (uids : List ℕ) (messages : List (Message A)) → unique_ids (without uids messages) ≡ filter (is_kept uids) (unique_ids messages)
+  unique_ids-without uids [] = refl
+  unique_ids-without uids (m ∷ ms) =
+      let rest = unique_ids-without uids ms in
+      let go : (b : Bool) → is_kept uids m.uid ≡ b → unique_ids (without uids (m ∷ ms)) ≡ filter (is_kept uids) (unique_ids (m ∷ ms)) = λ b e. grind (arith, e, rest) in
+      go (is_kept uids m.uid) refl
+
+  pub length-without : (uids : List ℕ) (messages : List (Message A)) → length (without uids messages) ≤ length messages
+  length-without uids messages = omega (arith, length-filter_both (λ (m : Message A). is_kept uids m.uid) (λ m. not (is_kept uids m.uid)) (λ _. refl) messages)
+
+  pub message_octets-without : (uids : List ℕ) (messages : List (Message A)) → message_octets (without uids messages) ≤ message_octets messages
+  message_octets-without uids messages = omega (arith, sum_by-filter_both (λ (m : Message A). is_kept uids m.uid) (λ m. not (is_kept uids m.uid)) (λ _. refl) (λ m. octets_of m.text) messages)
+
+  -- a maildrop without the listed messages
+  pub consistent_without : (maildrop : Maildrop A) (uids : List ℕ) (holder : Option Ticket) → IsConsistent maildrop → IsConsistent (record maildrop { messages = without uids maildrop.messages; holder = holder })
+  consistent_without maildrop uids holder old = record {
+    few = omega (arith, length-without uids maildrop.messages, old.few);
+    small = omega (arith, message_octets-without uids maildrop.messages, old.small);
+    ascending = rw (unique_ids-without uids maildrop.messages) (IsStrictlyIncreasing-filter (is_kept uids) (unique_ids maildrop.messages) old.ascending);
+    given = All-filter (λ (m : Message A). is_kept uids m.uid) (λ m. m.uid < maildrop.next_uid) maildrop.messages old.given;
+  }
+
+  -- a maildrop's messages within the widest limits
+  pub taken_from : (maildrop : Maildrop A) → IsConsistent maildrop → AreLimits maildrop.limits → AreTaken maildrop.messages
+  taken_from maildrop old limits = record {
+    few = omega (arith, old.few, limits.0);
+    small = omega (arith, old.small, limits.1);
+    ascending = old.ascending;
+  }

@@ -1,0 +1,2 @@
+pub mod UniqueIds
+pub mod Consistent

@@ -1,0 +1,92 @@
+-- A user's maildrop alone: what each operation answers, and what it leaves.
+use Rattle.std.specs.Prelude.{ℕ, ◌+◌, ◌<◌, ◌≤◌, Bool, false, not, ◌||◌, ◌==◌, nat_lt, List, [], ◌∷◌, ◌++◌, length, filter, Option, Some, None, if◌then◌else◌}
+use Rattle.std.specs.List.{list_any, All}
+use Rattle.std.specs.List.Sorted.{IsStrictlyIncreasing}
+use Rattle.maildrop.specs.Text.{octets_of}
+use Rattle.maildrop.specs.Ticket.{Ticket, same_ticket}
+use Rattle.maildrop.specs.Limits.{Limits}
+use Rattle.maildrop.specs.Taken.{message_octets, unique_ids}
+use Rattle.maildrop.specs.declared.message.Message.{Message}
+use Rattle.maildrop.specs.declared.op.Op.{Op}
+use Rattle.maildrop.specs.declared.op.Op.TheVariants.{Mail, Take, Commit, Free, Break}
+use Rattle.maildrop.specs.declared.outcome.Outcome.{Outcome}
+use Rattle.maildrop.specs.declared.outcome.Outcome.TheVariants.{TooLarge, Full, IdsUsed, Stored, InUse, Taken, Done, NotHolder}
+
+pub record Maildrop (A : Type 0) : Type 0 where
+  pub messages : List (Message A)
+  pub next_uid : ℕ
+  -- the ticket of the Take that holds the lock
+  pub holder : Option Ticket
+  pub limits : Limits
+
+-- an operation's outcome, and the maildrop after it
+pub record Effect (A : Type 0) : Type 0 where
+  pub outcome : Outcome A
+  pub after : Maildrop A
+
+abbrev pub is_held_by : Option Ticket → Ticket → Bool
+is_held_by None lock = false
+is_held_by (Some holder) lock = same_ticket holder lock
+
+module _ {A : Type 0} where
+  -- what always holds of a maildrop
+  pub record IsConsistent (maildrop : Maildrop A) : Type 0 where
+    pub few : length maildrop.messages ≤ maildrop.limits.messages
+    pub small : message_octets maildrop.messages ≤ maildrop.limits.octets
+    pub ascending : IsStrictlyIncreasing (unique_ids maildrop.messages)
+    pub given : All (λ m. m.uid < maildrop.next_uid) maildrop.messages
+
+  -- a new maildrop
+  abbrev pub empty_maildrop : Limits → Maildrop A
+  empty_maildrop limits = record { messages = []; next_uid = 1; holder = None; limits = limits }
+
+  -- an operation that changes nothing
+  abbrev pub no_effect : Maildrop A → Outcome A → Effect A
+  no_effect maildrop outcome = record { outcome = outcome; after = maildrop }
+
+  abbrev pub with_message : Maildrop A → List (List ℕ) → Maildrop A
+  with_message maildrop text = record maildrop {
+    messages = maildrop.messages ++ record { uid = maildrop.next_uid; text = text } ∷ [];
+    next_uid = maildrop.next_uid + 1;
+  }
+
+  -- one message more would be too many, or too many octets
+  abbrev pub is_full_for : Maildrop A → List (List ℕ) → Bool
+  is_full_for maildrop text =
+      nat_lt maildrop.limits.messages (length maildrop.messages + 1)
+      || nat_lt maildrop.limits.octets (message_octets maildrop.messages + octets_of text)
+
+  abbrev pub effect_of_mail : Maildrop A → List (List ℕ) → Effect A
+  effect_of_mail maildrop text =
+      if nat_lt maildrop.limits.octets (octets_of text) then no_effect maildrop TooLarge
+      else if is_full_for maildrop text then no_effect maildrop Full
+      else if nat_lt maildrop.limits.ids maildrop.next_uid then no_effect maildrop IdsUsed
+      else record { outcome = Stored maildrop.next_uid; after = with_message maildrop text }
+
+  abbrev pub effect_of_take : Maildrop A → Ticket → Option Ticket → Effect A
+  effect_of_take maildrop ticket None = record { outcome = Taken maildrop.messages; after = record maildrop { holder = Some ticket } }
+  effect_of_take maildrop ticket (Some holder) = no_effect maildrop InUse
+
+  -- the messages whose unique id isn't listed
+  abbrev pub without : List ℕ → List (Message A) → List (Message A)
+  without uids messages = filter (λ m. not (list_any (λ uid. uid == m.uid) uids)) messages
+
+  abbrev pub effect_of_commit : Maildrop A → Ticket → List ℕ → Effect A
+  effect_of_commit maildrop lock uids =
+      if is_held_by maildrop.holder lock
+      then record { outcome = Done; after = record maildrop { messages = without uids maildrop.messages; holder = None } }
+      else no_effect maildrop NotHolder
+
+  abbrev pub effect_of_free : Maildrop A → Ticket → Effect A
+  effect_of_free maildrop lock =
+      if is_held_by maildrop.holder lock
+      then record { outcome = Done; after = record maildrop { holder = None } }
+      else no_effect maildrop NotHolder
+
+  -- the table of the operations; `ticket` is the command's own
+  abbrev pub effect_of : Maildrop A → Ticket → Op A → Effect A
+  effect_of maildrop ticket (Mail text) = effect_of_mail maildrop text
+  effect_of maildrop ticket Take = effect_of_take maildrop ticket maildrop.holder
+  effect_of maildrop ticket (Commit lock uids) = effect_of_commit maildrop lock uids
+  effect_of maildrop ticket (Free lock) = effect_of_free maildrop lock
+  effect_of maildrop ticket Break = record { outcome = Done; after = record maildrop { holder = None } }

@@ -1,0 +1,61 @@
+-- The maildrops of all users in one table, and each user's outcomes.
+use Rattle.std.specs.Prelude.{ℕ, ◌+◌, Bool, List, [], ◌∷◌, filter, Option, Some, None, if◌then◌else◌}
+use Rattle.std.specs.Str.{bytes_eq}
+use Rattle.maildrop.specs.Limits.{Limits}
+use Rattle.maildrop.specs.Maildrop.{Maildrop, empty_maildrop, effect_of}
+use Rattle.maildrop.specs.declared.user.User.{User}
+use Rattle.maildrop.specs.declared.command.Command.{Command}
+use Rattle.maildrop.specs.declared.outcome.Outcome.{Outcome}
+use Rattle.maildrop.specs.declared.outcome.Outcome.TheVariants.{NoSuchUser}
+
+module _ {A : Type 0} where
+  abbrev pub new_user : Limits → List ℕ → User A
+  new_user limits name = record { name = name; maildrop = empty_maildrop limits }
+
+  -- the maildrop of that name, if there is one
+  abbrev pub maildrop_of : List ℕ → List (User A) → Option (Maildrop A)
+  maildrop_of name [] = None
+  maildrop_of name (u ∷ us) = if bytes_eq u.name name then Some u.maildrop else maildrop_of name us
+
+  -- the outcome of a command for its user's maildrop, and that maildrop after it
+  abbrev pub outcome_at : Option (Maildrop A) → Command A → Outcome A
+  outcome_at None c = NoSuchUser
+  outcome_at (Some maildrop) c = (effect_of maildrop c.ticket c.op).outcome
+
+  abbrev pub maildrop_after : Option (Maildrop A) → Command A → Option (Maildrop A)
+  maildrop_after None c = None
+  maildrop_after (Some maildrop) c = Some ((effect_of maildrop c.ticket c.op).after)
+
+  -- a command's outcome in a table
+  abbrev pub outcome_in : List (User A) → Command A → Outcome A
+  outcome_in users c = outcome_at (maildrop_of c.user users) c
+
+  -- the table after a command: its user's maildrop alone has changed
+  abbrev pub users_after : List (User A) → Command A → List (User A)
+  users_after [] c = []
+  users_after (u ∷ us) c =
+      if bytes_eq u.name c.user
+      then record u { maildrop = (effect_of u.maildrop c.ticket c.op).after } ∷ us
+      else u ∷ users_after us c
+
+  -- the outcomes of commands in a table, one after another
+  abbrev pub outcomes_in : List (User A) → List (Command A) → List (Outcome A)
+  outcomes_in users [] = []
+  outcomes_in users (c ∷ cs) = outcome_in users c ∷ outcomes_in (users_after users c) cs
+
+  -- the outcomes of commands for one maildrop alone, one after another
+  abbrev pub outcomes_at : Option (Maildrop A) → List (Command A) → List (Outcome A)
+  outcomes_at maildrop [] = []
+  outcomes_at maildrop (c ∷ cs) = outcome_at maildrop c ∷ outcomes_at (maildrop_after maildrop c) cs
+
+  abbrev pub names_user : List ℕ → Command A → Bool
+  names_user name c = bytes_eq c.user name
+
+  abbrev pub commands_of : List ℕ → List (Command A) → List (Command A)
+  commands_of name commands = filter (names_user name) commands
+
+  -- of the outcomes of commands those that the user's own commands got
+  abbrev pub outcomes_for : List ℕ → List (Command A) → List (Outcome A) → List (Outcome A)
+  outcomes_for name [] outcomes = []
+  outcomes_for name (c ∷ cs) [] = []
+  outcomes_for name (c ∷ cs) (o ∷ os) = if names_user name c then o ∷ outcomes_for name cs os else outcomes_for name cs os

@@ -1,0 +1,171 @@
+//! One user's maildrop.
+ghost use Rattle.std.specs.Prelude.{◌≡◌, ◌==◌, ℕ, ◌≤◌, ◌^◌, List, IfOk, OnOk, OnErr};
+ghost use Rattle.std.specs.List.{list_any};
+ghost use Rattle.std.specs.List.Sorted.{IsStrictlyIncreasing};
+ghost use Rattle.maildrop.specs.Taken.{message_octets};
+ghost use Rattle.maildrop.specs.Maildrop as spec;
+
+use crate::limits::Limits;
+use crate::message::{Message, copies_of};
+use crate::op::Op;
+use crate::outcome::Outcome;
+use crate::taken::Taken;
+use crate::text::Text;
+use crate::ticket::Ticket;
+use crate::uids::Uids;
+use ballot::Memory;
+use std::alloc::{Allocator, Global};
+use std::marker::Model;
+
+/// A user's maildrop: its messages, and the ticket of the Take that holds its lock. The octets of all messages are
+/// kept, so that a message comes in at the same cost however many there are.
+#[derive(Drop)]
+pub struct Maildrop<A: Allocator = Global> {
+    messages: Vec<Message<A>, A>,
+    octets: u64,
+    next_uid: u64,
+    holder: Option<Ticket>,
+    limits: Limits,
+}
+
+impl<A: Allocator> Model for Maildrop<A> {
+    ghost use Rattle.std.specs.Prelude.{◌≡◌};
+    ghost use Rattle.maildrop.specs.Taken.{message_octets};
+    ghost use Rattle.maildrop.specs.Maildrop.{Maildrop, IsConsistent};
+
+    ghost Value = { Maildrop A };
+
+    ghost view = { λ m. record { messages = m.messages.items; next_uid = m.next_uid; holder = m.holder; limits = m.limits } };
+
+    ghost invariant = { λ m. (m.octets ≡ message_octets m.messages.items)
+        × IsConsistent (record { messages = m.messages.items; next_uid = m.next_uid; holder = m.holder; limits = m.limits }) };
+}
+
+impl<A: Allocator + Copy> Maildrop<A> {
+    /// A maildrop without messages, whose lock nobody holds. Takes no memory.
+    pub(crate) fn new(alloc: A, limits: Limits) -> Self
+        ensures { result ≡ spec.empty_maildrop limits }
+    {
+        Maildrop {
+            messages: Vec::new(alloc),
+            octets: 0,
+            next_uid: 1,
+            holder: None,
+            limits,
+        }
+    }
+
+    /// Performs one operation. After `Memory` the maildrop is as it was.
+    pub(crate) fn perform(&mut self, ticket: Ticket, op: &Op<A>) -> Result<Outcome<A>, Memory>
+        ensures outcome { IfOk result (λ outcome. outcome ≡ (spec.effect_of self.old ticket op.now).outcome) }
+        ensures after { OnOk result (self.new ≡ (spec.effect_of self.old ticket op.now).after) }
+        ensures err { OnErr result (self.new ≡ self.old) }
+    {
+        match op {
+            Op::Mail(text) => self.mail(text),
+            Op::Take => self.take(ticket),
+            Op::Commit { lock, uids } => Ok(self.commit(*lock, uids)),
+            Op::Free { lock } => Ok(self.free(*lock)),
+            Op::Break => {
+                self.holder = None;
+                Ok(Outcome::Done)
+            }
+        }
+    }
+
+    fn mail(&mut self, text: &Text<A>) -> Result<Outcome<A>, Memory>
+        ensures outcome { IfOk result (λ outcome. outcome ≡ (spec.effect_of_mail self.old text.now).outcome) }
+        ensures after { OnOk result (self.new ≡ (spec.effect_of_mail self.old text.now).after) }
+        ensures err { OnErr result (self.new ≡ self.old) }
+    {
+        let (messages, octets, ids) = self.limits.get();
+        let size = text.octets();
+        if size > octets as u128 {
+            return Ok(Outcome::TooLarge);
+        }
+        let size = size as u64;
+        if self.messages.len() as u64 >= messages || self.octets + size > octets {
+            return Ok(Outcome::Full);
+        }
+        let uid = self.next_uid;
+        if uid > ids {
+            return Ok(Outcome::IdsUsed);
+        }
+        let text = text.copy()?;
+        self.messages.push(Message { uid, text })?;
+        self.octets += size;
+        self.next_uid += 1;
+        Ok(Outcome::Stored(uid))
+    }
+
+    fn take(&mut self, ticket: Ticket) -> Result<Outcome<A>, Memory>
+        ensures outcome { IfOk result (λ outcome. outcome ≡ (spec.effect_of_take self.old ticket self.old.holder).outcome) }
+        ensures after { OnOk result (self.new ≡ (spec.effect_of_take self.old ticket self.old.holder).after) }
+        ensures err { OnErr result (self.new ≡ self.old) }
+    {
+        if self.holder.is_some() {
+            return Ok(Outcome::InUse);
+        }
+        let messages = copies_of(*self.messages.allocator(), &self.messages)?;
+        self.holder = Some(ticket);
+        Ok(Outcome::Taken(Taken::new(messages)))
+    }
+
+    fn commit(&mut self, lock: Ticket, uids: &Uids<A>) -> Outcome<A>
+        ensures outcome { result ≡ (spec.effect_of_commit self.old lock uids.now).outcome }
+        ensures after { self.new ≡ (spec.effect_of_commit self.old lock uids.now).after }
+    {
+        if !is_held_by(&self.holder, lock) {
+            return Outcome::NotHolder;
+        }
+        remove_listed(&mut self.messages, uids);
+        self.octets = octets_of(&self.messages);
+        self.holder = None;
+        Outcome::Done
+    }
+
+    fn free(&mut self, lock: Ticket) -> Outcome<A>
+        ensures outcome { result ≡ (spec.effect_of_free self.old lock).outcome }
+        ensures after { self.new ≡ (spec.effect_of_free self.old lock).after }
+    {
+        if !is_held_by(&self.holder, lock) {
+            return Outcome::NotHolder;
+        }
+        self.holder = None;
+        Outcome::Done
+    }
+}
+
+fn is_held_by(holder: &Option<Ticket>, lock: Ticket) -> bool
+    ensures { result ≡ spec.is_held_by holder.now lock }
+{
+    match holder {
+        None => false,
+        Some(holder) => *holder == lock,
+    }
+}
+
+fn is_listed(uid: u64, uids: &[u64]) -> bool
+    requires { IsStrictlyIncreasing uids.now }
+    ensures { result ≡ list_any (λ listed. listed == uid) uids.now }
+{
+    uids.binary_search(&uid).is_ok()
+}
+
+fn remove_listed<A: Allocator + Copy>(messages: &mut Vec<Message<A>, A>, uids: &Uids<A>)
+    ensures { messages.new.items ≡ spec.without uids.now messages.old.items }
+{
+    let uids = uids.get();
+    messages.retain(|message| !is_listed(message.uid, uids));
+}
+
+fn octets_of<A: Allocator + Copy>(messages: &[Message<A>]) -> u64
+    requires { message_octets messages.now ≤ 2 ^ 40 }
+    ensures { result ≡ message_octets messages.now }
+{
+    let mut octets = 0;
+    for message in messages {
+        octets += message.text.octets() as u64;
+    }
+    octets
+}

@@ -1,0 +1,31 @@
+//! The messages of a maildrop.
+ghost use Rattle.std.specs.Prelude.{◌≡◌, IfOk};
+
+use crate::text::Text;
+use ballot::{Items, Memory};
+use std::alloc::{Allocator, Global};
+
+/// A message in a maildrop, with the unique id that it keeps (RFC 1939 section 7, UIDL).
+#[derive(Drop)]
+pub struct Message<A: Allocator = Global> {
+    pub uid: u64,
+    pub text: Text<A>,
+}
+
+/// The same messages again. One request for memory: the texts share their lines.
+pub(crate) fn copies_of<A: Allocator + Copy>(
+    alloc: A,
+    messages: &[Message<A>],
+) -> Result<Items<Message<A>, A>, Memory>
+    ensures { IfOk result (λ copies. copies ≡ messages.now) }
+{
+    let mut copies = Vec::with_capacity(alloc, messages.len())?;
+    for message in messages {
+        let text = message.text.copy()?;
+        copies.push_reserved(Message {
+            uid: message.uid,
+            text,
+        });
+    }
+    Ok(Items::from_vec(copies))
+}

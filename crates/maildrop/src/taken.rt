@@ -1,0 +1,54 @@
+//! What a session gets with the lock.
+ghost use Rattle.std.specs.Prelude.{◌≡◌, List, IfOk};
+ghost use Rattle.maildrop.specs.Taken.{AreTaken};
+
+use crate::message::{Message, copies_of};
+use ballot::{Items, Memory};
+use std::alloc::{Allocator, Global};
+use std::marker::Model;
+
+/// The messages of a maildrop when its lock was taken. Only an operation of an office makes it, so the unique ids
+/// ascend strictly, there are at most 999,999,999 messages, and together they have at most 2^40 octets.
+#[derive(Drop)]
+pub struct Taken<A: Allocator = Global> {
+    messages: Items<Message<A>, A>,
+}
+
+impl<A: Allocator> Model for Taken<A> {
+    ghost use Rattle.std.specs.Prelude.{List};
+    ghost use Rattle.maildrop.specs.Taken.{AreTaken};
+    ghost use Rattle.maildrop.specs.declared.message.Message.{Message};
+
+    ghost Value = { List (Message A) };
+
+    ghost view = { λ t. t.messages };
+
+    ghost invariant = { λ t. AreTaken t.messages };
+}
+
+impl<A: Allocator + Copy> Taken<A> {
+    pub(crate) fn new(messages: Items<Message<A>, A>) -> Self
+        requires { AreTaken messages }
+        ensures { result ≡ messages }
+    {
+        Taken { messages }
+    }
+
+    /// The same messages again, kept by the same allocator.
+    pub fn copy(&self) -> Result<Self, Memory>
+        ensures { IfOk result (λ taken. taken ≡ self.now) }
+    {
+        let alloc = *self.messages.allocator();
+        Ok(Taken {
+            messages: copies_of(alloc, self.messages.get())?,
+        })
+    }
+
+    /// The messages, in order of their unique ids.
+    pub fn get(&self) -> &[Message<A>]
+        ensures value { result.now ≡ self.now }
+        ensures taken { AreTaken self.now }
+    {
+        self.messages.get()
+    }
+}
