@@ -1,2 +1,4 @@
 pub mod UniqueIds
 pub mod Consistent
+pub mod Isolation
+pub mod Places

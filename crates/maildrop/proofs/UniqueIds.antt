@@ -31,9 +31,9 @@ not_below a b h = grind (arith, nat_tests, h)
 searchable : (uids : List ℕ) (uid : ℕ) → IsStrictlyIncreasing uids → IsNonDecreasingBy (λ y. ordering_index (nat_cmp y uid)) uids
 searchable uids uid ascending =
     let sorted : IsSortedBy (λ a b. is_lt (nat_cmp a b)) uids = λ k d low inside.
-        let first : get_or uids k d ≡ get_or uids k 0 = get_or_default uids k d 0 (omega arith) in
-        let second : get_or uids (k + 1) d ≡ get_or uids (k + 1) 0 = get_or_default uids (k + 1) d 0 inside in
-        rw (first, second) (not_below (get_or uids k 0) (get_or uids (k + 1) 0) (ascending k inside)) in
+    let first : get_or uids k d ≡ get_or uids k 0 = get_or_default uids k d 0 (omega arith) in
+    let second : get_or uids (k + 1) d ≡ get_or uids (k + 1) 0 = get_or_default uids (k + 1) d 0 inside in
+    rw (first, second) (not_below (get_or uids k 0) (get_or uids (k + 1) 0) (ascending k inside)) in
     searchable_from_sorted nat_cmp_total (λ x. x) uids uid sorted
 
 -- a search by halves finds a unique id exactly where it is listed
@@ -42,10 +42,10 @@ is_listed-found uids uid (Ok i) ascending inside found = sym (list_any_at (λ li
 is_listed-found uids uid (Err i) ascending inside found =
     let parts = found (searchable uids uid ascending) in
     let apart : All (λ listed. (listed == uid) ≡ false) uids = λ k d within.
-        elim (cases_lt k i) [
-          inl below ↦ apart_at_less (get_or uids k d) uid (parts.0 k d (omega arith) below)
-        | inr above ↦ apart_at_greater (get_or uids k d) uid (parts.1 k d above within)
-        ] in
+    elim (cases_lt k i) [
+      | inl below ↦ apart_at_less (get_or uids k d) uid (parts.0 k d (omega arith) below)
+      | inr above ↦ apart_at_greater (get_or uids k d) uid (parts.1 k d above within)
+    ] in
     sym (list_any_none (λ listed. listed == uid) uids apart)
 
 -- one more unique id, above all the others
@@ -54,11 +54,11 @@ ascending-push uids uid ascending below k inside =
     let more : length (uids ++ uid ∷ []) ≡ length uids + 1 = length-append uids (uid ∷ []) in
     let here : get_or (uids ++ uid ∷ []) k 0 ≡ get_or uids k 0 = get_or_append_left uids (uid ∷ []) 0 k (omega (arith, more, inside)) in
     elim (cases_lt (k + 1) (length uids)) [
-      inl within ↦
-        let next : get_or (uids ++ uid ∷ []) (k + 1) 0 ≡ get_or uids (k + 1) 0 = get_or_append_left uids (uid ∷ []) 0 (k + 1) within in
-        rw (here, next) (ascending k within)
-    | inr last ↦
-        let e : k + 1 ≡ length uids = omega (arith, more, inside, last) in
-        let next : get_or (uids ++ uid ∷ []) (k + 1) 0 ≡ uid = rw e (get_or-append_seam uids uid [] 0) in
-        rw (here, next) (below k 0 (omega (arith, e)))
+      | inl within ↦
+          let next : get_or (uids ++ uid ∷ []) (k + 1) 0 ≡ get_or uids (k + 1) 0 = get_or_append_left uids (uid ∷ []) 0 (k + 1) within in
+          rw (here, next) (ascending k within)
+      | inr last ↦
+          let e : k + 1 ≡ length uids = omega (arith, more, inside, last) in
+          let next : get_or (uids ++ uid ∷ []) (k + 1) 0 ≡ uid = rw e (get_or-append_seam uids uid [] 0) in
+          rw (here, next) (below k 0 (omega (arith, e)))
     ]

@@ -5,3 +5,4 @@ pub mod Limits
 pub mod Taken
 pub mod Maildrop
 pub mod Office
+pub mod Examples

@@ -1,0 +1,77 @@
+-- Worked examples of the definitions.
+use Rattle.std.specs.Prelude.{◌≡◌, ℕ, List, [], ◌∷◌, replicate, refl, codes, true, false, Some}
+use Rattle.maildrop.specs.Name.{is_name}
+use Rattle.maildrop.specs.Text.{octets_of}
+use Rattle.maildrop.specs.Limits.{Limits}
+use Rattle.maildrop.specs.Ticket.{Ticket}
+use Rattle.maildrop.specs.Maildrop.{empty_maildrop}
+use Rattle.maildrop.specs.Office.{new_user, outcomes_at, outcomes_in}
+use Rattle.maildrop.specs.declared.command.Command.{Command}
+use Rattle.maildrop.specs.declared.op.Op.{Op}
+use Rattle.maildrop.specs.declared.op.Op.TheVariants.{Mail, Take, Commit, Free, Break}
+use Rattle.maildrop.specs.declared.outcome.Outcome.TheVariants.{NoSuchUser, TooLarge, Full, IdsUsed, Stored, InUse, Taken, Done, NotHolder}
+
+-- names
+visible : is_name (codes "alice") ≡ true
+visible = refl
+
+empty : is_name [] ≡ false
+empty = refl
+
+spaced : is_name (codes "a b") ≡ false
+spaced = refl
+
+longest : is_name (replicate 40 97) ≡ true
+longest = refl
+
+too_long : is_name (replicate 41 97) ≡ false
+too_long = refl
+
+-- a text of 30 octets, and one of 61
+abbrev small : List (List ℕ)
+small = codes "Subject: x" ∷ [] ∷ codes "hi" ∷ codes "." ∷ codes "From me" ∷ []
+
+abbrev large : List (List ℕ)
+large = replicate 59 97 ∷ []
+
+small-octets : octets_of small ≡ 30
+small-octets = refl
+
+large-octets : octets_of large ≡ 61
+large-octets = refl
+
+abbrev ticket : ℕ → Ticket
+ticket seq = record { node = 1; seq = seq }
+
+abbrev by : {A : Type 0} → List ℕ → ℕ → Op A → Command A
+by user seq op = record { user = user; ticket = ticket seq; op = op }
+
+abbrev alice : List ℕ
+alice = codes "alice"
+
+abbrev bob : List ℕ
+bob = codes "bob"
+
+-- one maildrop for at most 2 messages, 60 octets and the unique ids 1 to 3
+abbrev narrow : Limits
+narrow = record { messages = 2; octets = 60; ids = 3 }
+
+one_maildrop : {A : Type 0} →
+    outcomes_at {A = A} (Some (empty_maildrop narrow)) (
+    by alice 1 (Mail small) ∷ by alice 2 (Mail small) ∷ by alice 3 (Mail small) ∷ by alice 4 (Mail large)
+    ∷ by alice 5 Take ∷ by alice 6 Take
+    ∷ by alice 7 (Commit (ticket 5) (1 ∷ 2 ∷ [])) ∷ by alice 8 (Commit (ticket 5) (1 ∷ 2 ∷ []))
+    ∷ by alice 9 (Mail small) ∷ by alice 10 (Mail small) ∷ by alice 11 (Free (ticket 5)) ∷ by alice 12 Break ∷ [])
+    ≡ Stored 1 ∷ Stored 2 ∷ Full ∷ TooLarge
+    ∷ Taken (record { uid = 1; text = small } ∷ record { uid = 2; text = small } ∷ []) ∷ InUse
+    ∷ Done ∷ NotHolder ∷ Stored 3 ∷ IdsUsed ∷ NotHolder ∷ Done ∷ []
+one_maildrop = refl
+
+-- two users, each with room for one message
+two_users : {A : Type 0} →
+    outcomes_in {A = A} (new_user (record { messages = 1; octets = 100; ids = 9 }) alice ∷ new_user (record { messages = 1; octets = 100; ids = 9 }) bob ∷ []) (
+    by alice 1 (Mail small) ∷ by bob 1 (Mail small) ∷ by alice 2 (Mail small)
+    ∷ by bob 2 Take ∷ by alice 3 Break ∷ by bob 3 Take ∷ by (codes "zoe") 1 Take ∷ [])
+    ≡ Stored 1 ∷ Stored 1 ∷ Full
+    ∷ Taken (record { uid = 1; text = small } ∷ []) ∷ Done ∷ InUse ∷ NoSuchUser ∷ []
+two_users = refl

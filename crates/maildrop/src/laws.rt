@@ -1,0 +1,15 @@
+//! What holds over whole lists of commands.
+ghost use Rattle.std.specs.Prelude.{◌≡◌, ℕ, List};
+ghost use Rattle.maildrop.specs.declared.user.User.{User};
+ghost use Rattle.maildrop.specs.declared.command.Command.{Command};
+ghost use Rattle.maildrop.specs.Office as spec;
+
+use std::alloc::Allocator;
+
+/// Whatever commands of other users come between, a user's commands get the outcomes that the user's maildrop alone
+/// would give to them.
+pub fn maildrops_are_isolated<A: Allocator>()
+    ensures { (name : List ℕ) (users : List (User A)) (commands : List (Command A)) →
+        spec.outcomes_for name commands (spec.outcomes_in users commands)
+        ≡ spec.outcomes_at (spec.maildrop_of name users) (spec.commands_of name commands) }
+{}
