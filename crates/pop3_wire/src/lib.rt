@@ -1,0 +1,17 @@
+//! What a POP3 server and its clients send one another (RFC 1939): lines and commands of the client, replies and
+//! texts of the server.
+#![tactic(auto)]
+
+mod line;
+mod line_bytes;
+mod listed;
+mod parsing;
+mod reply;
+mod verb;
+
+pub use line::Line;
+pub use line_bytes::LineBytes;
+pub use listed::{Identified, Listed};
+pub use parsing::parse;
+pub use reply::Reply;
+pub use verb::{Keyword, LineFault, Verb};
