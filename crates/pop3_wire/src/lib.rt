@@ -7,11 +7,15 @@ mod line_bytes;
 mod listed;
 mod parsing;
 mod reply;
+mod reply_text;
+mod stuffing;
 mod verb;
+mod writing;
 
 pub use line::Line;
 pub use line_bytes::LineBytes;
 pub use listed::{Identified, Listed};
 pub use parsing::parse;
 pub use reply::Reply;
+pub use stuffing::stuffed;
 pub use verb::{Keyword, LineFault, Verb};

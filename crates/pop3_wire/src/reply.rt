@@ -1,7 +1,12 @@
 //! The replies of the server.
-ghost use Rattle.std.specs.Prelude.{◌≡◌};
+ghost use Rattle.std.specs.Prelude.{◌≡◌, IfOk};
 
 use crate::listed::{Identified, Listed};
+use crate::reply_text::{
+    drop_listing, greeting, maildrop_has, message_deleted, message_text, message_top, scan_listing,
+    scan_listings, unique_id_listing, unique_id_listings,
+};
+use ballot::Memory;
 use maildrop::Text;
 use std::alloc::{Allocator, Global};
 
@@ -53,4 +58,44 @@ pub enum Reply<'a, A: Allocator = Global> {
     SigningOff,
     /// To QUIT, where the marked messages could not be removed.
     NotRemoved,
+}
+
+impl<A: Allocator + Copy> Reply<'_, A> {
+    ghost use Rattle.pop3_wire.specs.Reply.{reply_text};
+
+    /// The bytes of the reply, CR and LF included.
+    pub fn text(&self, alloc: A) -> Result<Vec<u8, A>, Memory>
+        ensures { IfOk result (λ text. text.items ≡ reply_text self.now) }
+    {
+        match self {
+            Reply::Greeting { nonce, host } => greeting(alloc, nonce, host),
+            Reply::SendPass => fixed(alloc, b"+OK send PASS\r\n"),
+            Reply::LoggedIn { messages, octets } => maildrop_has(alloc, *messages, *octets),
+            Reply::InvalidLogin => fixed(alloc, b"-ERR invalid login\r\n"),
+            Reply::Locked => fixed(alloc, b"-ERR maildrop already locked\r\n"),
+            Reply::LineTooLong => fixed(alloc, b"-ERR line too long\r\n"),
+            Reply::UnknownCommand => fixed(alloc, b"-ERR unknown command\r\n"),
+            Reply::WrongState => fixed(alloc, b"-ERR not in this state\r\n"),
+            Reply::BadArguments => fixed(alloc, b"-ERR bad arguments\r\n"),
+            Reply::NoSuchMessage => fixed(alloc, b"-ERR no such message\r\n"),
+            Reply::Stat { messages, octets } => drop_listing(alloc, *messages, *octets),
+            Reply::Listing { octets, messages } => scan_listings(alloc, *octets, messages),
+            Reply::List(message) => scan_listing(alloc, message),
+            Reply::UniqueIds(messages) => unique_id_listings(alloc, messages),
+            Reply::UniqueId(message) => unique_id_listing(alloc, message),
+            Reply::Message { octets, text } => message_text(alloc, *octets, text.get()),
+            Reply::Top { text, lines } => message_top(alloc, text.get(), *lines),
+            Reply::Deleted { number } => message_deleted(alloc, *number),
+            Reply::Noop => fixed(alloc, b"+OK\r\n"),
+            Reply::Reset { messages, octets } => maildrop_has(alloc, *messages, *octets),
+            Reply::SigningOff => fixed(alloc, b"+OK signing off\r\n"),
+            Reply::NotRemoved => fixed(alloc, b"-ERR some deleted messages not removed\r\n"),
+        }
+    }
+}
+
+fn fixed<A: Allocator>(alloc: A, words: &[u8]) -> Result<Vec<u8, A>, Memory>
+    ensures { IfOk result (λ text. text.items ≡ words.now) }
+{
+    Ok(Vec::from_slice(alloc, words)?)
 }
