@@ -2,3 +2,5 @@ pub mod Cutting
 pub mod Ends
 pub mod Digits
 pub mod Tops
+pub mod Streams
+pub mod Feeding

@@ -4,6 +4,7 @@
 
 mod line;
 mod line_bytes;
+mod line_reader;
 mod listed;
 mod parsing;
 mod reply;
@@ -14,6 +15,7 @@ mod writing;
 
 pub use line::Line;
 pub use line_bytes::LineBytes;
+pub use line_reader::LineReader;
 pub use listed::{Identified, Listed};
 pub use parsing::parse;
 pub use reply::Reply;
