@@ -1,5 +1,5 @@
 -- What a reader keeps, and the lines of the stream.
-use Rattle.std.proofs.Common.{◌≡◌, ◌<◌, ◌≤◌, ◌+◌, ◌-◌, ◌||◌, ℕ, zero, suc, add-one, Bool, true, false, if◌then◌else◌, ◌==◌, List, [], ◌∷◌, ◌++◌, length, take, drop, get_or, map, min, ap, refl, sym, arith, ◌∙◌, ◌⊎◌, inl, inr, append_assoc, append-nil, length-append, length-take}
+use Rattle.std.proofs.Common.{◌≡◌, ◌<◌, ◌≤◌, ◌+◌, ◌-◌, ◌||◌, ℕ, zero, suc, add-one, Bool, true, false, if◌then◌else◌, ◌==◌, List, [], ◌∷◌, ◌++◌, length, take, drop, get_or, map, min, ap, refl, sym, arith, ◌∙◌, ◌⊎◌, inl, inr, append_assoc, append-nil, length-append, None, fold, length-take}
 use Rattle.std.proofs.lemmas.List.{take_all, take_min, length-take-le, get_or-take, drop_more, take-append-drop}
 use Rattle.std.proofs.lemmas.List.Folds.{list_any-append}
 use Rattle.std.proofs.lemmas.Bool.{cases_Bool, or_parts, or_from}
@@ -8,8 +8,10 @@ use Rattle.std.proofs.Math.Bool.{or-true}
 use Rattle.std.specs.List.{slice_split, onto_first, list_any, before_first, position_or_len}
 use Rattle.std.specs.Io.BufRead.{take_through}
 use Rattle.memchr.specs.Find.{NoneBefore, Nowhere, Passes, is_byte}
+use Rattle.std.specs.Option.{option_to_list}
+use Rattle.pop3_wire.specs.declared.line.Line.{Line}
 use Rattle.pop3_wire.specs.Lines.{is_lf, line_of, lines_of}
-use Rattle.pop3_wire.specs.Reader.{Kept, Open, Finished, kept_of, kept_after, taken, fed, lines_after}
+use Rattle.pop3_wire.specs.Reader.{Kept, Open, Finished, Call, Feed, NextLine, Run, kept_of, kept_after, taken, fed, waiting, taken_out, lines_after, after_call, run_of, CutsLines}
 use Rattle.pop3_wire.proofs.Cutting.{split_parts}
 use Rattle.pop3_wire.proofs.Streams.{split_none, split_ended, lines_of-none, lines_of-ended, first_lf, is_ten, take_again, line_of-take}
 
@@ -189,7 +191,7 @@ taken-at bytes piece k first here =
 pub fed-at : (bytes piece : List ℕ) (k : ℕ) → NoneBefore (Passes (is_byte 10) piece) 0 (length piece) k → Passes (is_byte 10) piece k → Finished (line_of (take 512 (bytes ++ take k piece))) ≡ fed (Open bytes) piece
 fed-at bytes piece k first here =
     let cut = lf_at piece k first here in
-    let short : line_of (take 512 (bytes ++ take k piece)) ≡ line_of (bytes ++ take k piece) = rw (append-nil, append-nil) at (line_of-take (bytes ++ take k piece) []) in
+    let short : line_of (take 512 (bytes ++ take k piece)) ≡ line_of (bytes ++ take k piece) = rw (append-nil (take 512 (bytes ++ take k piece)), append-nil (bytes ++ take k piece)) at (line_of-take (bytes ++ take k piece) []) in
     ap (λ line. Finished line) short ∙ fed-ended bytes (take k piece) (drop (k + 1) piece) cut.0 ∙ ap (λ xs. fed (Open bytes) xs) (sym cut.1)
 
 -- what there is room for
@@ -197,3 +199,45 @@ pub take_room : (n : ℕ) (xs ys : List ℕ) (room k : ℕ) → room + length xs
 take_room n xs ys room k full fits =
     let whole : n ≡ length xs + room = omega arith in
     rw (whole, fits, take-append-add xs ys room, take_min room ys) refl
+
+IsKept-fed : (kept : Kept) (piece : List ℕ) → IsKept kept → IsKept (fed kept piece)
+IsKept-fed (Finished line) piece is = tt
+IsKept-fed (Open bytes) piece is = elim (first_lf piece) [
+  | inl others ↦ rw (← fed-none bytes piece others) (first_none bytes piece is others)
+  | inr found ↦ rw (found.3, ← fed-ended bytes found.0 found.1 found.2) tt
+]
+
+-- an open line is no line
+pub lines_after-none : (kept : Kept) → IsKept kept → waiting kept ≡ None → lines_after kept [] ≡ []
+lines_after-none (Finished line) is none = cc
+lines_after-none (Open bytes) is none = lines_of-none (bytes ++ []) (both_none bytes [] is refl)
+
+-- the lines taken out, and those that are to come, are the lines of the stream
+IsRun : Run → Type 0
+IsRun run = IsKept run.kept × ((more : List ℕ) → run.lines ++ lines_after run.kept more ≡ lines_of (run.bytes ++ more))
+
+IsRun-taken_out : (kept : Kept) (bytes : List ℕ) (lines : List Line) → IsKept kept → ((more : List ℕ) → lines ++ lines_after kept more ≡ lines_of (bytes ++ more)) → IsKept (taken_out kept) × ((more : List ℕ) → lines ++ option_to_list (waiting kept) ++ lines_after (taken_out kept) more ≡ lines_of (bytes ++ more))
+IsRun-taken_out (Open held) bytes lines is same = (is, λ more. rw (append-nil lines) (same more))
+IsRun-taken_out (Finished line) bytes lines is same = (refl, λ more. append_assoc lines (line ∷ []) (lines_of more) ∙ same more)
+
+IsRun-after_call : (run : Run) (call : Call) → IsRun run → IsRun (after_call run call)
+unfolding IsRun
+IsRun-after_call run (Feed piece) is = (
+  IsKept-fed run.kept piece is.0,
+  λ more. ap (λ ls. run.lines ++ ls) (sym (lines_after-fed run.kept piece more is.0)) ∙ is.1 (take (taken run.kept piece) piece ++ more) ∙ ap lines_of (sym (append_assoc run.bytes (take (taken run.kept piece) piece) more)),
+)
+IsRun-after_call run NextLine is = IsRun-taken_out run.kept run.bytes run.lines is.0 is.1
+
+IsRun-fold : (calls : List Call) (run : Run) → IsRun run → IsRun (fold after_call run calls)
+IsRun-fold [] run is = is
+IsRun-fold (call ∷ calls) run is = IsRun-fold calls (after_call run call) (IsRun-after_call run call is)
+
+IsRun-none : (run : Run) → IsRun run → waiting run.kept ≡ None → run.lines ≡ lines_of run.bytes
+unfolding IsRun
+IsRun-none run is none =
+    sym (append-nil run.lines) ∙ ap (λ ls. run.lines ++ ls) (sym (lines_after-none run.kept is.0 none)) ∙ is.1 [] ∙ ap lines_of (append-nil run.bytes)
+
+-- any calls of a reader cut the stream into its lines
+pub runs_cut_lines : (calls : List Call) → CutsLines calls
+unfolding IsRun
+runs_cut_lines calls none = IsRun-none (run_of calls) (IsRun-fold calls (run_of []) (refl, λ more. refl)) none

@@ -13,18 +13,9 @@ all_but_last [] = []
 all_but_last (part ∷ []) = []
 all_but_last (part ∷ next ∷ parts) = part ∷ all_but_last (next ∷ parts)
 
-abbrev pub last_of : List (List ℕ) → List ℕ
-last_of [] = []
-last_of (part ∷ []) = part
-last_of (part ∷ next ∷ parts) = last_of (next ∷ parts)
-
--- what stands before each LF, from the one before it on
+-- what stands before each LF, from the one before it on: what stands behind the last has not ended, and is no line
 abbrev pub ended_lines : List ℕ → List (List ℕ)
 ended_lines stream = all_but_last (slice_split is_lf stream)
-
--- what stands behind the last LF: it has not ended, and is no line
-abbrev pub open_line : List ℕ → List ℕ
-open_line stream = last_of (slice_split is_lf stream)
 
 -- without one CR at the end
 abbrev pub without_cr : List ℕ → List ℕ

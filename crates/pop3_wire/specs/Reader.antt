@@ -1,5 +1,6 @@
 -- What is kept of a stream that comes in pieces.
-use Rattle.std.specs.Prelude.{ℕ, List, [], ◌∷◌, ◌++◌, length, take, Option, None, Some, if◌then◌else◌}
+use Rattle.std.specs.Prelude.{◌≡◌, ℕ, List, [], ◌∷◌, ◌++◌, length, take, fold, Option, None, Some, if◌then◌else◌}
+use Rattle.std.specs.Option.{option_to_list}
 use Rattle.std.specs.Io.BufRead.{take_through}
 use Rattle.std.specs.List.{list_any, before_first, slice_split}
 use Rattle.pop3_wire.specs.declared.line.Line.{Line}
@@ -48,3 +49,26 @@ taken_out (Finished line) = Open []
 abbrev pub lines_after : Kept → List ℕ → List Line
 lines_after (Open bytes) more = lines_of (bytes ++ more)
 lines_after (Finished line) more = line ∷ lines_of more
+
+-- the calls of a reader
+pub data Call : Type 0 where
+  Feed : List ℕ → Call
+  NextLine : Call
+
+-- what a reader keeps after some calls, the bytes that they took and the lines that they took out
+pub record Run : Type 0 where
+  pub kept : Kept
+  pub bytes : List ℕ
+  pub lines : List Line
+
+abbrev pub after_call : Run → Call → Run
+after_call run (Feed piece) = record run { kept = fed run.kept piece; bytes = run.bytes ++ take (taken run.kept piece) piece }
+after_call run NextLine = record run { kept = taken_out run.kept; lines = run.lines ++ option_to_list (waiting run.kept) }
+
+-- any calls of a new reader, in any order
+abbrev pub run_of : List Call → Run
+run_of calls = fold after_call (record { kept = Open []; bytes = []; lines = [] }) calls
+
+-- once no line waits, the lines taken out are those of the bytes taken, however these were cut
+abbrev pub CutsLines : List Call → Type 0
+CutsLines calls = waiting (run_of calls).kept ≡ None → (run_of calls).lines ≡ lines_of (run_of calls).bytes

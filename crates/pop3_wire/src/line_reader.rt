@@ -1,5 +1,5 @@
 //! Lines out of a stream that comes in pieces.
-ghost use Rattle.std.specs.Prelude.{◌≡◌, ℕ, List, [], ◌∷◌, ◌++◌, take, MatchOption};
+ghost use Rattle.std.specs.Prelude.{◌≡◌, ℕ, List, [], ◌∷◌, ◌++◌, take, MatchOption, IfNone};
 ghost use Rattle.pop3_wire.specs.Reader as spec;
 ghost use Rattle.pop3_wire.specs.Reader.{Open};
 
@@ -78,6 +78,9 @@ impl LineReader {
         ensures kept { self.new ≡ spec.taken_out self.old }
         ensures lines { (more : List ℕ) → MatchOption result (spec.lines_after self.new more ≡ spec.lines_after self.old more) (λ line.
             spec.lines_after self.old more ≡ line ∷ spec.lines_after self.new more) }
+
+        // What has not ended is no line.
+        ensures none { IfNone result (spec.lines_after self.new [] ≡ []) }
     {
         if !self.is_finished {
             return None;
@@ -88,3 +91,9 @@ impl LineReader {
         Some(line)
     }
 }
+
+/// However a stream is cut into pieces, and in whatever order a reader is fed and asked, the lines that it gives are
+/// the lines of the stream.
+pub fn reader_cuts_lines()
+    ensures { (calls : List spec.Call) → spec.CutsLines calls }
+{}
