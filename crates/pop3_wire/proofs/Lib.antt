@@ -4,3 +4,4 @@ pub mod Digits
 pub mod Tops
 pub mod Streams
 pub mod Feeding
+pub mod FirstLines

@@ -1,5 +1,6 @@
 -- The replies of the server: each occasion's bytes, and the table over them.
-use Rattle.std.specs.Prelude.{ℕ, List, ◌++◌, length, codes, decimal}
+use Rattle.std.specs.Prelude.{ℕ, ◌≤◌, List, ◌++◌, length, codes, decimal}
+use Rattle.std.specs.Io.BufRead.{take_through}
 use Rattle.std.specs.List.{flat_map}
 use Rattle.pop3_wire.specs.Stuffing.{wire_form, top_lines}
 use Rattle.pop3_wire.specs.declared.listed.Listed.{Listed}
@@ -38,12 +39,12 @@ bad_arguments = codes "-ERR bad arguments\r\n"
 abbrev pub no_such_message : List ℕ
 no_such_message = codes "-ERR no such message\r\n"
 
--- the drop listing of STAT
-abbrev pub drop_listing : ℕ → ℕ → List ℕ
-drop_listing messages octets = codes "+OK " ++ decimal messages ++ codes " " ++ decimal octets ++ codes "\r\n"
-
 abbrev pub number_line : ℕ → ℕ → List ℕ
 number_line first second = decimal first ++ codes " " ++ decimal second ++ codes "\r\n"
+
+-- the drop listing of STAT
+abbrev pub drop_listing : ℕ → ℕ → List ℕ
+drop_listing messages octets = codes "+OK " ++ number_line messages octets
 
 abbrev pub scan_line : Listed → List ℕ
 scan_line message = number_line message.number message.octets
@@ -87,7 +88,16 @@ signing_off = codes "+OK signing off\r\n"
 abbrev pub not_removed : List ℕ
 not_removed = codes "-ERR some deleted messages not removed\r\n"
 
+-- the bytes up to and including the first LF are at most 512 (RFC 1939 section 3)
+abbrev pub HasShortFirstLine : List ℕ → Type 0
+HasShortFirstLine bytes = length (take_through 10 bytes) ≤ 512
+
 module _ {A : Type 0} where
+  -- the parts of a greeting's timestamp have the lengths that they may have
+  abbrev pub HasShortParts : Reply A → Type 0
+  HasShortParts (reply.Greeting nonce host) = (length nonce.now ≤ 60) × (length host.now ≤ 100)
+  HasShortParts other = Unit {0}
+
   abbrev pub reply_text : Reply A → List ℕ
   reply_text (reply.Greeting nonce host) = greeting nonce.now host.now
   reply_text reply.SendPass = send_pass

@@ -1,10 +1,10 @@
 //! The replies of the server.
-ghost use Rattle.std.specs.Prelude.{◌≡◌, IfOk};
+ghost use Rattle.std.specs.Prelude.{◌≡◌, ◌≤◌, length, IfOk};
 
 use crate::listed::{Identified, Listed};
 use crate::reply_text::{
-    drop_listing, greeting, maildrop_has, message_deleted, message_text, message_top, scan_listing,
-    scan_listings, unique_id_listing, unique_id_listings,
+    fixed, greeting, maildrop_has, message_deleted, message_text, message_top, scan_listings,
+    two_numbers, unique_id_listings,
 };
 use ballot::Memory;
 use maildrop::Text;
@@ -61,11 +61,12 @@ pub enum Reply<'a, A: Allocator = Global> {
 }
 
 impl<A: Allocator + Copy> Reply<'_, A> {
-    ghost use Rattle.pop3_wire.specs.Reply.{reply_text};
+    ghost use Rattle.pop3_wire.specs.Reply.{reply_text, HasShortParts, HasShortFirstLine};
 
     /// The bytes of the reply, CR and LF included.
     pub fn text(&self, alloc: A) -> Result<Vec<u8, A>, Memory>
-        ensures { IfOk result (λ text. text.items ≡ reply_text self.now) }
+        ensures value { IfOk result (λ text. text.items ≡ reply_text self.now) }
+        ensures short { HasShortParts self.now → IfOk result (λ text. HasShortFirstLine text.items) }
     {
         match self {
             Reply::Greeting { nonce, host } => greeting(alloc, nonce, host),
@@ -78,11 +79,11 @@ impl<A: Allocator + Copy> Reply<'_, A> {
             Reply::WrongState => fixed(alloc, b"-ERR not in this state\r\n"),
             Reply::BadArguments => fixed(alloc, b"-ERR bad arguments\r\n"),
             Reply::NoSuchMessage => fixed(alloc, b"-ERR no such message\r\n"),
-            Reply::Stat { messages, octets } => drop_listing(alloc, *messages, *octets),
+            Reply::Stat { messages, octets } => two_numbers(alloc, *messages, *octets),
             Reply::Listing { octets, messages } => scan_listings(alloc, *octets, messages),
-            Reply::List(message) => scan_listing(alloc, message),
+            Reply::List(message) => two_numbers(alloc, message.number, message.octets),
             Reply::UniqueIds(messages) => unique_id_listings(alloc, messages),
-            Reply::UniqueId(message) => unique_id_listing(alloc, message),
+            Reply::UniqueId(message) => two_numbers(alloc, message.number, message.uid),
             Reply::Message { octets, text } => message_text(alloc, *octets, text.get()),
             Reply::Top { text, lines } => message_top(alloc, text.get(), *lines),
             Reply::Deleted { number } => message_deleted(alloc, *number),
@@ -92,10 +93,4 @@ impl<A: Allocator + Copy> Reply<'_, A> {
             Reply::NotRemoved => fixed(alloc, b"-ERR some deleted messages not removed\r\n"),
         }
     }
-}
-
-fn fixed<A: Allocator>(alloc: A, words: &[u8]) -> Result<Vec<u8, A>, Memory>
-    ensures { IfOk result (λ text. text.items ≡ words.now) }
-{
-    Ok(Vec::from_slice(alloc, words)?)
 }

@@ -1,5 +1,5 @@
 //! The bytes of replies, one function for each occasion that tells something.
-ghost use Rattle.std.specs.Prelude.{◌≡◌, ◌++◌, length, IfOk, OnOk};
+ghost use Rattle.std.specs.Prelude.{◌≡◌, ◌≤◌, ◌++◌, length, codes, IfOk, OnOk};
 ghost use Rattle.std.specs.List.{flat_map};
 ghost use Rattle.pop3_wire.specs.Reply as spec;
 
@@ -15,12 +15,22 @@ const FIRST_LINE: u128 = 80;
 /// At least as many octets as the line of a message has in a listing, for the numbers that a maildrop can have.
 const LISTED_LINE: u128 = 32;
 
+/// A reply that tells nothing.
+pub(crate) fn fixed<A: Allocator>(alloc: A, words: &[u8]) -> Result<Vec<u8, A>, Memory>
+    requires { length words.now ≤ 512 }
+    ensures value { IfOk result (λ text. text.items ≡ words.now) }
+    ensures short { IfOk result (λ text. spec.HasShortFirstLine text.items) }
+{
+    Ok(Vec::from_slice(alloc, words)?)
+}
+
 pub(crate) fn greeting<A: Allocator>(
     alloc: A,
     nonce: &[u8],
     host: &[u8],
 ) -> Result<Vec<u8, A>, Memory>
-    ensures { IfOk result (λ text. text.items ≡ spec.greeting nonce.now host.now) }
+    ensures value { IfOk result (λ text. text.items ≡ spec.greeting nonce.now host.now) }
+    ensures short { length nonce.now ≤ 60 → length host.now ≤ 100 → IfOk result (λ text. spec.HasShortFirstLine text.items) }
 {
     let mut text = with_room(alloc, 32 + nonce.len() as u128 + host.len() as u128)?;
     put(&mut text, b"+OK POP3 server ready <")?;
@@ -36,7 +46,8 @@ pub(crate) fn maildrop_has<A: Allocator>(
     messages: u64,
     octets: u64,
 ) -> Result<Vec<u8, A>, Memory>
-    ensures { IfOk result (λ text. text.items ≡ spec.maildrop_has messages octets) }
+    ensures value { IfOk result (λ text. text.items ≡ spec.maildrop_has messages octets) }
+    ensures short { IfOk result (λ text. spec.HasShortFirstLine text.items) }
 {
     let mut text = with_room(alloc, FIRST_LINE)?;
     put(&mut text, b"+OK maildrop has ")?;
@@ -44,22 +55,6 @@ pub(crate) fn maildrop_has<A: Allocator>(
     put(&mut text, b" messages (")?;
     put_number(&mut text, octets)?;
     put(&mut text, b" octets)\r\n")?;
-    Ok(text)
-}
-
-pub(crate) fn drop_listing<A: Allocator>(
-    alloc: A,
-    messages: u64,
-    octets: u64,
-) -> Result<Vec<u8, A>, Memory>
-    ensures { IfOk result (λ text. text.items ≡ spec.drop_listing messages octets) }
-{
-    let mut text = with_room(alloc, FIRST_LINE)?;
-    put(&mut text, b"+OK ")?;
-    put_number(&mut text, messages)?;
-    put(&mut text, b" ")?;
-    put_number(&mut text, octets)?;
-    put(&mut text, b"\r\n")?;
     Ok(text)
 }
 
@@ -71,6 +66,21 @@ fn put_numbers<A: Allocator>(text: &mut Vec<u8, A>, first: u64, second: u64) -> 
     put(text, b" ")?;
     put_number(text, second)?;
     put(text, b"\r\n")
+}
+
+/// A reply that tells two numbers.
+pub(crate) fn two_numbers<A: Allocator>(
+    alloc: A,
+    first: u64,
+    second: u64,
+) -> Result<Vec<u8, A>, Memory>
+    ensures value { IfOk result (λ text. text.items ≡ codes "+OK " ++ spec.number_line first second) }
+    ensures short { IfOk result (λ text. spec.HasShortFirstLine text.items) }
+{
+    let mut text = with_room(alloc, FIRST_LINE)?;
+    put(&mut text, b"+OK ")?;
+    put_numbers(&mut text, first, second)?;
+    Ok(text)
 }
 
 fn put_scans<A: Allocator>(text: &mut Vec<u8, A>, messages: &[Listed]) -> Result<(), Memory>
@@ -99,7 +109,8 @@ pub(crate) fn scan_listings<A: Allocator>(
     octets: u64,
     messages: &[Listed],
 ) -> Result<Vec<u8, A>, Memory>
-    ensures { IfOk result (λ text. text.items ≡ spec.scan_listings octets messages.now) }
+    ensures value { IfOk result (λ text. text.items ≡ spec.scan_listings octets messages.now) }
+    ensures short { IfOk result (λ text. spec.HasShortFirstLine text.items) }
 {
     let mut text = with_room(alloc, FIRST_LINE + LISTED_LINE * messages.len() as u128)?;
     put(&mut text, b"+OK ")?;
@@ -112,20 +123,12 @@ pub(crate) fn scan_listings<A: Allocator>(
     Ok(text)
 }
 
-pub(crate) fn scan_listing<A: Allocator>(alloc: A, message: &Listed) -> Result<Vec<u8, A>, Memory>
-    ensures { IfOk result (λ text. text.items ≡ spec.scan_listing message.now) }
-{
-    let mut text = with_room(alloc, FIRST_LINE)?;
-    put(&mut text, b"+OK ")?;
-    put_numbers(&mut text, message.number, message.octets)?;
-    Ok(text)
-}
-
 pub(crate) fn unique_id_listings<A: Allocator>(
     alloc: A,
     messages: &[Identified],
 ) -> Result<Vec<u8, A>, Memory>
-    ensures { IfOk result (λ text. text.items ≡ spec.unique_id_listings messages.now) }
+    ensures value { IfOk result (λ text. text.items ≡ spec.unique_id_listings messages.now) }
+    ensures short { IfOk result (λ text. spec.HasShortFirstLine text.items) }
 {
     let mut text = with_room(alloc, FIRST_LINE + LISTED_LINE * messages.len() as u128)?;
     put(&mut text, b"+OK\r\n")?;
@@ -134,24 +137,13 @@ pub(crate) fn unique_id_listings<A: Allocator>(
     Ok(text)
 }
 
-pub(crate) fn unique_id_listing<A: Allocator>(
-    alloc: A,
-    message: &Identified,
-) -> Result<Vec<u8, A>, Memory>
-    ensures { IfOk result (λ text. text.items ≡ spec.unique_id_listing message.now) }
-{
-    let mut text = with_room(alloc, FIRST_LINE)?;
-    put(&mut text, b"+OK ")?;
-    put_numbers(&mut text, message.number, message.uid)?;
-    Ok(text)
-}
-
 pub(crate) fn message_text<A: Allocator>(
     alloc: A,
     octets: u64,
     text: &[Items<u8, A>],
 ) -> Result<Vec<u8, A>, Memory>
-    ensures { IfOk result (λ reply. reply.items ≡ spec.message_text octets text.now) }
+    ensures value { IfOk result (λ reply. reply.items ≡ spec.message_text octets text.now) }
+    ensures short { IfOk result (λ reply. spec.HasShortFirstLine reply.items) }
 {
     let mut reply = with_room(alloc, wire_octets(text).saturating_add(FIRST_LINE))?;
     put(&mut reply, b"+OK ")?;
@@ -166,7 +158,8 @@ pub(crate) fn message_top<A: Allocator>(
     text: &[Items<u8, A>],
     lines: u32,
 ) -> Result<Vec<u8, A>, Memory>
-    ensures { IfOk result (λ reply. reply.items ≡ spec.message_top text.now lines) }
+    ensures value { IfOk result (λ reply. reply.items ≡ spec.message_top text.now lines) }
+    ensures short { IfOk result (λ reply. spec.HasShortFirstLine reply.items) }
 {
     let top = top_of(text, lines);
     let mut reply = with_room(alloc, wire_octets(top).saturating_add(FIRST_LINE))?;
@@ -176,7 +169,8 @@ pub(crate) fn message_top<A: Allocator>(
 }
 
 pub(crate) fn message_deleted<A: Allocator>(alloc: A, number: u64) -> Result<Vec<u8, A>, Memory>
-    ensures { IfOk result (λ text. text.items ≡ spec.message_deleted number) }
+    ensures value { IfOk result (λ text. text.items ≡ spec.message_deleted number) }
+    ensures short { IfOk result (λ text. spec.HasShortFirstLine text.items) }
 {
     let mut text = with_room(alloc, FIRST_LINE)?;
     put(&mut text, b"+OK message ")?;
