@@ -1,0 +1,5 @@
+pub mod Lines
+pub mod Reader
+pub mod Commands
+pub mod Stuffing
+pub mod Reply

@@ -1,0 +1,23 @@
+//! What a POP3 server and its clients send one another (RFC 1939): lines and commands of the client, replies and
+//! texts of the server.
+#![tactic(auto)]
+
+mod line;
+mod line_bytes;
+mod line_reader;
+mod listed;
+mod parsing;
+mod reply;
+mod reply_text;
+mod stuffing;
+mod verb;
+mod writing;
+
+pub use line::Line;
+pub use line_bytes::LineBytes;
+pub use line_reader::{LineReader, reader_cuts_lines};
+pub use listed::{Identified, Listed};
+pub use parsing::parse;
+pub use reply::Reply;
+pub use stuffing::stuffed;
+pub use verb::{Keyword, LineFault, Verb};

@@ -1,0 +1,180 @@
+//! The bytes of replies, one function for each occasion that tells something.
+ghost use Rattle.std.specs.Prelude.{◌≡◌, ◌≤◌, ◌++◌, length, codes, IfOk, OnOk};
+ghost use Rattle.std.specs.List.{flat_map};
+ghost use Rattle.pop3_wire.specs.Reply as spec;
+
+use crate::listed::{Identified, Listed};
+use crate::stuffing::{put_wire, top_of, wire_octets};
+use crate::writing::{put, put_number, with_room};
+use ballot::{Items, Memory};
+use std::alloc::Allocator;
+
+/// At least as many octets as any first line has but the greeting.
+const FIRST_LINE: u128 = 80;
+
+/// At least as many octets as the line of a message has in a listing, for the numbers that a maildrop can have.
+const LISTED_LINE: u128 = 32;
+
+/// A reply that tells nothing.
+pub(crate) fn fixed<A: Allocator>(alloc: A, words: &[u8]) -> Result<Vec<u8, A>, Memory>
+    requires { length words.now ≤ 512 }
+    ensures value { IfOk result (λ text. text.items ≡ words.now) }
+    ensures short { IfOk result (λ text. spec.HasShortFirstLine text.items) }
+{
+    Ok(Vec::from_slice(alloc, words)?)
+}
+
+pub(crate) fn greeting<A: Allocator>(
+    alloc: A,
+    nonce: &[u8],
+    host: &[u8],
+) -> Result<Vec<u8, A>, Memory>
+    ensures value { IfOk result (λ text. text.items ≡ spec.greeting nonce.now host.now) }
+    ensures short { length nonce.now ≤ 60 → length host.now ≤ 100 → IfOk result (λ text. spec.HasShortFirstLine text.items) }
+{
+    let mut text = with_room(alloc, 32 + nonce.len() as u128 + host.len() as u128)?;
+    put(&mut text, b"+OK POP3 server ready <")?;
+    put(&mut text, nonce)?;
+    put(&mut text, b"@")?;
+    put(&mut text, host)?;
+    put(&mut text, b">\r\n")?;
+    Ok(text)
+}
+
+pub(crate) fn maildrop_has<A: Allocator>(
+    alloc: A,
+    messages: u64,
+    octets: u64,
+) -> Result<Vec<u8, A>, Memory>
+    ensures value { IfOk result (λ text. text.items ≡ spec.maildrop_has messages octets) }
+    ensures short { IfOk result (λ text. spec.HasShortFirstLine text.items) }
+{
+    let mut text = with_room(alloc, FIRST_LINE)?;
+    put(&mut text, b"+OK maildrop has ")?;
+    put_number(&mut text, messages)?;
+    put(&mut text, b" messages (")?;
+    put_number(&mut text, octets)?;
+    put(&mut text, b" octets)\r\n")?;
+    Ok(text)
+}
+
+/// Adds two numbers, a line of a listing.
+fn put_numbers<A: Allocator>(text: &mut Vec<u8, A>, first: u64, second: u64) -> Result<(), Memory>
+    ensures { OnOk result (text.new.items ≡ text.old.items ++ spec.number_line first second) }
+{
+    put_number(text, first)?;
+    put(text, b" ")?;
+    put_number(text, second)?;
+    put(text, b"\r\n")
+}
+
+/// A reply that tells two numbers.
+pub(crate) fn two_numbers<A: Allocator>(
+    alloc: A,
+    first: u64,
+    second: u64,
+) -> Result<Vec<u8, A>, Memory>
+    ensures value { IfOk result (λ text. text.items ≡ codes "+OK " ++ spec.number_line first second) }
+    ensures short { IfOk result (λ text. spec.HasShortFirstLine text.items) }
+{
+    let mut text = with_room(alloc, FIRST_LINE)?;
+    put(&mut text, b"+OK ")?;
+    put_numbers(&mut text, first, second)?;
+    Ok(text)
+}
+
+fn put_scans<A: Allocator>(text: &mut Vec<u8, A>, messages: &[Listed]) -> Result<(), Memory>
+    ensures { OnOk result (text.new.items ≡ text.old.items ++ flat_map spec.scan_line messages.now) }
+{
+    for message in messages {
+        put_numbers(text, message.number, message.octets)?;
+    }
+    Ok(())
+}
+
+fn put_unique_ids<A: Allocator>(
+    text: &mut Vec<u8, A>,
+    messages: &[Identified],
+) -> Result<(), Memory>
+    ensures { OnOk result (text.new.items ≡ text.old.items ++ flat_map spec.unique_id_line messages.now) }
+{
+    for message in messages {
+        put_numbers(text, message.number, message.uid)?;
+    }
+    Ok(())
+}
+
+pub(crate) fn scan_listings<A: Allocator>(
+    alloc: A,
+    octets: u64,
+    messages: &[Listed],
+) -> Result<Vec<u8, A>, Memory>
+    ensures value { IfOk result (λ text. text.items ≡ spec.scan_listings octets messages.now) }
+    ensures short { IfOk result (λ text. spec.HasShortFirstLine text.items) }
+{
+    let mut text = with_room(alloc, FIRST_LINE + LISTED_LINE * messages.len() as u128)?;
+    put(&mut text, b"+OK ")?;
+    put_number(&mut text, messages.len() as u64)?;
+    put(&mut text, b" messages (")?;
+    put_number(&mut text, octets)?;
+    put(&mut text, b" octets)\r\n")?;
+    put_scans(&mut text, messages)?;
+    put(&mut text, b".\r\n")?;
+    Ok(text)
+}
+
+pub(crate) fn unique_id_listings<A: Allocator>(
+    alloc: A,
+    messages: &[Identified],
+) -> Result<Vec<u8, A>, Memory>
+    ensures value { IfOk result (λ text. text.items ≡ spec.unique_id_listings messages.now) }
+    ensures short { IfOk result (λ text. spec.HasShortFirstLine text.items) }
+{
+    let mut text = with_room(alloc, FIRST_LINE + LISTED_LINE * messages.len() as u128)?;
+    put(&mut text, b"+OK\r\n")?;
+    put_unique_ids(&mut text, messages)?;
+    put(&mut text, b".\r\n")?;
+    Ok(text)
+}
+
+pub(crate) fn message_text<A: Allocator>(
+    alloc: A,
+    octets: u64,
+    text: &[Items<u8, A>],
+) -> Result<Vec<u8, A>, Memory>
+    ensures value { IfOk result (λ reply. reply.items ≡ spec.message_text octets text.now) }
+    ensures short { IfOk result (λ reply. spec.HasShortFirstLine reply.items) }
+{
+    let mut reply = with_room(alloc, wire_octets(text).saturating_add(FIRST_LINE))?;
+    put(&mut reply, b"+OK ")?;
+    put_number(&mut reply, octets)?;
+    put(&mut reply, b" octets\r\n")?;
+    put_wire(&mut reply, text)?;
+    Ok(reply)
+}
+
+pub(crate) fn message_top<A: Allocator>(
+    alloc: A,
+    text: &[Items<u8, A>],
+    lines: u32,
+) -> Result<Vec<u8, A>, Memory>
+    ensures value { IfOk result (λ reply. reply.items ≡ spec.message_top text.now lines) }
+    ensures short { IfOk result (λ reply. spec.HasShortFirstLine reply.items) }
+{
+    let top = top_of(text, lines);
+    let mut reply = with_room(alloc, wire_octets(top).saturating_add(FIRST_LINE))?;
+    put(&mut reply, b"+OK\r\n")?;
+    put_wire(&mut reply, top)?;
+    Ok(reply)
+}
+
+pub(crate) fn message_deleted<A: Allocator>(alloc: A, number: u64) -> Result<Vec<u8, A>, Memory>
+    ensures value { IfOk result (λ text. text.items ≡ spec.message_deleted number) }
+    ensures short { IfOk result (λ text. spec.HasShortFirstLine text.items) }
+{
+    let mut text = with_room(alloc, FIRST_LINE)?;
+    put(&mut text, b"+OK message ")?;
+    put_number(&mut text, number)?;
+    put(&mut text, b" deleted\r\n")?;
+    Ok(text)
+}
