@@ -12,6 +12,18 @@ pub struct Message<A: Allocator = Global> {
     pub text: Text<A>,
 }
 
+impl<A: Allocator + Copy> Message<A> {
+    /// The same message again. The text shares its lines.
+    pub fn copy(&self) -> Result<Self, Memory>
+        ensures { IfOk result (λ message. message ≡ self.now) }
+    {
+        Ok(Message {
+            uid: self.uid,
+            text: self.text.copy()?,
+        })
+    }
+}
+
 /// The same messages again. One request for memory: the texts share their lines.
 pub(crate) fn copies_of<A: Allocator + Copy>(
     alloc: A,
@@ -21,11 +33,8 @@ pub(crate) fn copies_of<A: Allocator + Copy>(
 {
     let mut copies = Vec::with_capacity(alloc, messages.len())?;
     for message in messages {
-        let text = message.text.copy()?;
-        copies.push_reserved(Message {
-            uid: message.uid,
-            text,
-        });
+        let copy = message.copy()?;
+        copies.push_reserved(copy);
     }
     Ok(Items::from_vec(copies))
 }

@@ -1,0 +1,4 @@
+pub mod LineLemmas
+pub mod TableLemmas
+pub mod ReadingLemmas
+pub mod SeenLemmas

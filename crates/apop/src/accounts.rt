@@ -1,0 +1,96 @@
+//! The table of accounts.
+ghost use Rattle.std.specs.Prelude.{◌≡◌, ◌++◌, ◌∷◌, [], false, map, OnOk};
+ghost use Rattle.apop.specs.Accounts.{has_account, name_of, HaveDifferentNames};
+ghost use Rattle.apop.specs.Login.{passes, passes_apop};
+
+use crate::credential::{Credential, credential_of};
+use crate::digest::digest_of;
+use crate::method::Method;
+use crate::row::Row;
+use crate::timestamp::Stamp;
+use ballot::{Items, Memory};
+use maildrop::Name;
+use std::alloc::{Allocator, Global};
+use std::marker::Model;
+
+/// The users who may log in, each with a method and a secret, in the order of their file.
+#[derive(Drop)]
+pub struct Accounts<A: Allocator = Global> {
+    names: Vec<Name, A>,
+    credentials: Vec<Credential<A>, A>,
+}
+
+impl<A: Allocator> Model for Accounts<A> {
+    ghost use Rattle.std.specs.Prelude.{◌≡◌, List, length};
+    ghost use Rattle.apop.specs.Accounts.{Account, HaveDifferentNames};
+    ghost use Rattle.apop.specs.Table.{accounts_with};
+
+    ghost Value = { List Account };
+
+    ghost view = { λ a. accounts_with a.names.items a.credentials.items };
+
+    ghost invariant = { λ a. (length a.names.items ≡ length a.credentials.items)
+        × HaveDifferentNames (accounts_with a.names.items a.credentials.items) };
+}
+
+impl<A: Allocator + Copy> Accounts<A> {
+    /// No accounts. Takes no memory.
+    pub(crate) fn new(alloc: A) -> Self
+        ensures { result ≡ [] }
+    {
+        Accounts {
+            names: Vec::new(alloc),
+            credentials: Vec::new(alloc),
+        }
+    }
+
+    /// Adds an account at the end.
+    pub(crate) fn push(&mut self, row: &Row<'_>) -> Result<(), Memory>
+        requires { has_account self.old row.now.name ≡ false }
+        ensures { OnOk result
+            (self.new ≡ self.old ++ record { name = row.now.name; method = row.now.method; secret = row.now.secret.now } ∷ []) }
+    {
+        let secret = Items::from_bytes(*self.names.allocator(), row.secret)?;
+        self.names.reserve(1)?;
+        self.credentials.push(Credential {
+            method: row.method,
+            secret,
+        })?;
+        self.names.push_reserved(row.name);
+        Ok(())
+    }
+
+    /// The names of the accounts, in order, all different.
+    pub fn names(&self) -> &[Name]
+        ensures value { result.now ≡ map name_of self.now }
+        ensures different { HaveDifferentNames self.now }
+    {
+        &self.names
+    }
+
+    /// Whether a user logs in by PASS with this secret (RFC 1939 section 7): not where no account has the name.
+    pub fn check_pass(&self, name: &Name, secret: &[u8]) -> bool
+        ensures { result ≡ passes self.now name.now secret.now }
+    {
+        match credential_of(&self.names, &self.credentials, name) {
+            Some(credential) => {
+                credential.method == Method::Pass && credential.secret.get() == secret
+            }
+            None => false,
+        }
+    }
+
+    /// Whether a user logs in by APOP with this digest, in lower-case hexadecimal, after a greeting with this
+    /// timestamp (RFC 1939 section 7): not where no account has the name. Takes no memory.
+    pub fn check_apop(&self, name: &Name, stamp: &Stamp, digest: &[u8]) -> bool
+        ensures { result ≡ passes_apop self.now name.now stamp.now digest.now }
+    {
+        match credential_of(&self.names, &self.credentials, name) {
+            Some(credential) => {
+                credential.method == Method::Apop
+                    && digest_of(stamp, credential.secret.get()).as_slice() == digest
+            }
+            None => false,
+        }
+    }
+}

@@ -1,0 +1,81 @@
+//! The rows of a file of accounts.
+ghost use Rattle.std.specs.Prelude.{◌≡◌, position};
+ghost use Rattle.std.specs.List.{list_all};
+ghost use Rattle.std.specs.Option.{option_map};
+ghost use Rattle.apop.specs.Accounts as spec;
+
+use crate::method::Method;
+use maildrop::Name;
+
+/// The parts of a row `name method secret`.
+#[derive(Drop)]
+pub(crate) struct Row<'a> {
+    pub(crate) name: Name,
+    pub(crate) method: Method,
+    pub(crate) secret: &'a [u8],
+}
+
+fn place_of_space(bytes: &[u8]) -> Option<usize>
+    ensures { result ≡ position spec.is_space bytes.now }
+{
+    bytes.iter().position(|byte| *byte == b' ')
+}
+
+fn cut_at_space(bytes: &[u8]) -> Option<(&[u8], &[u8])>
+    ensures { option_map (λ parts. (parts.0.now, parts.1.now)) result ≡ spec.cut_at_space bytes.now }
+{
+    match place_of_space(bytes) {
+        Some(place) => Some((&bytes[..place], &bytes[place + 1..])),
+        None => None,
+    }
+}
+
+fn method_of(word: &[u8]) -> Option<Method>
+    ensures { result ≡ spec.method_of word.now }
+{
+    if word == b"pass".as_slice() {
+        Some(Method::Pass)
+    } else if word == b"apop".as_slice() {
+        Some(Method::Apop)
+    } else {
+        None
+    }
+}
+
+fn is_secret_byte(byte: u8) -> bool
+    ensures { result ≡ spec.is_secret_byte byte }
+{
+    (0x20 <= byte && byte <= 0x7E) || 0x80 <= byte
+}
+
+fn are_secret_bytes(bytes: &[u8]) -> bool
+    ensures { result ≡ list_all spec.is_secret_byte bytes.now }
+{
+    bytes.iter().all(|byte| is_secret_byte(*byte))
+}
+
+fn is_secret(bytes: &[u8]) -> bool
+    ensures { result ≡ spec.is_secret bytes.now }
+{
+    1 <= bytes.len() && bytes.len() <= 255 && are_secret_bytes(bytes)
+}
+
+/// The parts of a line, if it is a row.
+pub(crate) fn row_of(line: &[u8]) -> Option<Row<'_>>
+    ensures { option_map (λ row. record { name = row.name; method = row.method; secret = row.secret.now }) result
+        ≡ spec.row_of line.now }
+{
+    let (name, rest) = cut_at_space(line)?;
+    let (word, secret) = cut_at_space(rest)?;
+    let method = method_of(word)?;
+    let name = Name::new(name)?;
+    if is_secret(secret) {
+        Some(Row {
+            name,
+            method,
+            secret,
+        })
+    } else {
+        None
+    }
+}

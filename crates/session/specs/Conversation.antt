@@ -1,0 +1,78 @@
+-- A whole session as a function: from accounts, a greeting, lines, and the answers to what is asked, to the replies and
+-- the asked operations.
+use Rattle.std.specs.Prelude.{ℕ, List, [], ◌∷◌, ◌++◌, Option, Some, None, if◌then◌else◌}
+use Rattle.maildrop.specs.Ticket.{Ticket}
+use Rattle.maildrop.specs.declared.op.Op.{Op}
+use Rattle.maildrop.specs.declared.outcome.Outcome.{Outcome}
+use Rattle.apop.specs.Stamp.{Stamp}
+use Rattle.apop.specs.Accounts.{Account}
+use Rattle.pop3_wire.specs.Reply as reply
+use Rattle.pop3_wire.specs.declared.line.Line.{Line}
+use Rattle.session.specs.declared.state.State.{State}
+use Rattle.session.specs.declared.state.Step.{Step}
+use Rattle.session.specs.declared.state.Step.TheVariants.{Say, Ask, SayAndClose}
+use Rattle.session.specs.declared.state.Turn.{Turn}
+use Rattle.session.specs.Session.{opening, hears, by_line, by_answer}
+
+-- what an asked operation was answered
+pub record Answer (A : Type 0) : Type 0 where
+  pub ticket : Ticket
+  pub outcome : Outcome A
+
+-- an operation that was asked, and for whom
+pub record Asked (A : Type 0) : Type 0 where
+  pub user : List ℕ
+  pub op : Op A
+
+-- what is said and what is asked, in order
+pub record Conversation (A : Type 0) : Type 0 where
+  pub replies : List (List ℕ)
+  pub asked : List (Asked A)
+
+-- how a conversation goes on from a state, with the answers that are left
+abbrev pub Rest : Type 0 → Type 0
+Rest A = State A → List (Answer A) → Conversation A
+
+module _ {A : Type 0} where
+  abbrev pub silence : Conversation A
+  silence = record { replies = []; asked = [] }
+
+  abbrev pub with_reply : List ℕ → Conversation A → Conversation A
+  with_reply bytes conversation = record conversation { replies = bytes ∷ conversation.replies }
+
+  abbrev pub with_asked : List ℕ → Op A → Conversation A → Conversation A
+  with_asked user op conversation = record conversation { asked = record { user = user; op = op } ∷ conversation.asked }
+
+  -- after what an answer brought; it asks nothing itself
+  abbrev pub after_said : Rest A → State A → List (Answer A) → Step A → Conversation A
+  after_said rest state answers (Say bytes) = with_reply bytes (rest state answers)
+  after_said rest state answers (SayAndClose bytes) = with_reply bytes silence
+  after_said rest state answers (Ask user op) = silence
+
+  -- after an answer: where it fits nothing that was asked, no more is said
+  abbrev pub after_answer : Rest A → Option (Turn A) → List (Answer A) → Conversation A
+  after_answer rest None answers = silence
+  after_answer rest (Some turn) answers = after_said rest turn.state answers turn.step
+
+  -- an asked operation takes the next answer; where there is none, no more is said
+  abbrev pub after_asked : Rest A → State A → List (Answer A) → Conversation A
+  after_asked rest state [] = silence
+  after_asked rest state (answer ∷ answers) = after_answer rest (by_answer state answer.ticket answer.outcome) answers
+
+  -- after a line
+  abbrev pub after_line : Rest A → State A → List (Answer A) → Step A → Conversation A
+  after_line rest state answers (Say bytes) = with_reply bytes (rest state answers)
+  after_line rest state answers (SayAndClose bytes) = with_reply bytes silence
+  after_line rest state answers (Ask user op) = with_asked user op (after_asked rest state answers)
+
+  -- the conversation from a state on; a session that hears nothing says nothing
+  abbrev pub conversation_from : List Account → List Line → State A → List (Answer A) → Conversation A
+  conversation_from accounts [] state answers = silence
+  conversation_from accounts (line ∷ lines) state answers =
+      let turn = by_line accounts state line in
+      if hears state then after_line (conversation_from accounts lines) turn.state answers turn.step else silence
+
+  -- the whole conversation, from the greeting on
+  abbrev pub conversation : List Account → Stamp → List Line → List (Answer A) → Conversation A
+  conversation accounts stamp lines answers =
+      with_reply (reply.greeting stamp.nonce stamp.host) (conversation_from accounts lines opening answers)

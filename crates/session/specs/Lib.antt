@@ -1,0 +1,5 @@
+pub mod Errors
+pub mod Entries
+pub mod Open
+pub mod Session
+pub mod Conversation

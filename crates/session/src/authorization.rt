@@ -1,0 +1,102 @@
+//! A session in which nobody is logged in (RFC 1939 section 4).
+ghost use Rattle.std.specs.Prelude.{◌≡◌, IfOk, None};
+ghost use Rattle.pop3_wire.specs.Reply.{reply_text};
+ghost use Rattle.session.specs.Session as spec;
+
+use crate::state::{State, Turn};
+use crate::turn::{argument_refusal, ask, say, say_and_close};
+use apop::Accounts;
+use ballot::Memory;
+use maildrop::{Name, Op};
+use pop3_wire::{Keyword, LineFault, Reply, Verb};
+use std::alloc::Allocator;
+
+fn is_valid(user: &Option<Name>, keyword: Keyword) -> bool
+    ensures { result ≡ spec.is_valid_before_login user.now keyword }
+{
+    match keyword {
+        Keyword::User | Keyword::Quit => true,
+        Keyword::Pass => user.is_some(),
+        _ => false,
+    }
+}
+
+fn invalid_login<A: Allocator + Copy>(alloc: A, invalid: u8) -> Result<Turn<A>, Memory>
+    ensures { IfOk result (λ turn. turn ≡ spec.invalid_login invalid) }
+{
+    if invalid < 2 {
+        say_and_forget(alloc, &Reply::InvalidLogin, invalid + 1)
+    } else {
+        say_and_close(alloc, &Reply::InvalidLogin)
+    }
+}
+
+fn login<A: Allocator + Copy>(
+    alloc: A,
+    accounts: &Accounts<A>,
+    user: Option<Name>,
+    invalid: u8,
+    secret: &[u8],
+) -> Result<Turn<A>, Memory>
+    ensures { IfOk result (λ turn. turn ≡ spec.login accounts.now user invalid secret.now) }
+{
+    match user {
+        None => say_and_forget(alloc, &Reply::WrongState, invalid),
+        Some(user) => {
+            if accounts.check_pass(&user, secret) {
+                Ok(ask(user, Op::Take, State::Locking { user }))
+            } else {
+                invalid_login(alloc, invalid)
+            }
+        }
+    }
+}
+
+fn refusal<'a, A: Allocator>(user: &Option<Name>, fault: LineFault) -> Reply<'a, A>
+    ensures { reply_text result ≡ spec.refusal_before_login user.now fault }
+{
+    match fault {
+        LineFault::Unknown => Reply::UnknownCommand,
+        LineFault::Arguments(keyword) => argument_refusal(is_valid(user, keyword)),
+    }
+}
+
+/// Says a reply, and forgets the name of a USER before.
+fn say_and_forget<A: Allocator + Copy>(
+    alloc: A,
+    reply: &Reply<'_, A>,
+    invalid: u8,
+) -> Result<Turn<A>, Memory>
+    ensures { IfOk result (λ turn. turn ≡ spec.say (reply_text reply.now) (State.Authorization None invalid)) }
+{
+    let state = State::Authorization {
+        user: None,
+        invalid,
+    };
+    say(alloc, reply, state)
+}
+
+/// What a line brings before a login.
+pub(crate) fn in_authorization<A: Allocator + Copy>(
+    alloc: A,
+    accounts: &Accounts<A>,
+    user: Option<Name>,
+    invalid: u8,
+    command: Result<Verb, LineFault>,
+) -> Result<Turn<A>, Memory>
+    ensures { IfOk result (λ turn. turn ≡ spec.in_authorization accounts.now user invalid command) }
+{
+    match &command {
+        Ok(Verb::User(name)) => {
+            let state = State::Authorization {
+                user: Some(*name),
+                invalid,
+            };
+            say(alloc, &Reply::SendPass, state)
+        }
+        Ok(Verb::Pass(secret)) => login(alloc, accounts, user, invalid, secret.get()),
+        Ok(Verb::Quit) => say_and_close(alloc, &Reply::SigningOff),
+        Ok(_) => say_and_forget(alloc, &Reply::WrongState, invalid),
+        Err(fault) => say_and_forget(alloc, &refusal(&user, *fault), invalid),
+    }
+}

@@ -1,0 +1,217 @@
+//! The maildrop that a session has opened.
+ghost use Rattle.std.specs.Prelude.{◌≡◌, ℕ, ◌-◌, ◌≤◌, ◌^◌, List, Some, None, length, map, slice_set, IsTrue, is_some, IfOk, OnOk, MatchOption};
+ghost use Rattle.std.specs.List.{list_any};
+ghost use Rattle.maildrop.specs.Taken.{message_octets};
+ghost use Rattle.session.specs.Entries as spec;
+
+use crate::entry::Entry;
+use ballot::Memory;
+use maildrop::{Message, Taken, Uids};
+use pop3_wire::{Identified, Listed};
+use std::alloc::{Allocator, Global};
+use std::marker::Model;
+
+/// The messages of an open maildrop, numbered from 1, and which of them are marked as deleted. How many are unmarked,
+/// and their octets, are kept, so that no message is counted twice.
+#[derive(Drop)]
+pub struct Opened<A: Allocator = Global> {
+    entries: Vec<Entry<A>, A>,
+    messages: u64,
+    octets: u64,
+}
+
+impl<A: Allocator> Model for Opened<A> {
+    ghost use Rattle.std.specs.Prelude.{List};
+    ghost use Rattle.session.specs.declared.entry.Entry.{Entry};
+    ghost use Rattle.session.specs.Entries.{AreCounted};
+
+    ghost Value = { List (Entry A) };
+
+    ghost view = { λ o. o.entries.items };
+
+    ghost invariant = { λ o. AreCounted o.entries.items o.messages o.octets };
+}
+
+impl<A: Allocator + Copy> Opened<A> {
+    /// A maildrop whose lock was taken, with these messages.
+    pub fn new(alloc: A, taken: &Taken<A>) -> Result<Self, Memory>
+        ensures { IfOk result (λ opened. opened ≡ map spec.entry_of taken.now) }
+    {
+        let entries = entries_of(alloc, taken.get())?;
+        let messages = entries.len() as u64;
+        let octets = octets_in(&entries);
+        Ok(Opened {
+            entries,
+            messages,
+            octets,
+        })
+    }
+
+    /// How many messages are unmarked.
+    pub fn messages(&self) -> u64
+        ensures { result ≡ length (spec.unmarked self.now) }
+    {
+        self.messages
+    }
+
+    /// The octets of the unmarked messages together.
+    pub fn octets(&self) -> u64
+        ensures { result ≡ spec.octets_in (spec.unmarked self.now) }
+    {
+        self.octets
+    }
+
+    /// The message of a number, unless it is absent or marked.
+    pub fn get(&self, number: u32) -> Option<&Entry<A>>
+        ensures { MatchOption result (spec.entry_at self.now number ≡ None) (λ entry. spec.entry_at self.now number ≡ Some entry.now) }
+    {
+        let place = number.checked_sub(1)?;
+        let entry = self.entries.get(place as usize)?;
+        if entry.marked { None } else { Some(entry) }
+    }
+
+    /// Marks the message of a number, unless it is absent or marked already. Answers whether it did.
+    pub fn mark(&mut self, number: u32) -> bool
+        ensures found { result ≡ is_some (spec.entry_at self.old number) }
+        ensures marked { self.new ≡ spec.with_mark_at self.old number (spec.entry_at self.old number) }
+    {
+        if self.get(number).is_none() {
+            return false;
+        }
+        let entry = &mut self.entries[number as usize - 1];
+        entry.marked = true;
+        self.messages -= 1;
+        self.octets -= entry.octets;
+        true
+    }
+
+    /// Takes all marks away.
+    pub fn reset(&mut self)
+        ensures { self.new ≡ map spec.without_mark self.old }
+    {
+        remove_marks(&mut self.entries);
+        self.messages = self.entries.len() as u64;
+        self.octets = octets_in(&self.entries);
+    }
+
+    /// Whether a message is marked.
+    pub fn has_marks(&self) -> bool
+        ensures { result ≡ list_any (λ entry. entry.marked) self.now }
+    {
+        self.entries.iter().any(|entry| entry.marked)
+    }
+
+    /// The unmarked messages, as LIST shows them.
+    pub fn listed(&self, alloc: A) -> Result<Vec<Listed, A>, Memory>
+        ensures { IfOk result (λ listed. listed.items ≡ spec.listed_from 1 self.now) }
+    {
+        listed_of(alloc, &self.entries)
+    }
+
+    /// The unmarked messages, as UIDL shows them.
+    pub fn identified(&self, alloc: A) -> Result<Vec<Identified, A>, Memory>
+        ensures { IfOk result (λ identified. identified.items ≡ spec.identified_from 1 self.now) }
+    {
+        identified_of(alloc, &self.entries)
+    }
+
+    /// The unique ids of the marked messages.
+    pub fn marked_uids(&self, alloc: A) -> Result<Uids<A>, Memory>
+        ensures { IfOk result (λ uids. uids ≡ spec.marked_uids self.now) }
+    {
+        let uids = marked_uids_of(alloc, &self.entries)?;
+        Ok(Uids::new(uids).unwrap())
+    }
+}
+
+fn listed_of<A: Allocator + Copy>(alloc: A, entries: &[Entry<A>]) -> Result<Vec<Listed, A>, Memory>
+    requires { length entries.now ≤ 999999999 }
+    ensures { IfOk result (λ listed. listed.items ≡ spec.listed_from 1 entries.now) }
+{
+    let mut listed = Vec::with_capacity(alloc, entries.len())?;
+    let mut number = 1u64;
+    for entry in entries {
+        if !entry.marked {
+            listed.push(Listed {
+                number,
+                octets: entry.octets,
+            })?;
+        }
+        number += 1;
+    }
+    Ok(listed)
+}
+
+fn identified_of<A: Allocator + Copy>(
+    alloc: A,
+    entries: &[Entry<A>],
+) -> Result<Vec<Identified, A>, Memory>
+    requires { length entries.now ≤ 999999999 }
+    ensures { IfOk result (λ identified. identified.items ≡ spec.identified_from 1 entries.now) }
+{
+    let mut identified = Vec::with_capacity(alloc, entries.len())?;
+    let mut number = 1u64;
+    for entry in entries {
+        if !entry.marked {
+            identified.push(Identified {
+                number,
+                uid: entry.message.uid,
+            })?;
+        }
+        number += 1;
+    }
+    Ok(identified)
+}
+
+fn marked_uids_of<A: Allocator + Copy>(
+    alloc: A,
+    entries: &[Entry<A>],
+) -> Result<Vec<u64, A>, Memory>
+    ensures { IfOk result (λ uids. uids.items ≡ spec.marked_uids entries.now) }
+{
+    let uids = entries
+        .iter()
+        .filter(|entry| entry.marked)
+        .map(|entry| entry.message.uid)
+        .collect(alloc)?;
+    Ok(uids)
+}
+
+fn remove_marks<A: Allocator + Copy>(entries: &mut Vec<Entry<A>, A>)
+    ensures { entries.new.items ≡ map spec.without_mark entries.old.items }
+{
+    for entry in entries.iter_mut() {
+        entry.marked = false;
+    }
+}
+
+fn octets_in<A: Allocator + Copy>(entries: &[Entry<A>]) -> u64
+    requires { spec.octets_in entries.now ≤ 2 ^ 40 }
+    ensures { result ≡ spec.octets_in entries.now }
+{
+    let mut octets = 0;
+    for entry in entries {
+        octets += entry.octets;
+    }
+    octets
+}
+
+fn entries_of<A: Allocator + Copy>(
+    alloc: A,
+    messages: &[Message<A>],
+) -> Result<Vec<Entry<A>, A>, Memory>
+    requires { message_octets messages.now ≤ 2 ^ 40 }
+    ensures { IfOk result (λ entries. entries.items ≡ map spec.entry_of messages.now) }
+{
+    let mut entries = Vec::with_capacity(alloc, messages.len())?;
+    for message in messages {
+        let octets = message.text.octets() as u64;
+        let message = message.copy()?;
+        entries.push_reserved(Entry {
+            message,
+            octets,
+            marked: false,
+        });
+    }
+    Ok(entries)
+}

@@ -1,0 +1,239 @@
+//! A session that holds the lock of its user's maildrop (RFC 1939 section 5).
+ghost use Rattle.std.specs.Prelude.{◌≡◌, IfOk};
+ghost use Rattle.pop3_wire.specs.Reply.{reply_text};
+ghost use Rattle.session.specs.Entries.{entry_at};
+ghost use Rattle.session.specs.Session as spec;
+
+use crate::opened::Opened;
+use crate::state::{State, Turn};
+use crate::turn::{argument_refusal, ask, say, say_bytes};
+use ballot::Memory;
+use maildrop::{Name, Op, Ticket};
+use pop3_wire::{Identified, Keyword, LineFault, Listed, Reply, Verb};
+use std::alloc::Allocator;
+
+fn is_valid(keyword: Keyword) -> bool
+    ensures { result ≡ spec.is_valid_after_login keyword }
+{
+    !matches!(keyword, Keyword::User | Keyword::Pass)
+}
+
+fn list_all<A: Allocator + Copy>(alloc: A, opened: &Opened<A>) -> Result<Vec<u8, A>, Memory>
+    ensures { IfOk result (λ text. text.items ≡ spec.scan_listings opened.now) }
+{
+    let listed = opened.listed(alloc)?;
+    let reply = Reply::Listing {
+        octets: opened.octets(),
+        messages: &listed,
+    };
+    reply.text(alloc)
+}
+
+fn identify_all<A: Allocator + Copy>(alloc: A, opened: &Opened<A>) -> Result<Vec<u8, A>, Memory>
+    ensures { IfOk result (λ text. text.items ≡ spec.unique_id_listings opened.now) }
+{
+    let identified = opened.identified(alloc)?;
+    let reply = Reply::UniqueIds(&identified);
+    reply.text(alloc)
+}
+
+fn list<A: Allocator + Copy>(
+    alloc: A,
+    opened: &Opened<A>,
+    number: u32,
+) -> Result<Vec<u8, A>, Memory>
+    ensures { IfOk result (λ text. text.items ≡ spec.of_message (entry_at opened.now number) (spec.scan_listing number)) }
+{
+    let reply = match opened.get(number) {
+        None => Reply::NoSuchMessage,
+        Some(entry) => Reply::List(Listed {
+            number: number as u64,
+            octets: entry.octets,
+        }),
+    };
+    reply.text(alloc)
+}
+
+fn identify<A: Allocator + Copy>(
+    alloc: A,
+    opened: &Opened<A>,
+    number: u32,
+) -> Result<Vec<u8, A>, Memory>
+    ensures { IfOk result (λ text. text.items ≡ spec.of_message (entry_at opened.now number) (spec.unique_id_listing number)) }
+{
+    let reply = match opened.get(number) {
+        None => Reply::NoSuchMessage,
+        Some(entry) => Reply::UniqueId(Identified {
+            number: number as u64,
+            uid: entry.message.uid,
+        }),
+    };
+    reply.text(alloc)
+}
+
+fn retrieve<A: Allocator + Copy>(
+    alloc: A,
+    opened: &Opened<A>,
+    number: u32,
+) -> Result<Vec<u8, A>, Memory>
+    ensures { IfOk result (λ text. text.items ≡ spec.of_message (entry_at opened.now number) spec.whole_message) }
+{
+    let reply = match opened.get(number) {
+        None => Reply::NoSuchMessage,
+        Some(entry) => Reply::Message {
+            octets: entry.octets,
+            text: &entry.message.text,
+        },
+    };
+    reply.text(alloc)
+}
+
+fn top<A: Allocator + Copy>(
+    alloc: A,
+    opened: &Opened<A>,
+    number: u32,
+    lines: u32,
+) -> Result<Vec<u8, A>, Memory>
+    ensures { IfOk result (λ text. text.items ≡ spec.of_message (entry_at opened.now number) (spec.top_of_message lines)) }
+{
+    let reply = match opened.get(number) {
+        None => Reply::NoSuchMessage,
+        Some(entry) => Reply::Top {
+            text: &entry.message.text,
+            lines,
+        },
+    };
+    reply.text(alloc)
+}
+
+fn delete<A: Allocator + Copy>(
+    alloc: A,
+    user: Name,
+    lock: Ticket,
+    opened: Opened<A>,
+    number: u32,
+) -> Result<Turn<A>, Memory>
+    ensures { IfOk result (λ turn. turn ≡ spec.delete user lock opened number (entry_at opened number)) }
+{
+    let mut opened = opened;
+    let reply = if opened.mark(number) {
+        Reply::Deleted {
+            number: number as u64,
+        }
+    } else {
+        Reply::NoSuchMessage
+    };
+    say(alloc, &reply, State::Transaction { user, lock, opened })
+}
+
+fn reset<A: Allocator + Copy>(
+    alloc: A,
+    user: Name,
+    lock: Ticket,
+    opened: Opened<A>,
+) -> Result<Turn<A>, Memory>
+    ensures { IfOk result (λ turn. turn ≡ spec.reset user lock opened) }
+{
+    let mut opened = opened;
+    opened.reset();
+    let reply = Reply::Reset {
+        messages: opened.messages(),
+        octets: opened.octets(),
+    };
+    say(alloc, &reply, State::Transaction { user, lock, opened })
+}
+
+fn quit<A: Allocator + Copy>(
+    alloc: A,
+    user: Name,
+    lock: Ticket,
+    opened: &Opened<A>,
+) -> Result<Turn<A>, Memory>
+    ensures { IfOk result (λ turn. turn ≡ spec.quit user lock opened.now) }
+{
+    if !opened.has_marks() {
+        return Ok(ask(user, Op::Free { lock }, State::Leaving { removing: false }));
+    }
+    let uids = opened.marked_uids(alloc)?;
+    Ok(ask(
+        user,
+        Op::Commit { lock, uids },
+        State::Leaving { removing: true },
+    ))
+}
+
+/// The reply to a command that changes nothing.
+fn shown<A: Allocator + Copy>(
+    alloc: A,
+    opened: &Opened<A>,
+    verb: &Verb,
+) -> Result<Vec<u8, A>, Memory>
+    ensures { IfOk result (λ text. text.items ≡ spec.shown opened.now verb.now) }
+{
+    match verb {
+        Verb::Stat => {
+            let reply = Reply::Stat {
+                messages: opened.messages(),
+                octets: opened.octets(),
+            };
+            reply.text(alloc)
+        }
+        Verb::List(None) => list_all(alloc, opened),
+        Verb::List(Some(number)) => list(alloc, opened, *number),
+        Verb::Uidl(None) => identify_all(alloc, opened),
+        Verb::Uidl(Some(number)) => identify(alloc, opened, *number),
+        Verb::Retr(number) => retrieve(alloc, opened, *number),
+        Verb::Top { number, lines } => top(alloc, opened, *number, *lines),
+        Verb::Noop => Reply::Noop.text(alloc),
+        _ => Reply::WrongState.text(alloc),
+    }
+}
+
+fn by_verb<A: Allocator + Copy>(
+    alloc: A,
+    user: Name,
+    lock: Ticket,
+    opened: Opened<A>,
+    verb: &Verb,
+) -> Result<Turn<A>, Memory>
+    ensures { IfOk result (λ turn. turn ≡ spec.by_verb user lock opened verb.now) }
+{
+    match verb {
+        Verb::Dele(number) => delete(alloc, user, lock, opened, *number),
+        Verb::Rset => reset(alloc, user, lock, opened),
+        Verb::Quit => quit(alloc, user, lock, &opened),
+        _ => {
+            let text = shown(alloc, &opened, verb)?;
+            Ok(say_bytes(text, State::Transaction { user, lock, opened }))
+        }
+    }
+}
+
+fn refusal<'a, A: Allocator>(fault: LineFault) -> Reply<'a, A>
+    ensures { reply_text result ≡ spec.refusal_after_login fault }
+{
+    match fault {
+        LineFault::Unknown => Reply::UnknownCommand,
+        LineFault::Arguments(keyword) => argument_refusal(is_valid(keyword)),
+    }
+}
+
+/// What a line brings after a login.
+pub(crate) fn in_transaction<A: Allocator + Copy>(
+    alloc: A,
+    user: Name,
+    lock: Ticket,
+    opened: Opened<A>,
+    command: Result<Verb, LineFault>,
+) -> Result<Turn<A>, Memory>
+    ensures { IfOk result (λ turn. turn ≡ spec.in_transaction user lock opened command) }
+{
+    match command {
+        Ok(verb) => by_verb(alloc, user, lock, opened, &verb),
+        Err(fault) => say(
+            alloc,
+            &refusal(fault),
+            State::Transaction { user, lock, opened },
+        ),
+    }
+}
