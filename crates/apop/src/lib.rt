@@ -9,6 +9,7 @@ mod line;
 mod method;
 mod reading;
 mod row;
+mod single;
 mod stamping;
 mod timestamp;
 

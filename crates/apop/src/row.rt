@@ -54,7 +54,7 @@ fn are_secret_bytes(bytes: &[u8]) -> bool
     bytes.iter().all(|byte| is_secret_byte(*byte))
 }
 
-fn is_secret(bytes: &[u8]) -> bool
+pub(crate) fn is_secret(bytes: &[u8]) -> bool
     ensures { result ≡ spec.is_secret bytes.now }
 {
     1 <= bytes.len() && bytes.len() <= 255 && are_secret_bytes(bytes)

@@ -46,26 +46,27 @@ module _ {A : Type 0} where
   -- after what an answer brought; it asks nothing itself
   abbrev pub after_said : Rest A → State A → List (Answer A) → Step A → Conversation A
   after_said rest state answers (Say bytes) = with_reply bytes (rest state answers)
-  after_said rest state answers (SayAndClose bytes) = with_reply bytes silence
-  after_said rest state answers (Ask user op) = silence
+  after_said rest state answers (SayAndClose bytes) = with_reply bytes (rest state answers)
+  after_said rest state answers (Ask user op) = rest state answers
 
-  -- after an answer: where it fits nothing that was asked, no more is said
-  abbrev pub after_answer : Rest A → Option (Turn A) → List (Answer A) → Conversation A
-  after_answer rest None answers = silence
-  after_answer rest (Some turn) answers = after_said rest turn.state answers turn.step
+  -- after an answer: one that doesn't fit what was asked brings nothing
+  abbrev pub after_answer : Rest A → State A → Option (Turn A) → List (Answer A) → Conversation A
+  after_answer rest state None answers = rest state answers
+  after_answer rest state (Some turn) answers = after_said rest turn.state answers turn.step
 
   -- an asked operation takes the next answer; where there is none, no more is said
   abbrev pub after_asked : Rest A → State A → List (Answer A) → Conversation A
   after_asked rest state [] = silence
-  after_asked rest state (answer ∷ answers) = after_answer rest (by_answer state answer.ticket answer.outcome) answers
+  after_asked rest state (answer ∷ answers) =
+      after_answer rest state (by_answer state answer.ticket answer.outcome) answers
 
   -- after a line
   abbrev pub after_line : Rest A → State A → List (Answer A) → Step A → Conversation A
   after_line rest state answers (Say bytes) = with_reply bytes (rest state answers)
-  after_line rest state answers (SayAndClose bytes) = with_reply bytes silence
+  after_line rest state answers (SayAndClose bytes) = with_reply bytes (rest state answers)
   after_line rest state answers (Ask user op) = with_asked user op (after_asked rest state answers)
 
-  -- the conversation from a state on; a session that hears nothing says nothing
+  -- the conversation from a state on; a session that is closed, or that awaits an answer, says no more
   abbrev pub conversation_from : List Account → List Line → State A → List (Answer A) → Conversation A
   conversation_from accounts [] state answers = silence
   conversation_from accounts (line ∷ lines) state answers =

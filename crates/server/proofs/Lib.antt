@@ -1,0 +1,3 @@
+pub mod ReaderLemmas
+pub mod ServiceLemmas
+pub mod LoneLemmas

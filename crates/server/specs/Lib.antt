@@ -1,0 +1,4 @@
+pub mod Options
+pub mod Service
+pub mod Desk
+pub mod Lone

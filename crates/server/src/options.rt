@@ -1,0 +1,14 @@
+//! What a lone session is started with.
+
+/// The options of a lone session, as they came: any bytes.
+#[derive(Clone, Copy)]
+pub struct LoneOptions<'a> {
+    /// The name of the one user.
+    pub user: &'a [u8],
+    /// The user's secret.
+    pub secret: &'a [u8],
+    /// What stands before the `@` of the greeting's timestamp.
+    pub nonce: &'a [u8],
+    /// What stands behind it.
+    pub host: &'a [u8],
+}
