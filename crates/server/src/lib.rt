@@ -11,3 +11,6 @@ pub use desk::Desk;
 pub use fault::Fault;
 pub use lone::lone_run;
 pub use options::LoneOptions;
+
+#[cfg(test)]
+mod tests;

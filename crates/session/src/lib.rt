@@ -14,3 +14,6 @@ pub use entry::Entry;
 pub use opened::Opened;
 pub use session::Session;
 pub use state::{SessionError, State, Step, Turn};
+
+#[cfg(test)]
+mod tests;
