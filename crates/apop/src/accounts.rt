@@ -65,7 +65,7 @@ impl<A: Allocator + Copy> Accounts<A> {
         ensures value { result.now ≡ map name_of self.now }
         ensures different { HaveDifferentNames self.now }
     {
-        &self.names
+        self.names.as_slice()
     }
 
     /// Whether a user logs in by PASS with this secret (RFC 1939 section 7): not where no account has the name.
