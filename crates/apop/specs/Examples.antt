@@ -1,5 +1,5 @@
 -- Worked examples of the definitions.
-use Rattle.std.specs.Prelude.{◌≡◌, ◌++◌, ℕ, List, [], ◌∷◌, replicate, refl, codes, true, false, Some, None, Ok, Err, map}
+use Rattle.std.specs.Prelude.{◌≡◌, ◌++◌, ℕ, List, [], ◌∷◌, refl, codes, true, false, Some, None, Ok, Err, map}
 use Rattle.md5.specs.Md5.{block_words, rounds, compress, hash_after, digest_bytes, md5}
 use Rattle.hex.specs.Hex.{encode_with}
 use Rattle.apop.specs.Stamp.{Stamp, are_runs, timestamp}

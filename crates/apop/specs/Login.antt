@@ -1,5 +1,5 @@
 -- Who may log in, by PASS and by APOP (RFC 1939 section 7).
-use Rattle.std.specs.Prelude.{ℕ, ◌&&◌, ◌++◌, List, Bool, true, false, Option, find}
+use Rattle.std.specs.Prelude.{ℕ, ◌++◌, List, Bool, false, Option, find}
 use Rattle.std.specs.Option.{option_map_or}
 use Rattle.std.specs.Str.{bytes_eq}
 use Rattle.hex.specs.Hex.{encode_lower}

@@ -11,6 +11,7 @@ use Rattle.std.proofs.lemmas.List.Sums.{position_or_len_is}
 use Rattle.maildrop.specs.Text.{IsLine}
 use Rattle.memchr.specs.Find.{IsFirstByte, is_byte}
 
+-- a test that does not pass fails
 fails : (b : Bool) → ¬ (b ≡ true) → b ≡ false
 fails true not_true = absurd (not_true refl)
 fails false not_true = refl
@@ -28,6 +29,7 @@ lines-first bytes end inside before here =
     slice_split_first (is_byte 10) bytes 0 (omega (arith, place)) ∙ rw place refl in
     ap lines_of_parts cut ∙ lines_of_parts-more (take end bytes) (slice_split (is_byte 10) (drop (end + 1) bytes)) (omega (arith, length-slice_split (is_byte 10) (drop (end + 1) bytes)))
 
+-- the part behind the last line feed is a line, if it is not empty
 one_part : (part : List ℕ) → 0 < length part → lines_of_parts (part ∷ []) ≡ part ∷ []
 one_part [] some = absurd (omega arith)
 one_part (b ∷ bs) some = grind (arith, nat_tests)
@@ -41,6 +43,7 @@ pub lines-more : (line bytes : List ℕ) → All (λ b. is_byte 10 b ≡ false) 
 lines-more line bytes none =
     ap lines_of_parts (slice_split_at (is_byte 10) line 10 bytes none refl) ∙ lines_of_parts-more line (slice_split (is_byte 10) bytes) (omega (arith, length-slice_split (is_byte 10) bytes))
 
+-- `IsLine-strip`, by whether a carriage return is the last byte
 IsLine-either : (return_last : Bool) (line : List ℕ) → IsLine line → IsLine (cond return_last (take (length line - 1) line) line)
 IsLine-either true line is = All-take (λ b. b ≢ 10) (length line - 1) line is
 IsLine-either false line is = is
@@ -53,6 +56,7 @@ IsLine-strip line is = IsLine-either (slice_index line (length line - 1) == 13) 
 pub IsLine-from_tests : (bytes : List ℕ) → All (λ b. is_byte 10 b ≡ false) bytes → IsLine bytes
 IsLine-from_tests bytes none k d inside is = eqb-false (get_or bytes k d) 10 (none k d inside) is
 
+-- and the other way round
 pub tests-from_IsLine : (bytes : List ℕ) → IsLine bytes → All (λ b. is_byte 10 b ≡ false) bytes
 tests-from_IsLine bytes is k d inside = fails _ (λ e. is k d inside (eqb-true (get_or bytes k d) 10 e))
 
@@ -60,6 +64,7 @@ tests-from_IsLine bytes is k d inside = fails _ (λ e. is k d inside (eqb-true (
 pub first_line_feed : (bytes : List ℕ) (end : ℕ) → IsFirstByte (is_byte 10) bytes (Some end) → (end < length bytes) × ((k : ℕ) → k < end → is_byte 10 (get_or bytes k 0) ≡ false) × (is_byte 10 (get_or bytes end 0) ≡ true)
 first_line_feed bytes end found = (found.0.high, λ k below. fails _ (found.0.before k (omega arith) below), found.1)
 
+-- what a search that found none says
 pub no_line_feed : (bytes : List ℕ) → IsFirstByte (is_byte 10) bytes None → All (λ b. is_byte 10 b ≡ false) bytes
 no_line_feed bytes none k d inside = rw (get_or_default bytes k d 0 inside) (fails _ (none k (omega arith) inside))
 

@@ -32,6 +32,7 @@ without_last_empty-push (line ∷ []) last some =
 without_last_empty-push (line ∷ next ∷ more) last some =
     without_last_empty-more line next (more ++ last ∷ []) ∙ ap (λ ls. line ∷ ls) (without_last_empty-push (next ∷ more) last some)
 
+-- lines are those before the last, and the last
 last-split : (lines : List (List ℕ)) (last : List ℕ) → 0 < length lines → last ≡ get_or lines (length lines - 1) last → lines ≡ take (length lines - 1) lines ++ last ∷ []
 last-split lines last some is =
     sym (take_all (length lines - 1 + 1) lines (omega arith)) ∙ take_more lines (length lines - 1) last (omega arith) ∙ ap (λ line. take (length lines - 1) lines ++ line ∷ []) (sym is)
@@ -49,10 +50,12 @@ without_last_empty-kept lines last some is full =
     let split = last-split lines last some is in
     split ∙ sym (without_last_empty-push (take (length lines - 1) lines) last full) ∙ ap without_last_empty (sym split)
 
+-- a line that is not the empty one has bytes
 pub length-not_nil : (line : List ℕ) → ¬ (line ≡ []) → 0 < length line
 length-not_nil [] not_nil = absurd (not_nil refl)
 length-not_nil (b ∷ bs) not_nil = omega arith
 
+-- a line that is not empty is not empty unquoted, by the tests of `unquoted`
 unquoted-some : (quote quotable : Bool) (b : ℕ) (bs : List ℕ) → quotable ≡ is_quotable bs → 0 < length (cond quote (cond quotable bs (b ∷ bs)) (b ∷ bs))
 unquoted-some true true b [] is = absurd (cc)
 unquoted-some true true b (b' ∷ bs) is = omega arith
@@ -76,9 +79,6 @@ pub record HasRead (all rest : List (List ℕ)) (texts : List (List (List ℕ)))
   pub message_is : message ≡ map unquoted raw
   pub texts_are : map text_of (slice_split begins_message all) ≡ texts ++ map text_of (slice_split begins_message (raw ++ rest))
 
-pub HasRead-nothing : (all : List (List ℕ)) → HasRead all all [] []
-HasRead-nothing all = record { raw = []; is_message = All-nil (λ line. begins_message line ≡ false); message_is = refl; texts_are = refl }
-
 -- one more line of the message
 pub HasRead-line : (all : List (List ℕ)) (line : List ℕ) (rest : List (List ℕ)) (texts : List (List (List ℕ))) (message : List (List ℕ)) → HasRead all (line ∷ rest) texts message → begins_message line ≡ false → HasRead all rest texts (message ++ unquoted line ∷ [])
 HasRead-line all line rest texts message h inside = record {
@@ -88,6 +88,7 @@ HasRead-line all line rest texts message h inside = record {
   texts_are = h.texts_are ∙ ap (λ lines. texts ++ map text_of (slice_split begins_message lines)) (sym (append_assoc h.raw (line ∷ []) rest));
 }
 
+-- the text of a message that has ended
 ended : (message raw : List (List ℕ)) → message ≡ map unquoted raw → text_of raw ≡ without_last_empty message
 ended message raw is = unquoted-without_last_empty raw ∙ ap without_last_empty (sym is)
 
@@ -120,6 +121,7 @@ All-without_last_empty P ([] ∷ next ∷ more) all =
 All-without_last_empty P ((b ∷ bs) ∷ more) all =
     All-cons P (b ∷ bs) (without_last_empty more) (All-head P (b ∷ bs) more all) (All-without_last_empty P more (All-tail P (b ∷ bs) more all))
 
+-- `IsLine-unquoted`, by the tests of `unquoted`
 IsLine-either : (quote quotable : Bool) (b : ℕ) (bs : List ℕ) → IsLine (b ∷ bs) → IsLine (cond quote (cond quotable bs (b ∷ bs)) (b ∷ bs))
 IsLine-either true true b bs is = All-tail (λ b. b ≢ 10) b bs is
 IsLine-either true false b bs is = is

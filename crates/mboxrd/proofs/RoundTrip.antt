@@ -9,16 +9,18 @@ use Rattle.std.proofs.lemmas.List.{take_all, take_more, take-take, length-take, 
 use Rattle.std.proofs.lemmas.List.Elements.{All-nil, All-cons, All-head, All-tail, All-push}
 use Rattle.std.proofs.lemmas.List.Splits.{slice_split_at, slice_split_none, slice_split-cons_yes}
 use Rattle.maildrop.specs.Text.{IsLine}
-use Rattle.mboxrd.specs.Mailbox.{begins_message, is_quotable, quoted, unquoted, text_of, texts_of, are_messages, read_of, file_of, message_of, written_of, HasNoReturnLast}
+use Rattle.mboxrd.specs.Mailbox.{begins_message, is_quotable, quoted, unquoted, text_of, texts_of, are_messages, read_of, file_of, message_of, written_of, EndsInNoReturn}
 use Rattle.mboxrd.specs.declared.error.MboxError.TheVariants.{NoFromLine}
 use Rattle.mboxrd.proofs.LineLemmas.{lines-more, tests-from_IsLine}
 use Rattle.mboxrd.proofs.ReadingLemmas.{without_last_empty-push_empty}
 
+-- what a line that begins a message starts with
 abbrev from_bytes : List ℕ
 from_bytes = codes "From "
 
 -- ---- quoting
 
+-- a line that is not quoted is read as it is
 unquoted-unquotable : (line : List ℕ) → is_quotable line ≡ false → unquoted line ≡ line
 unquoted-unquotable [] plain = refl
 unquoted-unquotable (b ∷ bs) plain =
@@ -27,6 +29,7 @@ unquoted-unquotable (b ∷ bs) plain =
       | false ↦ λ plain. refl
     ] plain
 
+-- `unquoted-quoted`, by whether the line is quoted
 unquoted-by_cases : (line : List ℕ) (quotable : Bool) → quotable ≡ is_quotable line → unquoted (cond quotable (62 ∷ line) line) ≡ line
 unquoted-by_cases line true is = rw (← is) refl
 unquoted-by_cases line false is = unquoted-unquotable line (sym is)
@@ -35,6 +38,7 @@ unquoted-by_cases line false is = unquoted-unquotable line (sym is)
 pub unquoted-quoted : (line : List ℕ) → unquoted (quoted line) ≡ line
 unquoted-quoted line = unquoted-by_cases line (is_quotable line) refl
 
+-- a line that is not quoted begins no message
 begins_message-unquotable : (line : List ℕ) → is_quotable line ≡ false → begins_message line ≡ false
 begins_message-unquotable [] plain = refl
 begins_message-unquotable (b ∷ bs) plain = first_byte (b == 62) refl plain
@@ -43,6 +47,7 @@ begins_message-unquotable (b ∷ bs) plain = first_byte (b == 62) refl plain
     first_byte true is plain = rw (eqb-true b 62 (sym is)) refl
     first_byte false is plain = plain
 
+-- `begins_message-quoted`, by whether the line is quoted
 begins_message-by_cases : (line : List ℕ) (quotable : Bool) → quotable ≡ is_quotable line → begins_message (cond quotable (62 ∷ line) line) ≡ false
 begins_message-by_cases line true is = refl
 begins_message-by_cases line false is = begins_message-unquotable line (sym is)
@@ -51,23 +56,26 @@ begins_message-by_cases line false is = begins_message-unquotable line (sym is)
 pub begins_message-quoted : (line : List ℕ) → begins_message (quoted line) ≡ false
 begins_message-quoted line = begins_message-by_cases line (is_quotable line) refl
 
+-- a text is read as it was before it was quoted
 map-unquoted-quoted : (text : List (List ℕ)) → map unquoted (map quoted text) ≡ text
 map-unquoted-quoted [] = refl
 map-unquoted-quoted (line ∷ text) =
     ap (λ first. first ∷ map unquoted (map quoted text)) (unquoted-quoted line) ∙ ap (λ rest. line ∷ rest) (map-unquoted-quoted text)
 
--- ---- the lines of a message behind its first
-
+-- the lines of a message behind its first
 abbrev body_of : List (List ℕ) → List (List ℕ)
 body_of text = map quoted text ++ [] ∷ []
 
+-- they give the text back
 text_of-body_of : (text : List (List ℕ)) → text_of (body_of text) ≡ text
 text_of-body_of text = ap (λ lines. map unquoted lines) (without_last_empty-push_empty (map quoted text)) ∙ map-unquoted-quoted text
 
+-- no line of a quoted text begins a message
 quoted-is_message : (text : List (List ℕ)) → All (λ line. begins_message line ≡ false) (map quoted text)
 quoted-is_message [] = All-nil (λ line. begins_message line ≡ false)
 quoted-is_message (line ∷ text) = All-cons (λ line. begins_message line ≡ false) (quoted line) (map quoted text) (begins_message-quoted line) (quoted-is_message text)
 
+-- nor does the empty line behind it
 body_of-is_message : (text : List (List ℕ)) → All (λ line. begins_message line ≡ false) (body_of text)
 body_of-is_message text = All-push (λ line. begins_message line ≡ false) (map quoted text) [] (quoted-is_message text) refl
 
@@ -79,6 +87,7 @@ split-messages from text (next ∷ texts) begins =
     slice_split_at begins_message (body_of text) from (body_of next ++ flat_map (message_of from) texts) (body_of-is_message text) begins
     ∙ ap (λ parts. body_of text ∷ parts) (split-messages from next texts begins)
 
+-- the messages give the texts back
 map-text_of-body_of : (texts : List (List (List ℕ))) → map text_of (map body_of texts) ≡ texts
 map-text_of-body_of [] = refl
 map-text_of-body_of (text ∷ texts) =
@@ -86,7 +95,8 @@ map-text_of-body_of (text ∷ texts) =
 
 -- ---- the lines of what is written
 
-strip-by_cases : (line : List ℕ) → HasNoReturnLast line → (return_last : Bool) → return_last ≡ (slice_index line (length line - 1) == 13) → cond return_last (take (length line - 1) line) line ≡ line
+-- `strip-none`, by whether a carriage return is the last byte
+strip-by_cases : (line : List ℕ) → EndsInNoReturn line → (return_last : Bool) → return_last ≡ (slice_index line (length line - 1) == 13) → cond return_last (take (length line - 1) line) line ≡ line
 strip-by_cases [] none true is = absurd cc
 strip-by_cases (b ∷ bs) none true is =
     let line = b ∷ bs in
@@ -97,7 +107,7 @@ strip-by_cases (b ∷ bs) none true is =
 strip-by_cases line none false is = refl
 
 -- a line that no carriage return ends is kept whole
-strip-none : (line : List ℕ) → HasNoReturnLast line → strip_carriage_return line ≡ line
+strip-none : (line : List ℕ) → EndsInNoReturn line → strip_carriage_return line ≡ line
 strip-none line none = strip-by_cases line none (slice_index line (length line - 1) == 13) refl
 
 -- a line with its line feed, and more behind it
@@ -105,41 +115,46 @@ lines-line : (line bytes : List ℕ) → IsLine line → lines ((line ++ 10 ∷ 
 lines-line line bytes is = ap lines (append_assoc line (10 ∷ []) bytes) ∙ lines-more line bytes (tests-from_IsLine line is)
 
 -- the lines of a file of lines
-lines-file_of : (all : List (List ℕ)) (bytes : List ℕ) → All IsLine all → All HasNoReturnLast all → lines (file_of all ++ bytes) ≡ all ++ lines bytes
+lines-file_of : (all : List (List ℕ)) (bytes : List ℕ) → All IsLine all → All EndsInNoReturn all → lines (file_of all ++ bytes) ≡ all ++ lines bytes
 lines-file_of [] bytes is none = refl
 lines-file_of (line ∷ all) bytes is none =
     ap lines (append_assoc (line ++ 10 ∷ []) (file_of all) bytes)
     ∙ lines-line line (file_of all ++ bytes) (All-head IsLine line all is)
-    ∙ ap (λ first. first ∷ lines (file_of all ++ bytes)) (strip-none line (All-head HasNoReturnLast line all none))
-    ∙ ap (λ rest. line ∷ rest) (lines-file_of all bytes (All-tail IsLine line all is) (All-tail HasNoReturnLast line all none))
+    ∙ ap (λ first. first ∷ lines (file_of all ++ bytes)) (strip-none line (All-head EndsInNoReturn line all none))
+    ∙ ap (λ rest. line ∷ rest) (lines-file_of all bytes (All-tail IsLine line all is) (All-tail EndsInNoReturn line all none))
 
 -- ---- quoted lines are lines
 
+-- a quoted line is a line
 IsLine-quote : (line : List ℕ) (quotable : Bool) → IsLine line → IsLine (cond quotable (62 ∷ line) line)
 IsLine-quote line true is = All-cons (λ b. b ≢ 10) 62 line (λ e. absurd (omega (arith, e))) is
 IsLine-quote line false is = is
 
-HasNoReturnLast-quote : (line : List ℕ) (quotable : Bool) → HasNoReturnLast line → HasNoReturnLast (cond quotable (62 ∷ line) line)
-HasNoReturnLast-quote line true none [] e = absurd cc
-HasNoReturnLast-quote line true none (c ∷ front) e = none front (ap (drop 1) e)
-HasNoReturnLast-quote line false none front e = none front e
+-- no carriage return ends a quoted line that ended in none
+EndsInNoReturn-quote : (line : List ℕ) (quotable : Bool) → EndsInNoReturn line → EndsInNoReturn (cond quotable (62 ∷ line) line)
+EndsInNoReturn-quote line true none [] e = absurd cc
+EndsInNoReturn-quote line true none (c ∷ front) e = none front (ap (drop 1) e)
+EndsInNoReturn-quote line false none front e = none front e
 
-HasNoReturnLast-empty : HasNoReturnLast []
-HasNoReturnLast-empty [] e = cc
-HasNoReturnLast-empty (b ∷ front) e = cc
+-- none ends the empty line
+EndsInNoReturn-empty : EndsInNoReturn []
+EndsInNoReturn-empty [] e = cc
+EndsInNoReturn-empty (b ∷ front) e = cc
 
+-- the lines of a message are lines
 IsLine-body_of : (text : List (List ℕ)) → All IsLine text → All IsLine (body_of text)
 IsLine-body_of [] is = All-cons IsLine [] [] (All-nil (λ b. b ≢ 10)) (All-nil IsLine)
 IsLine-body_of (line ∷ text) is =
     All-cons IsLine (quoted line) (body_of text) (IsLine-quote line (is_quotable line) (All-head IsLine line text is)) (IsLine-body_of text (All-tail IsLine line text is))
 
-HasNoReturnLast-body_of : (text : List (List ℕ)) → All HasNoReturnLast text → All HasNoReturnLast (body_of text)
-HasNoReturnLast-body_of [] none = All-cons HasNoReturnLast [] [] HasNoReturnLast-empty (All-nil HasNoReturnLast)
-HasNoReturnLast-body_of (line ∷ text) none =
-    All-cons HasNoReturnLast (quoted line) (body_of text) (HasNoReturnLast-quote line (is_quotable line) (All-head HasNoReturnLast line text none)) (HasNoReturnLast-body_of text (All-tail HasNoReturnLast line text none))
+-- and end in no carriage return
+EndsInNoReturn-body_of : (text : List (List ℕ)) → All EndsInNoReturn text → All EndsInNoReturn (body_of text)
+EndsInNoReturn-body_of [] none = All-cons EndsInNoReturn [] [] EndsInNoReturn-empty (All-nil EndsInNoReturn)
+EndsInNoReturn-body_of (line ∷ text) none =
+    All-cons EndsInNoReturn (quoted line) (body_of text) (EndsInNoReturn-quote line (is_quotable line) (All-head EndsInNoReturn line text none)) (EndsInNoReturn-body_of text (All-tail EndsInNoReturn line text none))
 
 -- the lines of a written mailbox; a carriage return that ends its `From ` line is dropped
-lines-written_of : (from : List ℕ) (texts : List (List (List ℕ))) → IsLine from → All (All IsLine) texts → All (All HasNoReturnLast) texts → lines (written_of from texts) ≡ flat_map (message_of (strip_carriage_return from)) texts
+lines-written_of : (from : List ℕ) (texts : List (List (List ℕ))) → IsLine from → All (All IsLine) texts → All (All EndsInNoReturn) texts → lines (written_of from texts) ≡ flat_map (message_of (strip_carriage_return from)) texts
 lines-written_of from [] line is none = refl
 lines-written_of from (text ∷ texts) line is none =
     let bytes = written_of from texts in
@@ -147,8 +162,8 @@ lines-written_of from (text ∷ texts) line is none =
     ap lines (append_assoc (from ++ 10 ∷ []) body bytes)
     ∙ lines-line from (body ++ bytes) line
     ∙ ap (λ rest. strip_carriage_return from ∷ rest)
-    (lines-file_of (body_of text) bytes (IsLine-body_of text (All-head (All IsLine) text texts is)) (HasNoReturnLast-body_of text (All-head (All HasNoReturnLast) text texts none))
-    ∙ ap (λ rest. body_of text ++ rest) (lines-written_of from texts line (All-tail (All IsLine) text texts is) (All-tail (All HasNoReturnLast) text texts none)))
+    (lines-file_of (body_of text) bytes (IsLine-body_of text (All-head (All IsLine) text texts is)) (EndsInNoReturn-body_of text (All-head (All EndsInNoReturn) text texts none))
+    ∙ ap (λ rest. body_of text ++ rest) (lines-written_of from texts line (All-tail (All IsLine) text texts is) (All-tail (All EndsInNoReturn) text texts none)))
 
 -- ---- the `From ` line
 
@@ -163,18 +178,20 @@ longer from begins last =
     (λ other. omega (arith, other, length_is))
     (cases_eq (length from - 1) 4)
 
+-- `begins_message-strip`, by whether a carriage return is the last byte
 begins_message-by_last : (from : List ℕ) → begins_message from ≡ true → (return_last : Bool) → return_last ≡ (slice_index from (length from - 1) == 13) → begins_message (cond return_last (take (length from - 1) from) from) ≡ true
 begins_message-by_last from begins true is =
     ap (λ front. bytes_eq from_bytes front) (take-take 5 (length from - 1) from (longer from begins (eqb-true _ 13 (sym is)))) ∙ begins
 begins_message-by_last from begins false is = begins
 
+-- a line that begins a message does so without its carriage return
 begins_message-strip : (from : List ℕ) → begins_message from ≡ true → begins_message (strip_carriage_return from) ≡ true
 begins_message-strip from begins = begins_message-by_last from begins (slice_index from (length from - 1) == 13) refl
 
 -- what is written is read back, where no line of the texts ends in a carriage return
-pub written_of-read_of : (from : List ℕ) (texts : List (List (List ℕ))) → begins_message from ≡ true → IsLine from → All (All IsLine) texts → All (All HasNoReturnLast) texts → read_of (written_of from texts) ≡ Ok texts
-written_of-read_of from [] begins line is none = refl
-written_of-read_of from (text ∷ texts) begins line is none =
+pub read_of-written_of : (from : List ℕ) (texts : List (List (List ℕ))) → begins_message from ≡ true → IsLine from → All (All IsLine) texts → All (All EndsInNoReturn) texts → read_of (written_of from texts) ≡ Ok texts
+read_of-written_of from [] begins line is none = refl
+read_of-written_of from (text ∷ texts) begins line is none =
     let first = strip_carriage_return from in
     let first_begins = begins_message-strip from begins in
     let rest = body_of text ++ flat_map (message_of first) texts in

@@ -1,4 +1,6 @@
--- Mailboxes: what a file in the mboxrd format holds, and how one is written.
+-- Mailboxes: what a file in the mboxrd format holds, and how one is written. `lines` is std's word for the lines of a
+-- text: a line feed ends a line, one carriage return directly before it is dropped, and what stands behind the last
+-- line feed is a line, if it is not empty.
 use Rattle.std.specs.Prelude.{◌≢◌, ℕ, ◌==◌, ◌++◌, Bool, true, false, nat_eq, List, [], ◌∷◌, map, drop, if◌then◌else◌, codes, Result, Ok, Err}
 use Rattle.std.specs.List.{starts_with, slice_split, flat_map}
 use Rattle.std.specs.Str.Lines.{lines}
@@ -9,7 +11,7 @@ use Rattle.mboxrd.specs.declared.error.MboxError.TheVariants.{NoFromLine, Memory
 abbrev pub begins_message : List ℕ → Bool
 begins_message line = starts_with nat_eq line (codes "From ")
 
--- any number of `>`, and then `From `
+-- any number of `>` (62), and then `From `
 abbrev pub is_quotable : List ℕ → Bool
 is_quotable [] = false
 is_quotable (b ∷ bs) = if b == 62 then is_quotable bs else begins_message (b ∷ bs)
@@ -46,7 +48,7 @@ are_messages (line ∷ lines) = begins_message line
 abbrev pub read_of : List ℕ → Result (List (List (List ℕ))) MboxError
 read_of bytes = if are_messages (lines bytes) then Ok (texts_of (lines bytes)) else Err NoFromLine
 
--- lines, each with a line feed behind it
+-- lines, each with a line feed (10) behind it
 abbrev pub file_of : List (List ℕ) → List ℕ
 file_of lines = flat_map (λ line. line ++ 10 ∷ []) lines
 
@@ -58,9 +60,9 @@ message_of from_line text = from_line ∷ map quoted text ++ [] ∷ []
 abbrev pub written_of : List ℕ → List (List (List ℕ)) → List ℕ
 written_of from_line texts = flat_map (λ text. file_of (message_of from_line text)) texts
 
--- a line that no carriage return ends
-abbrev pub HasNoReturnLast : List ℕ → Type 0
-HasNoReturnLast line = (front : List ℕ) → line ≢ front ++ 13 ∷ []
+-- a line that no carriage return (13) ends
+abbrev pub EndsInNoReturn : List ℕ → Type 0
+EndsInNoReturn line = (front : List ℕ) → line ≢ front ++ 13 ∷ []
 
 -- the fixed numbers of the errors
 abbrev pub error_number : MboxError → ℕ
