@@ -33,6 +33,7 @@ length-behind text end first =
     let found = position-Some is_line_feed text end 0 first in
     omega (arith, found.0, length-drop (end + 1) text)
 
+-- a place that is none is found by no test
 none_chosen : (b : Bool) (k : ℕ) → cond b (Some k) None ≡ None → b ≡ false
 none_chosen true k none = absurd (none-some k (sym none))
 none_chosen false k none = refl
@@ -42,6 +43,7 @@ none_passes : (p : ℕ → Bool) (xs : List ℕ) → position p xs ≡ None → 
 none_passes p xs none k d inside =
     fails_before_first p xs k d (omega (arith, inside, ltb-false _ _ (none_chosen (nat_lt (position_or_len p xs) (length xs)) (position_or_len p xs) none)))
 
+-- the part behind the last line feed is a line, if it is not empty
 one_part : (part : List ℕ) → 0 < length part → lines_of_parts (part ∷ []) ≡ part ∷ []
 one_part [] some = absurd (omega arith)
 one_part (b ∷ bs) some = grind (arith, nat_tests)

@@ -1,9 +1,9 @@
 -- What is known of a file while its lines are read.
-use Rattle.std.proofs.Common.{◌≡◌, ℕ, ◌+◌, List, [], ◌∷◌, ◌++◌, length, Option, Some, None, Ok, refl, sym, ap, ◌∙◌, arith, append_assoc, append-nil, length-append}
+use Rattle.std.proofs.Common.{◌≡◌, ℕ, ◌+◌, List, [], ◌∷◌, ◌++◌, length, Option, Some, None, refl, sym, ap, ◌∙◌, arith, append_assoc, length-append}
 use Rattle.std.specs.Option.{option_or, option_to_list}
 use Rattle.std.specs.List.{cons_option}
 use Rattle.std.proofs.lemmas.List.Elements.{filter_map-append}
-use Rattle.apop.specs.Accounts.{Account, row_of, accounts_in, fault_of, first_fault, unless_fault}
+use Rattle.apop.specs.Accounts.{Account, row_of, accounts_in, fault_of, first_fault}
 use Rattle.apop.specs.declared.error.AccountsError.{AccountsError}
 
 -- Of the lines `all` those before `rest` are read: there are `number` of them, without a fault, and they have these
@@ -15,10 +15,7 @@ pub record HasRead (all rest : List (List ℕ)) (accounts : List Account) (numbe
   pub accounts_are : accounts ≡ accounts_in before
   pub no_fault : first_fault [] all ≡ first_fault before rest
 
--- no line is read at first
-pub HasRead-nothing : (all : List (List ℕ)) → HasRead all all [] 0
-HasRead-nothing all = record { before = []; all_is = refl; number_is = refl; accounts_are = refl; no_fault = refl }
-
+-- an option before nothing, as a list
 cons_option-nil : (account : Option Account) → cons_option account [] ≡ option_to_list account
 cons_option-nil None = refl
 cons_option-nil (Some account) = refl
@@ -40,14 +37,3 @@ HasRead-more all line rest accounts number h none = record {
   accounts_are = rw h.accounts_are (rw (filter_map-append row_of h.before (line ∷ []), accounts_in-one line) refl);
   no_fault = h.no_fault ∙ ap (λ f. option_or f (first_fault (h.before ++ line ∷ []) rest)) (fault_is all line rest accounts number None h none);
 }
-
--- the line at fault is the first
-pub HasRead-fault : (all : List (List ℕ)) (line : List ℕ) (rest : List (List ℕ)) (accounts : List Account) (number : ℕ) (fault : AccountsError) → HasRead all (line ∷ rest) accounts number → fault_of (number + 1) accounts line ≡ Some fault → first_fault [] all ≡ Some fault
-HasRead-fault all line rest accounts number fault h is =
-    h.no_fault ∙ ap (λ f. option_or f (first_fault (h.before ++ line ∷ []) rest)) (fault_is all line rest accounts number (Some fault) h is)
-
--- all lines are read
-pub HasRead-all : (all : List (List ℕ)) (accounts : List Account) (number : ℕ) → HasRead all [] accounts number → unless_fault (first_fault [] all) (accounts_in all) ≡ Ok accounts
-HasRead-all all accounts number h =
-    let all_before : all ≡ h.before = h.all_is ∙ append-nil h.before in
-    rw h.no_fault (ap (λ xs. Ok xs) (ap accounts_in all_before ∙ sym h.accounts_are))

@@ -10,6 +10,7 @@ use Rattle.std.proofs.lemmas.Map.Text.{is_eq-slice_cmp}
 use Rattle.apop.specs.Accounts.{Account, has_account}
 use Rattle.apop.specs.Seen.{AreNamesOf}
 
+-- what is added here, or was there
 cond-or : (here there : Bool) → cond here true there ≡ (there || (here || false))
 cond-or true true = refl
 cond-or true false = refl

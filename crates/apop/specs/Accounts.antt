@@ -1,4 +1,6 @@
--- The accounts of a file: one a line, empty lines skipped.
+-- The accounts of a file: one a line, empty lines skipped. `lines` is std's word for the lines of a text: a line feed
+-- ends a line, one carriage return directly before it is dropped, and what stands behind the last line feed is a line,
+-- if it is not empty.
 use Rattle.std.specs.Prelude.{◌≢◌, ℕ, ◌+◌, ◌==◌, ◌&&◌, ◌||◌, ◌++◌, List, [], ◌∷◌, Bool, nat_le, length, take, drop, position, if◌then◌else◌, codes, Option, None, Some, option_and_then, Result, Ok, Err}
 use Rattle.std.specs.List.{list_all, list_any, filter_map, AllPairs}
 use Rattle.std.specs.Option.{option_map, option_or}

@@ -3,3 +3,4 @@ pub mod Accounts
 pub mod Table
 pub mod Seen
 pub mod Login
+pub mod Examples

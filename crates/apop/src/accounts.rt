@@ -4,8 +4,6 @@ ghost use Rattle.apop.specs.Accounts.{has_account, name_of, HaveDifferentNames};
 ghost use Rattle.apop.specs.Login.{passes, passes_apop};
 
 use crate::credential::{Credential, credential_of};
-use crate::digest::digest_of;
-use crate::method::Method;
 use crate::row::Row;
 use crate::timestamp::Stamp;
 use ballot::{Items, Memory};
@@ -65,7 +63,7 @@ impl<A: Allocator + Copy> Accounts<A> {
         ensures value { result.now ≡ map name_of self.now }
         ensures different { HaveDifferentNames self.now }
     {
-        &self.names
+        self.names.as_slice()
     }
 
     /// Whether a user logs in by PASS with this secret (RFC 1939 section 7): not where no account has the name.
@@ -73,9 +71,7 @@ impl<A: Allocator + Copy> Accounts<A> {
         ensures { result ≡ passes self.now name.now secret.now }
     {
         match credential_of(&self.names, &self.credentials, name) {
-            Some(credential) => {
-                credential.method == Method::Pass && credential.secret.get() == secret
-            }
+            Some(credential) => credential.admits_secret(secret),
             None => false,
         }
     }
@@ -86,10 +82,7 @@ impl<A: Allocator + Copy> Accounts<A> {
         ensures { result ≡ passes_apop self.now name.now stamp.now digest.now }
     {
         match credential_of(&self.names, &self.credentials, name) {
-            Some(credential) => {
-                credential.method == Method::Apop
-                    && digest_of(stamp, credential.secret.get()).as_slice() == digest
-            }
+            Some(credential) => credential.admits_digest(stamp, digest),
             None => false,
         }
     }

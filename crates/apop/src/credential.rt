@@ -1,9 +1,11 @@
 //! What accounts log in by.
 ghost use Rattle.std.specs.Prelude.{◌≡◌, length, None, Some, MatchOption};
-ghost use Rattle.apop.specs.Login.{account_named};
+ghost use Rattle.apop.specs.Login as spec;
 ghost use Rattle.apop.specs.Table.{account_with, accounts_with};
 
+use crate::digest::digest_of;
 use crate::method::Method;
+use crate::timestamp::Stamp;
 use ballot::Items;
 use maildrop::Name;
 use std::alloc::{Allocator, Global};
@@ -15,6 +17,28 @@ pub(crate) struct Credential<A: Allocator = Global> {
     pub(crate) secret: Items<u8, A>,
 }
 
+impl<A: Allocator> Credential<A> {
+    /// Whether PASS with this secret succeeds.
+    pub(crate) fn admits_secret(&self, secret: &[u8]) -> bool
+        ensures { result ≡ spec.admits_secret self.now.method self.now.secret secret.now }
+    {
+        match self.method {
+            Method::Pass => self.secret.get() == secret,
+            Method::Apop => false,
+        }
+    }
+
+    /// Whether APOP with this digest succeeds after a greeting with this timestamp.
+    pub(crate) fn admits_digest(&self, stamp: &Stamp, digest: &[u8]) -> bool
+        ensures { result ≡ spec.admits_digest self.now.method self.now.secret stamp.now digest.now }
+    {
+        match self.method {
+            Method::Pass => false,
+            Method::Apop => digest_of(stamp, self.secret.get()).as_slice() == digest,
+        }
+    }
+}
+
 /// The credential of a name, if it is one of the names. It takes time in proportion to their number.
 pub(crate) fn credential_of<'a, A: Allocator>(
     names: &[Name],
@@ -22,7 +46,7 @@ pub(crate) fn credential_of<'a, A: Allocator>(
     name: &Name,
 ) -> Option<&'a Credential<A>>
     requires { length names.now ≡ length credentials.now }
-    ensures { let account = account_named (accounts_with names.now credentials.now) name.now in
+    ensures { let account = spec.account_named (accounts_with names.now credentials.now) name.now in
         MatchOption result (account ≡ None) (λ credential. account ≡ Some (account_with name.now credential.now)) }
 {
     for i in 0..names.len() {

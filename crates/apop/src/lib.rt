@@ -18,3 +18,6 @@ pub use error::AccountsError;
 pub use method::Method;
 pub use stamping::stamp;
 pub use timestamp::Stamp;
+
+#[cfg(test)]
+mod tests;

@@ -1,5 +1,5 @@
 //! The timestamp of a greeting.
-ghost use Rattle.std.specs.Prelude.{◌≡◌, ◌↔◌, IsSome, IfSome};
+ghost use Rattle.std.specs.Prelude.{◌≡◌, ◌≤◌, ◌↔◌, length, IsSome, IfSome};
 ghost use Rattle.apop.specs.Stamp.{IsNonce, IsHost, are_runs as runs_of, is_letter_or_digit as letter_or_digit, may_follow as follows};
 
 use arrayvec::ArrayVec;
@@ -49,6 +49,15 @@ fn are_runs(hyphens: bool, text: &[u8]) -> bool
     is_letter_or_digit(before)
 }
 
+fn array_of<const N: usize>(bytes: &[u8]) -> ArrayVec<u8, N>
+    requires { length bytes.now ≤ N }
+    ensures { result.items ≡ bytes.now }
+{
+    let mut array = ArrayVec::new();
+    array.try_extend_from_slice(bytes).unwrap();
+    array
+}
+
 impl Stamp {
     pub(crate) fn new(nonce: &[u8], host: &[u8]) -> Option<Self>
         ensures valid { IsSome result ↔ (IsNonce nonce.now × IsHost host.now) }
@@ -61,13 +70,9 @@ impl Stamp {
         {
             return None;
         }
-        let mut own_nonce = ArrayVec::new();
-        own_nonce.try_extend_from_slice(nonce).unwrap();
-        let mut own_host = ArrayVec::new();
-        own_host.try_extend_from_slice(host).unwrap();
         Some(Stamp {
-            nonce: own_nonce,
-            host: own_host,
+            nonce: array_of(nonce),
+            host: array_of(host),
         })
     }
 
@@ -84,10 +89,9 @@ impl Stamp {
     pub fn copy(&self) -> Self
         ensures { result ≡ self.now }
     {
-        let mut nonce = ArrayVec::new();
-        nonce.try_extend_from_slice(&self.nonce).unwrap();
-        let mut host = ArrayVec::new();
-        host.try_extend_from_slice(&self.host).unwrap();
-        Stamp { nonce, host }
+        Stamp {
+            nonce: array_of(&self.nonce),
+            host: array_of(&self.host),
+        }
     }
 }

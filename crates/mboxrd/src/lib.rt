@@ -1,0 +1,17 @@
+//! Mailboxes in the mboxrd format: texts one after another in a file, each behind a line `From ..`.
+#![tactic(auto)]
+
+mod error;
+mod laws;
+mod line;
+mod quoting;
+mod reading;
+mod writing;
+
+pub use error::MboxError;
+pub use laws::written_texts_are_read_back;
+pub use reading::read;
+pub use writing::write;
+
+#[cfg(test)]
+mod tests;
