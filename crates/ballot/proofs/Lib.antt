@@ -1,0 +1,4 @@
+pub mod Order
+pub mod Count
+pub mod Member
+pub mod Nodes

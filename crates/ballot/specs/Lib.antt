@@ -1,0 +1,4 @@
+pub mod Lists
+pub mod Ballots
+pub mod Nodes
+pub mod PValues
