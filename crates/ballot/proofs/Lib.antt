@@ -2,3 +2,4 @@ pub mod Order
 pub mod Count
 pub mod Member
 pub mod Nodes
+pub mod Sends

@@ -2,3 +2,4 @@ pub mod Lists
 pub mod Ballots
 pub mod Nodes
 pub mod PValues
+pub mod Sends

@@ -1,7 +1,9 @@
 ghost use Rattle.std.specs.Prelude.{◌==◌};
 ghost use Rattle.std.proofs.Common.{rules};
 
-use super::{Ballot, Cluster, Items, Memory, Message, NodeId, NodeSet, PValue, Payload, Slot};
+use super::{
+    Ballot, Cluster, Items, Memory, Message, NodeId, NodeSet, PValue, Payload, Sends, Slot,
+};
 use std::test::Fail;
 
 /// A command that is a number.
@@ -202,5 +204,21 @@ fn a_copy_of_a_message_is_of_its_kind(rt: HostRuntime) -> Result<(), Fail> {
         Message::P2a(pvalue) => assert_eq!(rt; pvalue.command, Number { value: 50 }),
         _ => return Err("another kind")?,
     }
+    Ok(())
+}
+
+#[test]
+fn a_broadcast_goes_to_each_node_in_order(rt: HostRuntime) -> Result<(), Fail> {
+    let cluster = Cluster::new(3).ok_or("no cluster")?;
+    let mut sends: Sends<Number> = Items::new(rt.alloc());
+    sends.broadcast(cluster, Message::P2a(pvalue(0, 2, 1, 40)?))?;
+    let mut told = Vec::new(rt.alloc());
+    for outgoing in sends.get() {
+        match &outgoing.message {
+            Message::P2a(pvalue) => told.push((outgoing.to.get(), pvalue.command.value))?,
+            _ => return Err("another kind")?,
+        }
+    }
+    assert_eq!(rt; told.as_slice(), [(1, 40), (2, 40), (3, 40)].as_slice());
     Ok(())
 }

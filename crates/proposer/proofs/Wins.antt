@@ -17,7 +17,7 @@ use Rattle.proposer.specs.Scouts.{ScoutState, scout_counts, scout_hears, scout_s
 use Rattle.proposer.specs.Commanders.{CommanderState, commander_counts, commander_hears, commander_step, with_vote, verdict_of, IsCounted as IsVoted}
 
 -- ballots of which neither is below the other
-same_height : (a b : BallotNumber) → below a b ≡ false → below b a ≡ false → b ≡ a
+pub same_height : (a b : BallotNumber) → below a b ≡ false → below b a ≡ false → b ≡ a
 same_height a b p q =
     ⊎_elim (λ e. e) (λ l. absurd (below_not_most b a l (below-false b a q))) (most_or_below b a (below-false a b p))
 

@@ -1,7 +1,8 @@
 -- Commanders.
 use Rattle.std.specs.Prelude.{◌≡◌, refl, ℕ, List, [], ◌∷◌, true, false, Some, ◌==◌, ◌&&◌, if◌then◌else◌}
 use Rattle.ballot.specs.Ballots.{BallotNumber, same_ballot}
-use Rattle.ballot.specs.Nodes.{in_cluster, is_among}
+use Rattle.ballot.specs.Lists.{IsIn}
+use Rattle.ballot.specs.Nodes.{in_cluster, is_among, AreDistinct}
 use Rattle.ballot.specs.declared.message.Vote.{Vote}
 use Rattle.proposer.specs.declared.commander.Verdict.{Verdict}
 use Rattle.proposer.specs.declared.commander.Verdict.TheVariants.{Waiting, Decided, Preempted, Stale}
@@ -40,6 +41,19 @@ verdict_of Ignores = Stale
 abbrev pub IsCounted : ℕ → CommanderState → ℕ → Vote → Type 0
 IsCounted size k from v =
     (in_cluster size from ≡ true) × (v.asked ≡ k.ballot) × (v.slot ≡ k.slot) × (v.ballot ≡ k.ballot) × (is_among from k.heard ≡ false)
+
+-- the commander after these answers, each with its sender
+abbrev pub commander_after : Pending CommanderState → List (ℕ × Vote) → Pending CommanderState
+commander_after commander [] = commander
+commander_after commander (a ∷ answers) =
+    commander_after (record { size = commander.size; state = left_by commander.state (commander_step commander a.0 a.1) }) answers
+
+-- a commander for b and the slot that waits after these answers: each acceptor that it counts voted for both in one of them
+pub record HasVotes (answers : List (ℕ × Vote)) (size : ℕ) (b : BallotNumber) (slot : ℕ) (k : CommanderState) : Type 0 where
+  pub mine : k.ballot ≡ b
+  pub its_slot : k.slot ≡ slot
+  pub distinct : AreDistinct size k.heard
+  pub voted : (node : ℕ) → is_among node k.heard ≡ true → (v : Vote) × IsIn (node, v) answers × (v.asked ≡ b) × (v.slot ≡ slot) × (v.ballot ≡ b)
 
 -- a worked example: of the votes of 2, 2, 3 and 1 of three nodes the third decides
 abbrev opening : Pending CommanderState

@@ -1,13 +1,14 @@
 -- Scouts. Commands are compared by eq.
 use Rattle.std.specs.Prelude.{◌≡◌, refl, ℕ, List, [], ◌∷◌, Bool, true, false, Some, if◌then◌else◌}
 use Rattle.ballot.specs.Ballots.{BallotNumber, same_ballot}
-use Rattle.ballot.specs.Nodes.{in_cluster, is_among}
+use Rattle.ballot.specs.Lists.{IsIn}
+use Rattle.ballot.specs.Nodes.{in_cluster, is_among, AreDistinct}
 use Rattle.ballot.specs.PValues.{joined}
 use Rattle.ballot.specs.declared.pvalue.PValue.{PValue}
 use Rattle.ballot.specs.declared.message.Promise.{Promise}
 use Rattle.proposer.specs.declared.scout.Progress.{Progress}
 use Rattle.proposer.specs.declared.scout.Progress.TheVariants.{Waiting, Adopted, Preempted, Stale}
-use Rattle.proposer.specs.Quorums.{Pending, Step, Waits, Wins, Yields, Ignores, while_waiting, answered, is_quorum}
+use Rattle.proposer.specs.Quorums.{Pending, Step, Waits, Wins, Yields, Ignores, while_waiting, left_by, answered, is_quorum}
 
 -- a scout that waits: its ballot, the acceptors counted, the last first, and the union of what they have accepted
 pub record ScoutState (C : Type 0) : Type 0 where
@@ -48,6 +49,19 @@ module _ {C A : Type 0} where
   abbrev pub IsCounted : ℕ → ScoutState C → ℕ → Promise C A → Type 0
   IsCounted size s from p =
       (in_cluster size from ≡ true) × (p.asked ≡ s.ballot) × (p.ballot ≡ s.ballot) × (is_among from s.heard ≡ false)
+
+  -- the scout after these answers, each with its sender
+  abbrev pub scout_after : (C → C → Bool) → Pending (ScoutState C) → List (ℕ × Promise C A) → Pending (ScoutState C)
+  scout_after eq scout [] = scout
+  scout_after eq scout (a ∷ answers) = scout_after eq (record { size = scout.size; state = left_by scout.state (scout_step eq scout a.0 a.1) }) answers
+
+  -- a scout for b that waits after these answers: each acceptor that it counts promised b in one of them, and it holds what they told
+  pub record HasPromises (answers : List (ℕ × Promise C A)) (size : ℕ) (b : BallotNumber) (s : ScoutState C) : Type 0 where
+    pub mine : s.ballot ≡ b
+    pub distinct : AreDistinct size s.heard
+    pub promised : (node : ℕ) → is_among node s.heard ≡ true →
+      (p : Promise C A) × IsIn (node, p) answers × (p.asked ≡ b) × (p.ballot ≡ b) × ((x : PValue C) → IsIn x p.accepted → IsIn x s.pvalues)
+    pub told : (x : PValue C) → IsIn x s.pvalues → (node : ℕ) × (p : Promise C A) × IsIn (node, p) answers × IsIn x p.accepted
 
 -- a worked example: the scout for (0, 1) yields to (0, 2)
 yields : {C A : Type 0} (eq : C → C → Bool) →

@@ -3,9 +3,11 @@
 #![tactic(auto)]
 
 mod commander;
+mod laws;
 mod scout;
 
 pub use commander::{Commander, Verdict};
+pub use laws::{commanders_count_votes, scouts_count_promises};
 pub use scout::{Progress, Scout};
 
 #[cfg(test)]
