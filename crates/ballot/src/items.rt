@@ -1,9 +1,10 @@
 //! Lists whose contracts speak of their items alone.
-ghost use Rattle.std.specs.Prelude.{◌≡◌, ℕ, List, [], ◌∷◌, ◌++◌, length, IsTrue, ◌↔◌, OnOk, OnErr, IfOk};
+ghost use Rattle.std.specs.Prelude.{◌≡◌, ℕ, List, [], ◌∷◌, ◌++◌, length, take, IsTrue, ◌↔◌, OnOk, OnErr, IfOk};
 
 use crate::memory::Memory;
 use std::alloc::{Allocator, Global};
 use std::marker::Model;
+use std::mem;
 
 /// A list, the first item first. Two are equal where their items are, whatever room each has.
 #[derive(Drop)]
@@ -76,6 +77,29 @@ impl<T: Drop, A: Allocator> Items<T, A> {
     {
         self.items.push(item)?;
         Ok(())
+    }
+
+    /// Keeps the first items, as many as this, and drops the others.
+    pub fn truncate(&mut self, len: usize)
+        ensures { self.new ≡ take len self.old }
+    {
+        self.items.truncate(len);
+    }
+}
+
+impl<T, A: Allocator + Copy> Items<T, A> {
+    /// Takes the items out, and leaves the empty list. Takes no memory.
+    pub fn take(&mut self) -> Self
+        ensures value { result ≡ self.old }
+        ensures empty { self.new ≡ [] }
+    {
+        let none = Items::new(self.allocator());
+        mem::replace(self, none)
+    }
+
+    /// The allocator that keeps the items.
+    pub(crate) fn allocator(&self) -> A {
+        *self.items.allocator()
     }
 }
 

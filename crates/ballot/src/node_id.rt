@@ -32,6 +32,14 @@ impl NodeId {
         }
     }
 
+    /// The node of this number, which is 1 to 9.
+    pub(crate) fn numbered(number: u8) -> Self
+        requires { (1 ≤ number) × (number ≤ 9) }
+        ensures { result ≡ number }
+    {
+        NodeId { number }
+    }
+
     /// The number that the node was made of.
     pub fn get(self) -> u8
         ensures value { result ≡ self }

@@ -1,0 +1,5 @@
+pub mod Lists
+pub mod Ballots
+pub mod Nodes
+pub mod PValues
+pub mod Sends

@@ -1,0 +1,86 @@
+//! Pvalues: what an acceptor accepts.
+ghost use Rattle.std.specs.Prelude.{◌≡◌, IfOk, OnOk, OnErr};
+ghost use Rattle.ballot.specs.PValues.{same_pvalue, has_pvalue, added, joined};
+
+use crate::ballot::Ballot;
+use crate::items::Items;
+use crate::memory::Memory;
+use crate::payload::Payload;
+use crate::slot::Slot;
+use std::alloc::Allocator;
+
+/// A command that the leader of a ballot proposed for a slot.
+#[derive(Drop)]
+pub struct PValue<C> {
+    pub ballot: Ballot,
+    pub slot: Slot,
+    pub command: C,
+}
+
+impl<C: Payload> PValue<C> {
+    /// The same pvalue again.
+    pub fn copy(&self) -> Result<Self, Memory>
+        ensures { IfOk result (λ pvalue. pvalue ≡ self.now) }
+    {
+        let command = self.command.copy()?;
+        Ok(PValue {
+            ballot: self.ballot,
+            slot: self.slot,
+            command,
+        })
+    }
+
+    /// Whether the pvalues are equal.
+    pub fn same(&self, other: &Self) -> bool
+        ensures { result ≡ same_pvalue C.equal self.now other.now }
+    {
+        self.ballot == other.ballot && self.slot == other.slot && self.command.same(&other.command)
+    }
+}
+
+impl<C: Payload, A: Allocator + Copy> Items<PValue<C>, A> {
+    /// The same pvalues again, kept by the same allocator.
+    pub fn copy(&self) -> Result<Self, Memory>
+        ensures { IfOk result (λ copies. copies ≡ self.now) }
+    {
+        let mut copies = Vec::with_capacity(self.allocator(), self.len())?;
+        for pvalue in self.get() {
+            copies.push(pvalue.copy()?)?;
+        }
+        Ok(Items::from_vec(copies))
+    }
+
+    /// Whether one of the pvalues equals this one.
+    pub fn has(&self, pvalue: &PValue<C>) -> bool
+        ensures { result ≡ has_pvalue C.equal pvalue.now self.now }
+    {
+        self.get().iter().any(|other| pvalue.same(other))
+    }
+
+    /// Adds the pvalue at the end, unless an equal one is there. After `Memory` the list is as it
+    /// was.
+    pub fn add(&mut self, pvalue: PValue<C>) -> Result<(), Memory>
+        ensures ok { OnOk result (self.new ≡ added C.equal self.old pvalue) }
+        ensures err { OnErr result (self.new ≡ self.old) }
+    {
+        if self.has(&pvalue) {
+            return Ok(());
+        }
+        self.push(pvalue)
+    }
+
+    /// Adds each of the others in turn. After `Memory` the list is as it was.
+    pub fn join(&mut self, others: Items<PValue<C>, A>) -> Result<(), Memory>
+        ensures ok { OnOk result (self.new ≡ joined C.equal self.old others) }
+        ensures err { OnErr result (self.new ≡ self.old) }
+    {
+        let before = self.len();
+        for pvalue in others.into_vec() {
+            if self.add(pvalue).is_err() {
+                self.truncate(before);
+                return Err(Memory);
+            }
+        }
+        Ok(())
+    }
+}

@@ -1,0 +1,2 @@
+pub mod Wins
+pub mod Heard

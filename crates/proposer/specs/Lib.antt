@@ -1,0 +1,3 @@
+pub mod Quorums
+pub mod Scouts
+pub mod Commanders

@@ -1,0 +1,71 @@
+-- Scouts. Commands are compared by eq.
+use Rattle.std.specs.Prelude.{◌≡◌, refl, ℕ, List, [], ◌∷◌, Bool, true, false, Some, if◌then◌else◌}
+use Rattle.ballot.specs.Ballots.{BallotNumber, same_ballot}
+use Rattle.ballot.specs.Lists.{IsIn}
+use Rattle.ballot.specs.Nodes.{in_cluster, is_among, AreDistinct}
+use Rattle.ballot.specs.PValues.{joined}
+use Rattle.ballot.specs.declared.pvalue.PValue.{PValue}
+use Rattle.ballot.specs.declared.message.Promise.{Promise}
+use Rattle.proposer.specs.declared.scout.Progress.{Progress}
+use Rattle.proposer.specs.declared.scout.Progress.TheVariants.{Waiting, Adopted, Preempted, Stale}
+use Rattle.proposer.specs.Quorums.{Pending, Step, Waits, Wins, Yields, Ignores, while_waiting, left_by, answered, is_quorum}
+
+-- a scout that waits: its ballot, the acceptors counted, the last first, and the union of what they have accepted
+pub record ScoutState (C : Type 0) : Type 0 where
+  pub ballot : BallotNumber
+  pub heard : List ℕ
+  pub pvalues : List (PValue C)
+
+module _ {C : Type 0} where
+  abbrev pub new_scout : BallotNumber → ScoutState C
+  new_scout b = record { ballot = b; heard = []; pvalues = [] }
+
+  abbrev pub scout_counts : ℕ → ScoutState C → Step (ScoutState C) (List (PValue C))
+  scout_counts size s = if is_quorum size s.heard then Wins s.pvalues else Waits s
+
+module _ {C A : Type 0} where
+  -- the scout that has counted one acceptor more
+  abbrev pub with_promise : (C → C → Bool) → ScoutState C → ℕ → Promise C A → ScoutState C
+  with_promise eq s from p = record { ballot = s.ballot; heard = from ∷ s.heard; pvalues = joined eq s.pvalues p.accepted }
+
+  abbrev pub scout_hears : (C → C → Bool) → ℕ → ScoutState C → ℕ → Promise C A → Step (ScoutState C) (List (PValue C))
+  scout_hears eq size s from p =
+      answered size s.ballot s.heard from (same_ballot p.asked s.ballot) p.ballot (scout_counts size (with_promise eq s from p))
+
+  abbrev pub scout_step : (C → C → Bool) → Pending (ScoutState C) → ℕ → Promise C A → Step (ScoutState C) (List (PValue C))
+  scout_step eq scout from p = while_waiting scout.state (λ s. scout_hears eq scout.size s from p)
+
+  abbrev pub progress_of : Step (ScoutState C) (List (PValue C)) → Progress C A
+  progress_of (Waits s) = Waiting
+  progress_of (Wins ps) = Adopted ps
+  progress_of (Yields b) = Preempted b
+  progress_of Ignores = Stale
+
+  abbrev pub is_adopted : Progress C A → Bool
+  is_adopted (Adopted ps) = true
+  is_adopted _ = false
+
+  -- the answer is counted: an acceptor of the cluster that wasn't counted answers the scout's ballot
+  abbrev pub IsCounted : ℕ → ScoutState C → ℕ → Promise C A → Type 0
+  IsCounted size s from p =
+      (in_cluster size from ≡ true) × (p.asked ≡ s.ballot) × (p.ballot ≡ s.ballot) × (is_among from s.heard ≡ false)
+
+  -- the scout after these answers, each with its sender
+  abbrev pub scout_after : (C → C → Bool) → Pending (ScoutState C) → List (ℕ × Promise C A) → Pending (ScoutState C)
+  scout_after eq scout [] = scout
+  scout_after eq scout (a ∷ answers) = scout_after eq (record { size = scout.size; state = left_by scout.state (scout_step eq scout a.0 a.1) }) answers
+
+  -- a scout for b that waits after these answers: each acceptor that it counts promised b in one of them, and it holds what they told
+  pub record HasPromises (answers : List (ℕ × Promise C A)) (size : ℕ) (b : BallotNumber) (s : ScoutState C) : Type 0 where
+    pub mine : s.ballot ≡ b
+    pub distinct : AreDistinct size s.heard
+    pub promised : (node : ℕ) → is_among node s.heard ≡ true →
+      (p : Promise C A) × IsIn (node, p) answers × (p.asked ≡ b) × (p.ballot ≡ b) × ((x : PValue C) → IsIn x p.accepted → IsIn x s.pvalues)
+    pub told : (x : PValue C) → IsIn x s.pvalues → (node : ℕ) × (p : Promise C A) × IsIn (node, p) answers × IsIn x p.accepted
+
+-- a worked example: the scout for (0, 1) yields to (0, 2)
+yields : {C A : Type 0} (eq : C → C → Bool) →
+    progress_of {A = A} (scout_step eq (record { size = 3; state = Some (new_scout (record { round = 0; leader = 1 })) }) 2
+    (let p : Promise C A = record { asked = record { round = 0; leader = 1 }; ballot = record { round = 0; leader = 2 }; accepted = [] } in p))
+    ≡ Preempted (record { round = 0; leader = 2 })
+yields eq = refl

@@ -1,0 +1,14 @@
+//! Scouts and commanders of Multi-Paxos: each waits for the answers of more than half of the
+//! acceptors, and ends at a higher ballot.
+#![tactic(auto)]
+
+mod commander;
+mod laws;
+mod scout;
+
+pub use commander::{Commander, Verdict};
+pub use laws::{commanders_count_votes, scouts_count_promises};
+pub use scout::{Progress, Scout};
+
+#[cfg(test)]
+mod tests;
