@@ -5,3 +5,4 @@ pub mod Tops
 pub mod Streams
 pub mod Feeding
 pub mod FirstLines
+pub mod WireForms
