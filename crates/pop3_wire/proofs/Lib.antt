@@ -6,3 +6,4 @@ pub mod Streams
 pub mod Feeding
 pub mod FirstLines
 pub mod WireForms
+pub mod Rows
