@@ -23,3 +23,6 @@ pub use reply::Reply;
 pub use stuffing::stuffed;
 pub use unstuffing::unstuffed;
 pub use verb::{Keyword, LineFault, Verb};
+
+#[cfg(test)]
+mod tests;
