@@ -5,3 +5,5 @@ pub mod Tops
 pub mod Streams
 pub mod Feeding
 pub mod FirstLines
+pub mod WireForms
+pub mod Rows

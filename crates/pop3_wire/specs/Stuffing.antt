@@ -1,11 +1,20 @@
 -- Texts on the wire (RFC 1939 section 3, multi-line responses).
-use Rattle.std.specs.Prelude.{ℕ, ◌==◌, List, [], ◌∷◌, ◌++◌, codes, take, if◌then◌else◌}
+use Rattle.std.specs.Prelude.{ℕ, ◌==◌, Bool, false, List, [], ◌∷◌, ◌++◌, codes, take, Option, None, Some, if◌then◌else◌}
 use Rattle.std.specs.List.{flat_map}
 
--- one dot more in front of a line that begins with a dot
+abbrev pub begins_with_dot : List ℕ → Bool
+begins_with_dot [] = false
+begins_with_dot (b ∷ bytes) = b == 46
+
+-- a line that begins with a dot has one more in front
 abbrev pub stuffed_line : List ℕ → List ℕ
-stuffed_line [] = []
-stuffed_line (b ∷ bytes) = if b == 46 then 46 ∷ b ∷ bytes else b ∷ bytes
+stuffed_line line = if begins_with_dot line then 46 ∷ line else line
+
+-- the line that is stuffed so, if there is one
+abbrev pub unstuffed_line : List ℕ → Option (List ℕ)
+unstuffed_line [] = Some []
+unstuffed_line (b ∷ bytes) =
+    if b == 46 then (if begins_with_dot bytes then Some bytes else None) else Some (b ∷ bytes)
 
 abbrev pub wire_line : List ℕ → List ℕ
 wire_line line = stuffed_line line ++ codes "\r\n"

@@ -10,6 +10,7 @@ mod parsing;
 mod reply;
 mod reply_text;
 mod stuffing;
+mod unstuffing;
 mod verb;
 mod writing;
 
@@ -20,4 +21,8 @@ pub use listed::{Identified, Listed};
 pub use parsing::parse;
 pub use reply::Reply;
 pub use stuffing::stuffed;
+pub use unstuffing::unstuffed;
 pub use verb::{Keyword, LineFault, Verb};
+
+#[cfg(test)]
+mod tests;

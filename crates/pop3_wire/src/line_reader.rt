@@ -1,5 +1,5 @@
 //! Lines out of a stream that comes in pieces.
-ghost use Rattle.std.specs.Prelude.{◌≡◌, ℕ, List, [], ◌∷◌, ◌++◌, take, MatchOption, IfNone};
+ghost use Rattle.std.specs.Prelude.{◌≡◌, ◌<◌, ◌≤◌, ℕ, List, [], ◌∷◌, ◌++◌, length, take, MatchOption, IfNone};
 ghost use Rattle.pop3_wire.specs.Reader as spec;
 ghost use Rattle.pop3_wire.specs.Reader.{Open};
 
@@ -52,6 +52,8 @@ impl LineReader {
     /// finished line waits.
     pub fn feed(&mut self, piece: &[u8]) -> usize
         ensures taken { result ≡ spec.taken self.old piece.now }
+        ensures range { result ≤ length piece.now }
+        ensures progress { 0 < length piece.now → spec.waiting self.old ≡ None → 0 < result }
         ensures kept { self.new ≡ spec.fed self.old piece.now }
         ensures lines { (more : List ℕ) → spec.lines_after self.old (take result piece.now ++ more) ≡ spec.lines_after self.new more }
         ensures stream { (bytes : List ℕ) → self.old ≡ spec.kept_after bytes → self.new ≡ spec.kept_after (bytes ++ take result piece.now) }

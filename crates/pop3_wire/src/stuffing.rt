@@ -1,18 +1,18 @@
 //! Texts on the wire (RFC 1939 section 3, multi-line responses).
 ghost use Rattle.std.specs.Prelude.{◌≡◌, ◌++◌, ◌+◌, length, IfOk, OnOk, if◌then◌else◌};
-ghost use Rattle.pop3_wire.specs.Stuffing.{stuffed_line, wire_line, wire_form, top_lines};
+ghost use Rattle.pop3_wire.specs.Stuffing.{begins_with_dot as starts_with_dot, stuffed_line, wire_line, wire_form, top_lines};
 
 use crate::writing::{put, with_room};
 use ballot::{Items, Memory};
 use maildrop::Text;
 use std::alloc::Allocator;
 
-fn has_dot(line: &[u8]) -> bool
-    ensures { length (stuffed_line line.now) ≡ (if result then length line.now + 1 else length line.now) }
+pub(crate) fn begins_with_dot(line: &[u8]) -> bool
+    ensures { result ≡ starts_with_dot line.now }
 {
     match line {
-        [b'.', ..] => true,
-        _ => false,
+        [first, ..] => *first == b'.',
+        [] => false,
     }
 }
 
@@ -23,7 +23,7 @@ pub(crate) fn wire_octets<A: Allocator>(lines: &[Items<u8, A>]) -> u128
     let mut octets = 3;
     for line in lines {
         octets += line.len() as u128 + 2;
-        if has_dot(line.get()) {
+        if begins_with_dot(line.get()) {
             octets += 1;
         }
     }
@@ -33,13 +33,11 @@ pub(crate) fn wire_octets<A: Allocator>(lines: &[Items<u8, A>]) -> u128
 fn put_stuffed<A: Allocator>(text: &mut Vec<u8, A>, line: &[u8]) -> Result<(), Memory>
     ensures { OnOk result (text.new.items ≡ text.old.items ++ stuffed_line line.now) }
 {
-    match line {
-        [b'.', ..] => {
-            put(text, b".")?;
-            put(text, line)
-        }
-        _ => put(text, line),
+    if !begins_with_dot(line) {
+        return put(text, line);
     }
+    put(text, b".")?;
+    put(text, line)
 }
 
 fn put_line<A: Allocator>(text: &mut Vec<u8, A>, line: &[u8]) -> Result<(), Memory>

@@ -1,0 +1,74 @@
+//! Texts off the wire (RFC 1939 section 3, multi-line responses).
+ghost use Rattle.std.specs.Prelude.{◌≡◌, ℕ, List, ◌∷◌, ◌++◌, All, MatchOption, IfOk, IfSome, IsSomeAnd};
+ghost use Rattle.std.specs.Option.{option_copied};
+ghost use Rattle.maildrop.specs.Text.{IsLine};
+ghost use Rattle.pop3_wire.specs.Stuffing.{unstuffed_line as line_of_stuffed, wire_form};
+
+use crate::stuffing::begins_with_dot;
+use ballot::{Items, Memory};
+use maildrop::Text;
+use memchr::memchr;
+use std::alloc::Allocator;
+
+/// The bytes up to the first line end, if that is CR and LF, and what stands behind it.
+fn cut_at_line_end(bytes: &[u8]) -> Option<(&[u8], &[u8])>
+    ensures { MatchOption result ((line rest : List ℕ) → IsLine line → ¬ (bytes.now ≡ line ++ 13 ∷ 10 ∷ rest)) (λ cut.
+        IsLine cut.0.now × (bytes.now ≡ cut.0.now ++ 13 ∷ 10 ∷ cut.1.now)) }
+{
+    let Some(end) = memchr(b'\n', bytes) else {
+        return None;
+    };
+    match bytes[..end].split_last() {
+        None => None,
+        Some((last, line)) => {
+            if *last == b'\r' {
+                Some((line, &bytes[end + 1..]))
+            } else {
+                None
+            }
+        }
+    }
+}
+
+/// The line that is stuffed so, if there is one.
+fn unstuffed_line(line: &[u8]) -> Option<&[u8]>
+    ensures { option_copied result ≡ line_of_stuffed line.now }
+{
+    match line {
+        [b'.', line @ ..] => {
+            if begins_with_dot(line) {
+                Some(line)
+            } else {
+                None
+            }
+        }
+        _ => Some(line),
+    }
+}
+
+/// The text whose wire form the bytes begin with, and what stands behind it; none where they begin with no wire form.
+pub fn unstuffed<A: Allocator + Copy>(
+    alloc: A,
+    bytes: &[u8],
+) -> Result<Option<(Text<A>, &[u8])>, Memory>
+    ensures found { IfOk result (λ found. IfSome found (λ f. All IsLine f.0 × (bytes.now ≡ wire_form f.0 ++ f.1.now))) }
+    ensures every { (text : List (List ℕ)) (rest : List ℕ) → All IsLine text → bytes.now ≡ wire_form text ++ rest → IfOk result (λ found. IsSomeAnd found (λ f. (f.0 ≡ text) × (f.1.now ≡ rest))) }
+{
+    let mut lines = Vec::new(alloc);
+    let mut left = bytes;
+    while let Some((line, rest)) = cut_at_line_end(left) {
+        match unstuffed_line(line) {
+            Some(line) => lines.push(Items::from_bytes(alloc, line)?)?,
+            // A dot in front of another byte than a dot is no stuffed line, and a dot alone ends the text.
+            None if line.len() > 1 => return Ok(None),
+            None => {
+                return match Text::new(alloc, lines)? {
+                    Some(text) => Ok(Some((text, rest))),
+                    None => Ok(None),
+                };
+            }
+        }
+        left = rest;
+    }
+    Ok(None)
+}
