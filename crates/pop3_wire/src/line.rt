@@ -4,7 +4,7 @@ ghost use Rattle.pop3_wire.specs.Lines.{line_of as line_in, without_cr as withou
 
 use crate::line_bytes::LineBytes;
 
-/// A line of a client, or one that was longer than 512 octets, its end included (RFC 2449 section 4).
+/// A line of a client, or one that was longer than 512 octets, its end included.
 #[derive(Drop)]
 pub enum Line {
     Whole(LineBytes),
@@ -28,8 +28,5 @@ pub(crate) fn line_of(bytes: &[u8]) -> Line
     if bytes.len() > 511 {
         return Line::TooLong;
     }
-    match LineBytes::new(without_cr(bytes)) {
-        Some(line) => Line::Whole(line),
-        None => Line::TooLong,
-    }
+    Line::Whole(LineBytes::copied(without_cr(bytes)))
 }

@@ -22,11 +22,20 @@ impl LineBytes {
         ensures valid { IsSome result ↔ (length bytes.now ≤ 511) }
         ensures value { IfSome result (λ line. line ≡ bytes.now) }
     {
-        let mut own = ArrayVec::new();
-        match own.try_extend_from_slice(bytes) {
-            Ok(()) => Some(LineBytes { bytes: own }),
-            Err(_) => None,
+        if bytes.len() > 511 {
+            return None;
         }
+        Some(LineBytes::copied(bytes))
+    }
+
+    /// These bytes, which are at most 511.
+    pub(crate) fn copied(bytes: &[u8]) -> Self
+        requires { length bytes.now ≤ 511 }
+        ensures { result ≡ bytes.now }
+    {
+        let mut own = ArrayVec::new();
+        own.try_extend_from_slice(bytes).unwrap();
+        LineBytes { bytes: own }
     }
 
     /// The bytes that the line was made of.

@@ -22,7 +22,7 @@ pub enum Keyword {
     Quit,
 }
 
-/// A command with its arguments (RFC 1939 sections 5 and 7).
+/// A command with its arguments (RFC 1939 sections 4 to 7).
 #[derive(Drop)]
 pub enum Verb {
     User(Name),
