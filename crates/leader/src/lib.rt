@@ -1,0 +1,15 @@
+//! Leaders of Multi-Paxos: a leader campaigns for a ballot, and once it has it, asks the acceptors
+//! to accept its proposals.
+#![tactic(auto)]
+
+mod adopting;
+mod laws;
+mod leader;
+mod phases;
+mod state;
+
+pub use laws::{leaders_ask_for_their_proposals, one_command_for_a_slot, proposals_stay};
+pub use leader::Leader;
+
+#[cfg(test)]
+mod tests;
