@@ -49,11 +49,6 @@ impl<T, A: Allocator> Items<T, A> {
         &self.items
     }
 
-    /// The allocator that keeps the list.
-    pub fn allocator(&self) -> &A {
-        self.items.allocator()
-    }
-
     /// How many items there are.
     pub fn len(&self) -> usize
         ensures { result ≡ length self.now }

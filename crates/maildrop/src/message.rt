@@ -2,7 +2,7 @@
 ghost use Rattle.std.specs.Prelude.{◌≡◌, IfOk};
 
 use crate::text::Text;
-use ballot::{Items, Memory};
+use ballot::Memory;
 use std::alloc::{Allocator, Global};
 
 /// A message in a maildrop, with the unique id that it keeps (RFC 1939 section 7, UIDL).
@@ -28,13 +28,13 @@ impl<A: Allocator + Copy> Message<A> {
 pub(crate) fn copies_of<A: Allocator + Copy>(
     alloc: A,
     messages: &[Message<A>],
-) -> Result<Items<Message<A>, A>, Memory>
-    ensures { IfOk result (λ copies. copies ≡ messages.now) }
+) -> Result<Vec<Message<A>, A>, Memory>
+    ensures { IfOk result (λ copies. copies.items ≡ messages.now) }
 {
     let mut copies = Vec::with_capacity(alloc, messages.len())?;
     for message in messages {
         let copy = message.copy()?;
         copies.push_reserved(copy);
     }
-    Ok(Items::from_vec(copies))
+    Ok(copies)
 }

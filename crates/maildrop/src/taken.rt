@@ -3,7 +3,7 @@ ghost use Rattle.std.specs.Prelude.{◌≡◌, List, IfOk};
 ghost use Rattle.maildrop.specs.Taken.{AreTaken};
 
 use crate::message::{Message, copies_of};
-use ballot::{Items, Memory};
+use ballot::Memory;
 use std::alloc::{Allocator, Global};
 use std::marker::Model;
 
@@ -11,7 +11,7 @@ use std::marker::Model;
 /// ascend strictly, there are at most 999,999,999 messages, and together they have at most 2^40 octets.
 #[derive(Drop)]
 pub struct Taken<A: Allocator = Global> {
-    messages: Items<Message<A>, A>,
+    messages: Vec<Message<A>, A>,
 }
 
 impl<A: Allocator> Model for Taken<A> {
@@ -21,15 +21,15 @@ impl<A: Allocator> Model for Taken<A> {
 
     ghost Value = { List (Message A) };
 
-    ghost view = { λ t. t.messages };
+    ghost view = { λ t. t.messages.items };
 
-    ghost invariant = { λ t. AreTaken t.messages };
+    ghost invariant = { λ t. AreTaken t.messages.items };
 }
 
 impl<A: Allocator + Copy> Taken<A> {
-    pub(crate) fn new(messages: Items<Message<A>, A>) -> Self
-        requires { AreTaken messages }
-        ensures { result ≡ messages }
+    pub(crate) fn new(messages: Vec<Message<A>, A>) -> Self
+        requires { AreTaken messages.items }
+        ensures { result ≡ messages.items }
     {
         Taken { messages }
     }
@@ -40,7 +40,7 @@ impl<A: Allocator + Copy> Taken<A> {
     {
         let alloc = *self.messages.allocator();
         Ok(Taken {
-            messages: copies_of(alloc, self.messages.get())?,
+            messages: copies_of(alloc, &self.messages)?,
         })
     }
 
@@ -49,6 +49,6 @@ impl<A: Allocator + Copy> Taken<A> {
         ensures value { result.now ≡ self.now }
         ensures taken { AreTaken self.now }
     {
-        self.messages.get()
+        &self.messages
     }
 }
