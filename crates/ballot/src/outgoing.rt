@@ -30,7 +30,10 @@ impl<C: Payload, A: Allocator + Copy> Items<Outgoing<C, A>, A> {
         let before = self.len();
         let last = cluster.get();
         for below in 0..last - 1 {
-            if self.add_copy(NodeId::numbered(below + 1), &message).is_err() {
+            if self
+                .add_copy(NodeId::numbered(below + 1), &message)
+                .is_err()
+            {
                 self.truncate(before);
                 return Err(Memory);
             }

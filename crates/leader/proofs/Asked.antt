@@ -84,7 +84,7 @@ module _ {C : Type 0} (A : Type 0) where
 
   -- a call that asks for nothing
   quietly : (l : LeaderState C) (move : Move C A) → (Rising l.proposals → Rising move.leader.proposals) →
-    ((p : PValue C) → Asks move.sends p → ⊥) → ((p : PValue C) → Past l p → Past move.leader p) → Kept l move
+      ((p : PValue C) → Asks move.sends p → ⊥) → ((p : PValue C) → Past l p → Past move.leader p) → Kept l move
   quietly l move rising none keeps = record { rising = rising; asks = λ r p h. absurd (none p h); keeps = keeps }
 
   stays_kept : (l : LeaderState C) → Kept l (stays l)
@@ -104,7 +104,7 @@ module _ {C : Type 0} (A : Type 0) where
 
   -- Propose
   keeps_proposal_kept : (l : LeaderState C) (phase : Phase C) (s : ℕ) (c : C) → at_slot s l.proposals ≡ None →
-    Kept (in_phase l phase) (keeps_proposal (in_phase l phase) s c phase)
+      Kept (in_phase l phase) (keeps_proposal (in_phase l phase) s c phase)
   keeps_proposal_kept l Passive s c free =
       quietly _ _ (rising_with s c l.proposals) (λ p h. h.1) (λ p h. ⊎_elim (λ b. inl b) (λ (x : (p.ballot ≡ l.ballot) × ⊥). absurd x.1) h)
   keeps_proposal_kept l (Scouting scout) s c free =
@@ -203,7 +203,7 @@ module _ {C : Type 0} (A : Type 0) where
 
   -- P1b
   on_progress_kept : (l : LeaderState C) (before scout : Pending (ScoutState C)) (progress : Progress C A) →
-    Kept (in_phase l (Scouting before)) (on_progress (in_phase l (Scouting scout)) progress)
+      Kept (in_phase l (Scouting before)) (on_progress (in_phase l (Scouting scout)) progress)
   on_progress_kept l before scout Waiting =
       quietly _ _ (λ r. r) (λ p h. h.1) (λ p h. ⊎_elim (λ b. inl b) (λ (x : (p.ballot ≡ l.ballot) × ⊥). absurd x.1) h)
   on_progress_kept l before scout (Adopted ps) = let k = adopts_kept l scout ps in record { rising = k.rising; asks = k.asks; keeps = k.keeps }
@@ -223,7 +223,7 @@ module _ {C : Type 0} (A : Type 0) where
   not_in_decision l s (Some c) p h = not_decision l.size s c p h
 
   on_verdict_kept : (l : LeaderState C) (before ks : List (ℕ × Pending CommanderState)) (s : ℕ) (verdict : Verdict) →
-    Kept (in_phase l (Active before)) (on_verdict (in_phase l (Active before)) ks s verdict)
+      Kept (in_phase l (Active before)) (on_verdict (in_phase l (Active before)) ks s verdict)
   on_verdict_kept l before ks s vote.Waiting = quietly _ _ (λ r. r) (λ p h. h.1) (λ p h. h)
   on_verdict_kept l before ks s Decided = quietly _ _ (λ r. r) (not_in_decision (in_phase l (Active before)) s (at_slot s l.proposals)) (λ p h. h)
   on_verdict_kept l before ks s (vote.Preempted b) = let k = preempted_kept (in_phase l (Active ks)) b in record { rising = k.rising; asks = k.asks; keeps = k.keeps }
@@ -322,17 +322,17 @@ module _ {C : Type 0} (A : Type 0) where
           }
 
   pub asked_of : (eq : C → C → Bool) (me size : ℕ) (before : List (Call C A)) (call : Call C A) (p : PValue C) →
-    Asks (called eq (all_called eq (new_leader me size) before).leader call).sends p → IsAsked (called eq (all_called eq (new_leader me size) before).leader call).leader p
+      Asks (called eq (all_called eq (new_leader me size) before).leader call).sends p → IsAsked (called eq (all_called eq (new_leader me size) before).leader call).leader p
   asked_of eq me size before call p h =
       (called_kept eq (all_called eq (new_leader me size) before).leader call).asks ((all_ran eq (new_leader me size) before).rising tt) p h
 
   pub proposal_stays : (eq : C → C → Bool) (l : LeaderState C) (call : Call C A) (s : ℕ) (c : C) →
-    phase_is_active l.phase ≡ true → phase_is_active (called eq l call).leader.phase ≡ true → (called eq l call).leader.ballot ≡ l.ballot →
-    at_slot s l.proposals ≡ Some c → at_slot s (called eq l call).leader.proposals ≡ Some c
+      phase_is_active l.phase ≡ true → phase_is_active (called eq l call).leader.phase ≡ true → (called eq l call).leader.ballot ≡ l.ballot →
+      at_slot s l.proposals ≡ Some c → at_slot s (called eq l call).leader.proposals ≡ Some c
   proposal_stays eq l call s c before after same at =
       let p : PValue C = record { ballot = l.ballot; slot = s; command = c } in
       stands_active (called eq l call).leader p ((called_kept eq l call).keeps p (asked_stands l p (refl, before, at))) (sym same) after
 
   pub asked_once : (eq : C → C → Bool) (me size : ℕ) (calls : List (Call C A)) (p q : PValue C) →
-    Asks (all_called eq (new_leader me size) calls).sends p → Asks (all_called eq (new_leader me size) calls).sends q → p.ballot ≡ q.ballot → p.slot ≡ q.slot → p.command ≡ q.command
+      Asks (all_called eq (new_leader me size) calls).sends p → Asks (all_called eq (new_leader me size) calls).sends q → p.ballot ≡ q.ballot → p.slot ≡ q.slot → p.command ≡ q.command
   asked_once eq me size calls p q = (all_ran eq (new_leader me size) calls).once tt p q

@@ -37,7 +37,7 @@ module _ {X : Type 0} where
       go (nat_cmp s e.0) refl (at_slot-with_slot s x es)
     where
       go : (o : Ordering) → nat_cmp s e.0 ≡ o → at_slot s (with_slot s x es) ≡ Some x →
-        at_slot s (match_ordering o ((s, x) ∷ e ∷ es) ((e.0, x) ∷ es) (e ∷ with_slot s x es)) ≡ Some x
+          at_slot s (match_ordering o ((s, x) ∷ e ∷ es) ((e.0, x) ∷ es) (e ∷ with_slot s x es)) ≡ Some x
       go Less q h = rw (same_slot s) refl
       go Equal q h = rw q refl
       go Greater q h = rw q h
@@ -49,7 +49,7 @@ module _ {X : Type 0} where
       go (nat_cmp s e.0) (ranked s e.0 (nat_cmp s e.0) refl) (at_slot-with_other s t x es ne)
     where
       go : (o : Ordering) → MatchOrdering o (s < e.0) (s ≡ e.0) (e.0 < s) → at_slot t (with_slot s x es) ≡ at_slot t es →
-        at_slot t (match_ordering o ((s, x) ∷ e ∷ es) ((e.0, x) ∷ es) (e ∷ with_slot s x es)) ≡ at_slot t (e ∷ es)
+          at_slot t (match_ordering o ((s, x) ∷ e ∷ es) ((e.0, x) ∷ es) (e ∷ with_slot s x es)) ≡ at_slot t (e ∷ es)
       go Less q h = rw (other_slot s t ne) refl
       go Equal q h = let no : is_eq (nat_cmp t e.0) ≡ false = other_slot e.0 t (λ p. ne (p ∙ sym q)) in rw no refl
       go Greater q h = ap (λ o. cond (is_eq (nat_cmp t e.0)) (Some e.1) o) h

@@ -105,7 +105,11 @@ impl<C: Payload, A: Allocator + Copy> Leader<C, A> {
     /// Adopts these pvalues, if a scout for this ballot runs: for each of their slots the command of
     /// the highest ballot, the first at a tie, replaces the proposal. The leader is active, and asks
     /// the acceptors to accept each proposal, in slot order.
-    pub fn adopted(&mut self, ballot: Ballot, pvalues: Items<PValue<C>, A>) -> Result<Sends<C, A>, Memory>
+    pub fn adopted(
+        &mut self,
+        ballot: Ballot,
+        pvalues: Items<PValue<C>, A>,
+    ) -> Result<Sends<C, A>, Memory>
         ensures leader { OnOk result (self.new ≡ option_map (λ l. (adopted {A = A} l ballot pvalues).leader) self.old) }
         ensures sends { (l : LeaderState C) → self.old ≡ Some l → IfOk result (λ sends. sends ≡ (adopted l ballot pvalues).sends) }
         ensures spent { self.old ≡ None → IsErr result }

@@ -144,9 +144,7 @@ fn decide<C: Payload, A: Allocator + Copy>(
 }
 
 /// Asks again for what was asked and isn't answered.
-pub fn tick<C: Payload, A: Allocator + Copy>(
-    state: &State<C, A>,
-) -> Result<Sends<C, A>, Memory>
+pub fn tick<C: Payload, A: Allocator + Copy>(state: &State<C, A>) -> Result<Sends<C, A>, Memory>
     ensures { IfOk result (λ sends. sends ≡ (ticked (state_of state.now)).sends) }
 {
     match &state.doing {
@@ -161,9 +159,7 @@ pub fn tick<C: Payload, A: Allocator + Copy>(
 }
 
 /// Asks again for the proposal of each commander.
-fn ask_again<C: Payload, A: Allocator + Copy>(
-    state: &State<C, A>,
-) -> Result<Sends<C, A>, Memory>
+fn ask_again<C: Payload, A: Allocator + Copy>(state: &State<C, A>) -> Result<Sends<C, A>, Memory>
     ensures { IfOk result (λ sends. sends ≡ p2as_again (state_of state.now) state.now.commanders.entries) }
 {
     let mut sends = Items::new(state.alloc);

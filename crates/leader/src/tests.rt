@@ -130,9 +130,21 @@ fn what_was_accepted_replaces_the_proposal(rt: HostRuntime) -> Result<(), Fail> 
 fn a_leader_leads_until_a_higher_ballot(rt: HostRuntime) -> Result<(), Fail> {
     let mut leader = leader_of_three(&rt, 1)?;
     assert!(rt; are_sent(&rt, &leader.campaign()?, &[(1, 0, 1, 0, 0)])?);
-    assert!(rt; are_sent(&rt, &leader.adopted(ballot(0, 2)?, Items::new(rt.alloc()))?, &[])?);
+    assert!(rt;
+        are_sent(
+            &rt,
+            &leader.adopted(ballot(0, 2)?, Items::new(rt.alloc()))?,
+            &[]
+        )?
+    );
     assert!(rt; !leader.is_active());
-    assert!(rt; are_sent(&rt, &leader.adopted(ballot(0, 1)?, Items::new(rt.alloc()))?, &[])?);
+    assert!(rt;
+        are_sent(
+            &rt,
+            &leader.adopted(ballot(0, 1)?, Items::new(rt.alloc()))?,
+            &[]
+        )?
+    );
     assert!(rt; leader.is_active());
     let asked = leader.propose(slot(1)?, Number { value: 40 })?;
     assert!(rt; are_sent(&rt, &asked, &[(2, 0, 1, 1, 40)])?);
@@ -146,9 +158,7 @@ fn a_leader_leads_until_a_higher_ballot(rt: HostRuntime) -> Result<(), Fail> {
 }
 
 #[test]
-fn the_highest_ballot_of_a_slot_counts_and_the_first_at_a_tie(
-    rt: HostRuntime,
-) -> Result<(), Fail> {
+fn the_highest_ballot_of_a_slot_counts_and_the_first_at_a_tie(rt: HostRuntime) -> Result<(), Fail> {
     let mut leader = leader_of_three(&rt, 3)?;
     let mine = ballot(0, 3)?;
     let _ = leader.campaign()?;

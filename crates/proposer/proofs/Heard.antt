@@ -19,12 +19,12 @@ use Rattle.proposer.proofs.Wins.{Counts, same_height}
 
 -- what waits after an answer that changes something has counted it
 answered_waits : {S R : Type 0} (size : ℕ) (mine : BallotNumber) (heard : List ℕ) (from : ℕ) (fits : Bool) (b : BallotNumber) (counted : Step S R) (s : S) →
-  answered size mine heard from fits b counted ≡ Waits s → Counts size mine heard from fits b × (counted ≡ Waits s)
+    answered size mine heard from fits b counted ≡ Waits s → Counts size mine heard from fits b × (counted ≡ Waits s)
 answered_waits {S} {R} size mine heard from fits b counted s =
     go (in_cluster size from && fits) (below mine b) (below b mine) (is_among from heard) refl refl refl refl
   where
     go : (t u v w : Bool) → (in_cluster size from && fits) ≡ t → below mine b ≡ u → below b mine ≡ v → is_among from heard ≡ w →
-      ◌≡◌ {A = Step S R} (cond (not t) Ignores (cond u (Yields b) (cond (v || w) Ignores counted))) (Waits s) → Counts size mine heard from fits b × (counted ≡ Waits s)
+        ◌≡◌ {A = Step S R} (cond (not t) Ignores (cond u (Yields b) (cond (v || w) Ignores counted))) (Waits s) → Counts size mine heard from fits b × (counted ≡ Waits s)
     go false u v w p q r x e = absurd (cc)
     go true true v w p q r x e = absurd (cc)
     go true false true w p q r x e = absurd (cc)
@@ -50,7 +50,7 @@ module _ {C A : Type 0} (eq : C → C → Bool) (law : IsEquality eq) (size : �
       }
 
   one_promise : (answers : List (ℕ × Promise C A)) (s : ScoutState C) (from : ℕ) (p : Promise C A) → HasPromises answers size b s →
-    Counts size s.ballot s.heard from (same_ballot p.asked s.ballot) p.ballot → HasPromises (answers ++ (from, p) ∷ []) size b (with_promise eq s from p)
+      Counts size s.ballot s.heard from (same_ballot p.asked s.ballot) p.ballot → HasPromises (answers ++ (from, p) ∷ []) size b (with_promise eq s from p)
   one_promise answers s from p h c =
       record {
         mine = h.mine;
@@ -68,7 +68,7 @@ module _ {C A : Type 0} (eq : C → C → Bool) (law : IsEquality eq) (size : �
       }
 
   next_promise : (answers : List (ℕ × Promise C A)) (s : ScoutState C) (from : ℕ) (p : Promise C A) → HasPromises answers size b s →
-    (t : ScoutState C) → left_by (Some s) (scout_hears eq size s from p) ≡ Some t → HasPromises (answers ++ (from, p) ∷ []) size b t
+      (t : ScoutState C) → left_by (Some s) (scout_hears eq size s from p) ≡ Some t → HasPromises (answers ++ (from, p) ∷ []) size b t
   next_promise answers s from p h t =
       go (scout_hears eq size s from p) refl
     where
@@ -83,14 +83,14 @@ module _ {C A : Type 0} (eq : C → C → Bool) (law : IsEquality eq) (size : �
       go Ignores e q = let same : s ≡ t = cc in subst (HasPromises (answers ++ (from, p) ∷ []) size b) same (more_promises answers (from, p) s h)
 
   all_promises : (before answers : List (ℕ × Promise C A)) (old : Option (ScoutState C)) → ((s : ScoutState C) → old ≡ Some s → HasPromises before size b s) →
-    (t : ScoutState C) → (scout_after eq (record { size = size; state = old }) answers).state ≡ Some t → HasPromises (before ++ answers) size b t
+      (t : ScoutState C) → (scout_after eq (record { size = size; state = old }) answers).state ≡ Some t → HasPromises (before ++ answers) size b t
   all_promises before [] old h t e = subst (λ l. HasPromises l size b t) (sym (append-nil before)) (h t e)
   all_promises before (a ∷ answers) old h t e =
       subst (λ l. HasPromises l size b t) (append_assoc before (a ∷ []) answers)
       (all_promises (before ++ a ∷ []) answers (left_by old (while_waiting old (λ s. scout_hears eq size s a.0 a.1))) (one old h) t e)
     where
       one : (o : Option (ScoutState C)) → ((s : ScoutState C) → o ≡ Some s → HasPromises before size b s) →
-        (s : ScoutState C) → left_by o (while_waiting o (λ s. scout_hears eq size s a.0 a.1)) ≡ Some s → HasPromises (before ++ a ∷ []) size b s
+          (s : ScoutState C) → left_by o (while_waiting o (λ s. scout_hears eq size s a.0 a.1)) ≡ Some s → HasPromises (before ++ a ∷ []) size b s
       one None k s q = absurd (cc)
       one (Some u) k s q = next_promise before u a.0 a.1 (k u refl) s q
 
@@ -112,7 +112,7 @@ module _ (size : ℕ) (b : BallotNumber) (slot : ℕ) where
       }
 
   one_vote : (answers : List (ℕ × Vote)) (k : CommanderState) (from : ℕ) (v : Vote) → HasVotes answers size b slot k →
-    Counts size k.ballot k.heard from (same_ballot v.asked k.ballot && eqb v.slot k.slot) v.ballot → HasVotes (answers ++ (from, v) ∷ []) size b slot (with_vote k from)
+      Counts size k.ballot k.heard from (same_ballot v.asked k.ballot && eqb v.slot k.slot) v.ballot → HasVotes (answers ++ (from, v) ∷ []) size b slot (with_vote k from)
   one_vote answers k from v h c =
       let fits = and_parts _ _ c.1 in
       record {
@@ -127,7 +127,7 @@ module _ (size : ℕ) (b : BallotNumber) (slot : ℕ) where
       }
 
   next_vote : (answers : List (ℕ × Vote)) (k : CommanderState) (from : ℕ) (v : Vote) → HasVotes answers size b slot k →
-    (t : CommanderState) → left_by (Some k) (commander_hears size k from v) ≡ Some t → HasVotes (answers ++ (from, v) ∷ []) size b slot t
+      (t : CommanderState) → left_by (Some k) (commander_hears size k from v) ≡ Some t → HasVotes (answers ++ (from, v) ∷ []) size b slot t
   next_vote answers k from v h t =
       go (commander_hears size k from v) refl
     where
@@ -142,14 +142,14 @@ module _ (size : ℕ) (b : BallotNumber) (slot : ℕ) where
       go Ignores e q = let same : k ≡ t = cc in subst (HasVotes (answers ++ (from, v) ∷ []) size b slot) same (more_votes answers (from, v) k h)
 
   all_votes : (before answers : List (ℕ × Vote)) (old : Option CommanderState) → ((k : CommanderState) → old ≡ Some k → HasVotes before size b slot k) →
-    (t : CommanderState) → (commander_after (record { size = size; state = old }) answers).state ≡ Some t → HasVotes (before ++ answers) size b slot t
+      (t : CommanderState) → (commander_after (record { size = size; state = old }) answers).state ≡ Some t → HasVotes (before ++ answers) size b slot t
   all_votes before [] old h t e = subst (λ l. HasVotes l size b slot t) (sym (append-nil before)) (h t e)
   all_votes before (a ∷ answers) old h t e =
       subst (λ l. HasVotes l size b slot t) (append_assoc before (a ∷ []) answers)
       (all_votes (before ++ a ∷ []) answers (left_by old (while_waiting old (λ k. commander_hears size k a.0 a.1))) (one old h) t e)
     where
       one : (o : Option CommanderState) → ((k : CommanderState) → o ≡ Some k → HasVotes before size b slot k) →
-        (k : CommanderState) → left_by o (while_waiting o (λ x. commander_hears size x a.0 a.1)) ≡ Some k → HasVotes (before ++ a ∷ []) size b slot k
+          (k : CommanderState) → left_by o (while_waiting o (λ x. commander_hears size x a.0 a.1)) ≡ Some k → HasVotes (before ++ a ∷ []) size b slot k
       one None h k q = absurd (cc)
       one (Some u) h k q = next_vote before u a.0 a.1 (h u refl) k q
 

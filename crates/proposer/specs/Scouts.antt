@@ -60,7 +60,7 @@ module _ {C A : Type 0} where
     pub mine : s.ballot ≡ b
     pub distinct : AreDistinct size s.heard
     pub promised : (node : ℕ) → is_among node s.heard ≡ true →
-      (p : Promise C A) × IsIn (node, p) answers × (p.asked ≡ b) × (p.ballot ≡ b) × ((x : PValue C) → IsIn x p.accepted → IsIn x s.pvalues)
+        (p : Promise C A) × IsIn (node, p) answers × (p.asked ≡ b) × (p.ballot ≡ b) × ((x : PValue C) → IsIn x p.accepted → IsIn x s.pvalues)
     pub told : (x : PValue C) → IsIn x s.pvalues → (node : ℕ) × (p : Promise C A) × IsIn (node, p) answers × IsIn x p.accepted
 
 -- a worked example: the scout for (0, 1) yields to (0, 2)

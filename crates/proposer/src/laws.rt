@@ -14,12 +14,10 @@ use std::alloc::Allocator;
 /// ballot among the answers, and holds what those promises told.
 pub fn scouts_count_promises<C: Payload, A: Allocator>()
     ensures { (size : ℕ) (b : BallotNumber) (answers : List (ℕ × Promise C A)) (s : ScoutState C) → (scout_after C.equal (record { size = size; state = Some (new_scout b) }) answers).state ≡ Some s → HasPromises answers size b s }
-{
-}
+{}
 
 /// A commander that waits has counted distinct acceptors of the cluster, each by a vote for its
 /// ballot and slot among the answers.
 pub fn commanders_count_votes()
     ensures { (size : ℕ) (b : BallotNumber) (slot : ℕ) (answers : List (ℕ × Vote)) (k : CommanderState) → (commander_after (record { size = size; state = Some (new_commander b slot) }) answers).state ≡ Some k → HasVotes answers size b slot k }
-{
-}
+{}
