@@ -1,17 +1,18 @@
 -- What is written is read back.
-use Rattle.std.proofs.Common.{◌≡◌, ◌≢◌, ℕ, ◌+◌, ◌-◌, ◌≤◌, ◌==◌, Bool, true, false, cond, slice_index, List, [], ◌∷◌, ◌++◌, length, min, take, get_or, map, drop, codes, Ok, Err, refl, sym, ap, ◌∙◌, arith, append_assoc, append-nil, ⊎_elim}
-use Rattle.std.specs.List.{All, slice_split, flat_map}
+use Rattle.std.proofs.Common.{◌≡◌, ◌≢◌, ℕ, ◌+◌, ◌-◌, ◌≤◌, ◌==◌, Bool, true, false, not, IsTrue, cond, slice_index, List, [], ◌∷◌, ◌++◌, length, min, take, get_or, map, drop, codes, Ok, Err, refl, sym, ap, ◌∙◌, arith, append_assoc, append-nil, ⊎_elim}
+use Rattle.std.specs.List.{All, list_all, slice_split, flat_map}
 use Rattle.std.specs.Str.Lines.{lines, strip_carriage_return}
-use Rattle.std.proofs.lemmas.Bool.{eqb-true, cases_eq}
+use Rattle.std.proofs.lemmas.Bool.{eqb-true, cases_eq, and_parts}
 use Rattle.std.specs.Str.{bytes_eq}
 use Rattle.std.proofs.lemmas.Slice.Eq.{bytes_eq-Decides}
 use Rattle.std.proofs.lemmas.List.{take_all, take_more, take-take, length-take, get_or-take}
 use Rattle.std.proofs.lemmas.List.Elements.{All-nil, All-cons, All-head, All-tail, All-push}
+use Rattle.std.proofs.lemmas.List.Sums.{AllPass-from_list_all}
 use Rattle.std.proofs.lemmas.List.Splits.{slice_split_at, slice_split_none, slice_split-cons_yes}
 use Rattle.maildrop.specs.Text.{IsLine}
-use Rattle.mboxrd.specs.Mailbox.{begins_message, is_quotable, quoted, unquoted, text_of, texts_of, are_messages, read_of, file_of, message_of, written_of, EndsInNoReturn}
+use Rattle.mboxrd.specs.Mailbox.{begins_message, is_from_line, is_quotable, quoted, unquoted, text_of, texts_of, are_messages, read_of, file_of, message_of, written_of, EndsInNoReturn}
 use Rattle.mboxrd.specs.declared.error.MboxError.TheVariants.{NoFromLine}
-use Rattle.mboxrd.proofs.LineLemmas.{lines-more, tests-from_IsLine}
+use Rattle.mboxrd.proofs.LineLemmas.{lines-more, tests-from_IsLine, IsLine-from_tests}
 use Rattle.mboxrd.proofs.ReadingLemmas.{without_last_empty-push_empty}
 
 -- what a line that begins a message starts with
@@ -201,3 +202,15 @@ read_of-written_of from (text ∷ texts) begins line is none =
     ap (λ lines. cond (are_messages lines) (Ok (texts_of lines)) (Err NoFromLine)) (lines-written_of from (text ∷ texts) line is none)
     ∙ ap (λ begins. cond begins (Ok (texts_of (first ∷ rest))) (Err NoFromLine)) first_begins
     ∙ ap (λ texts. Ok texts) cut
+
+-- a test whose opposite passes fails
+opposite : (b : Bool) → not b ≡ true → b ≡ false
+opposite true is = sym is
+opposite false is = refl
+
+-- the same for a `From ` line by its test
+pub read_of-written_of_tested : (from : List ℕ) (texts : List (List (List ℕ))) → IsTrue (is_from_line from) → All (All IsLine) texts → All (All EndsInNoReturn) texts → read_of (written_of from texts) ≡ Ok texts
+read_of-written_of_tested from texts is_from =
+    let parts = and_parts (begins_message from) (list_all (λ b. not (b == 10)) from) is_from in
+    let line = IsLine-from_tests from (λ k d inside. opposite (get_or from k d == 10) (AllPass-from_list_all (λ b. not (b == 10)) from parts.1 k d inside)) in
+    read_of-written_of from texts parts.0 line

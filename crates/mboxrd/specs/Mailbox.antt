@@ -1,8 +1,8 @@
 -- Mailboxes: what a file in the mboxrd format holds, and how one is written. `lines` is std's word for the lines of a
 -- text: a line feed ends a line, one carriage return directly before it is dropped, and what stands behind the last
 -- line feed is a line, if it is not empty.
-use Rattle.std.specs.Prelude.{◌≢◌, ℕ, ◌==◌, ◌++◌, Bool, true, false, nat_eq, List, [], ◌∷◌, map, drop, if◌then◌else◌, codes, Result, Ok, Err}
-use Rattle.std.specs.List.{starts_with, slice_split, flat_map}
+use Rattle.std.specs.Prelude.{◌≢◌, ℕ, ◌==◌, ◌++◌, Bool, true, false, not, ◌&&◌, nat_eq, List, [], ◌∷◌, map, drop, if◌then◌else◌, codes, Result, Ok, Err}
+use Rattle.std.specs.List.{starts_with, slice_split, flat_map, list_all}
 use Rattle.std.specs.Str.Lines.{lines}
 use Rattle.mboxrd.specs.declared.error.MboxError.{MboxError}
 use Rattle.mboxrd.specs.declared.error.MboxError.TheVariants.{NoFromLine, Memory}
@@ -10,6 +10,10 @@ use Rattle.mboxrd.specs.declared.error.MboxError.TheVariants.{NoFromLine, Memory
 -- a line `From ..`: it begins a message, and isn't part of it
 abbrev pub begins_message : List ℕ → Bool
 begins_message line = starts_with nat_eq line (codes "From ")
+
+-- a line that begins a message, and has no line feed (10)
+abbrev pub is_from_line : List ℕ → Bool
+is_from_line line = begins_message line && list_all (λ b. not (b == 10)) line
 
 -- any number of `>` (62), and then `From `
 abbrev pub is_quotable : List ℕ → Bool

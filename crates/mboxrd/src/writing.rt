@@ -1,7 +1,6 @@
 //! Writes mailboxes.
-ghost use Rattle.std.specs.Prelude.{◌≡◌, ◌++◌, ◌∷◌, [], true, IfOk, OnOk};
-ghost use Rattle.maildrop.specs.Text.{IsLine};
-ghost use Rattle.mboxrd.specs.Mailbox.{begins_message, file_of, message_of, quoted, written_of};
+ghost use Rattle.std.specs.Prelude.{◌≡◌, ◌++◌, ◌∷◌, [], IsTrue, IfOk, OnOk};
+ghost use Rattle.mboxrd.specs.Mailbox.{is_from_line, file_of, message_of, quoted, written_of};
 
 use crate::quoting::is_quotable;
 use ballot::Memory;
@@ -49,8 +48,7 @@ pub fn write<A: Allocator + Copy>(
     from_line: &[u8],
     texts: &[Text<A>],
 ) -> Result<Vec<u8, A>, Memory>
-    requires begins { begins_message from_line.now ≡ true }
-    requires line { IsLine from_line.now }
+    requires { IsTrue (is_from_line from_line.now) }
     ensures { IfOk result (λ bytes. bytes.items ≡ written_of from_line.now texts.now) }
 {
     let mut bytes = Vec::new(alloc);
