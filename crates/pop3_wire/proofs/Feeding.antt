@@ -1,5 +1,5 @@
 -- What a reader keeps, and the lines of the stream.
-use Rattle.std.proofs.Common.{◌≡◌, ◌<◌, ◌≤◌, ◌+◌, ◌-◌, ◌||◌, ℕ, zero, suc, add-one, Bool, true, false, if◌then◌else◌, ◌==◌, List, [], ◌∷◌, ◌++◌, length, take, drop, get_or, map, min, ap, refl, sym, arith, ◌∙◌, ◌⊎◌, inl, inr, append_assoc, append-nil, length-append, None, fold, length-take}
+use Rattle.std.proofs.Common.{◌≡◌, ◌<◌, ◌≤◌, ◌+◌, ℕ, zero, suc, true, false, ◌==◌, List, [], ◌∷◌, ◌++◌, length, take, drop, get_or, min, ap, refl, sym, arith, ◌∙◌, inl, inr, append_assoc, append-nil, length-append, None, fold, length-take}
 use Rattle.std.proofs.lemmas.List.{take_all, take_min, length-take-le, get_or-take, drop_more, take-append-drop}
 use Rattle.std.proofs.lemmas.List.Folds.{list_any-append}
 use Rattle.std.proofs.lemmas.Bool.{cases_Bool, or_parts, or_from}

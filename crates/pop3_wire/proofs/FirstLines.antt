@@ -1,5 +1,5 @@
 -- The first lines of replies are short.
-use Rattle.std.proofs.Common.{◌≡◌, ◌<◌, ◌≤◌, ◌+◌, ◌^◌, ℕ, List, [], ◌∷◌, ◌++◌, length, arith, length-append, append_assoc, codes, decimal, true, false, ◌==◌, inl, inr, refl, sym, subst}
+use Rattle.std.proofs.Common.{◌≡◌, ◌<◌, ◌≤◌, ◌+◌, ◌^◌, ℕ, List, [], ◌∷◌, ◌++◌, length, arith, length-append, append_assoc, codes, decimal, ◌==◌, inl, inr, refl, sym, subst}
 use Rattle.std.specs.List.{flat_map}
 use Rattle.pop3_wire.specs.Stuffing.{wire_form}
 use Rattle.std.proofs.lemmas.Bool.{cases_Bool}

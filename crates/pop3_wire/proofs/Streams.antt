@@ -1,12 +1,9 @@
 -- Streams that are cut at LF.
-use Rattle.std.proofs.Common.{◌≡◌, ◌<◌, ◌≤◌, ◌+◌, ◌-◌, ℕ, zero, suc, add-one, Bool, true, false, ◌||◌, if◌then◌else◌, ◌==◌, nat_lt, List, [], ◌∷◌, ◌++◌, length, take, drop, get_or, map, min, ap, refl, sym, arith, ◌∙◌, ◌⊎◌, inl, inr, append_assoc, length-append}
-use Rattle.std.proofs.lemmas.List.{take_min, take_all, length-take}
+use Rattle.std.proofs.Common.{◌≡◌, ℕ, zero, suc, true, false, ◌==◌, nat_lt, List, [], ◌∷◌, ◌++◌, length, take, ap, refl, arith, ◌⊎◌, inl, inr, length-append}
+use Rattle.std.proofs.lemmas.List.{take_all, length-take}
 use Rattle.std.proofs.lemmas.Bool.{cases_lt, cases_Bool, lt-ltb, or_parts, or_from}
-use Rattle.std.proofs.Math.Seq.{take-append-add}
-use Rattle.std.specs.List.{slice_split, onto_first, list_any, position_or_len}
-use Rattle.std.specs.Io.BufRead.{take_through}
-use Rattle.memchr.specs.Find.{NoneBefore, Nowhere, Passes, is_byte}
-use Rattle.pop3_wire.specs.Lines.{is_lf, all_but_last, ended_lines, line_of, lines_of}
+use Rattle.std.specs.List.{slice_split, list_any}
+use Rattle.pop3_wire.specs.Lines.{is_lf, line_of, lines_of}
 use Rattle.pop3_wire.proofs.Cutting.{split_parts}
 
 -- without an LF there is one part

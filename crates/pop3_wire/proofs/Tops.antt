@@ -1,5 +1,5 @@
 -- The first lines of a text.
-use Rattle.std.proofs.Common.{◌≡◌, ◌<◌, ◌≤◌, ◌+◌, ◌-◌, ℕ, zero, suc, add-one, List, [], ◌∷◌, length, take, drop, get_or, min, ap, refl, sym, arith}
+use Rattle.std.proofs.Common.{◌≡◌, ◌<◌, ◌+◌, ◌-◌, ℕ, zero, suc, List, [], ◌∷◌, length, take, get_or, min, ap, refl, arith}
 use Rattle.std.proofs.lemmas.List.{take_min}
 use Rattle.pop3_wire.specs.Stuffing.{top_lines}
 

@@ -1,16 +1,15 @@
 -- Bytes that begin with a wire form.
-use Rattle.std.proofs.Common.{◌≡◌, ◌≢◌, ◌<◌, ◌≤◌, ◌+◌, ◌-◌, ◌||◌, ℕ, zero, suc, Bool, true, false, if◌then◌else◌, ◌==◌, List, [], ◌∷◌, ◌++◌, length, take, drop, get_or, ap, refl, sym, arith, ◌∙◌, inl, inr, append_assoc, append-nil, Option, None, Some, codes}
+use Rattle.std.proofs.Common.{◌≡◌, ◌≢◌, ◌≤◌, ◌+◌, ◌-◌, ℕ, true, false, ◌==◌, List, [], ◌∷◌, ◌++◌, length, take, drop, ap, refl, sym, arith, ◌∙◌, inl, inr, append_assoc, append-nil, None, Some, codes}
 use Rattle.std.specs.List.{All, list_any, flat_map}
 use Rattle.std.proofs.lemmas.Bool.{cases_Bool, or_parts, or_from}
 use Rattle.std.proofs.lemmas.List.{same_from_push, take_rest, flat_map_more}
-use Rattle.std.proofs.lemmas.List.Elements.{All-nil, All-cons, All-head, All-tail, All-push}
+use Rattle.std.proofs.lemmas.List.Elements.{All-nil, All-cons, All-head, All-tail}
 use Rattle.std.proofs.lemmas.List.Folds.{list_any-append}
 use Rattle.std.proofs.Math.Bool.{or-true}
 use Rattle.memchr.specs.Find.{NoneBefore, Nowhere, Passes, is_byte}
 use Rattle.maildrop.specs.Text.{IsLine}
 use Rattle.pop3_wire.specs.Lines.{is_lf}
 use Rattle.pop3_wire.specs.Stuffing.{begins_with_dot, stuffed_line, unstuffed_line, wire_line, wire_form}
-use Rattle.pop3_wire.proofs.Streams.{is_ten}
 use Rattle.pop3_wire.proofs.Feeding.{no_lf, lf_at, both_none}
 
 IsLine-none : (xs : List ℕ) → list_any is_lf xs ≡ false → IsLine xs

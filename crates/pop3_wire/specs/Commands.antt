@@ -1,5 +1,5 @@
 -- The commands of lines.
-use Rattle.std.specs.Prelude.{ℕ, ◌+◌, ◌-◌, ◌*◌, ◌==◌, ◌&&◌, nat_le, Bool, true, false, List, [], ◌∷◌, length, take, drop, map, fold, codes, if◌then◌else◌, Option, None, Some, unwrap_or, Result, Ok, Err}
+use Rattle.std.specs.Prelude.{ℕ, ◌+◌, ◌-◌, ◌*◌, ◌==◌, ◌&&◌, nat_le, Bool, true, false, List, [], ◌∷◌, length, take, drop, map, fold, codes, if◌then◌else◌, Option, None, Some, unwrap_or, Result, Err}
 use Rattle.std.specs.List.{list_all, slice_split, position}
 use Rattle.std.specs.Option.{option_map, option_and_then, ok_or}
 use Rattle.std.specs.Char.{to_ascii_lowercase, is_ascii_digit}

@@ -55,8 +55,12 @@ impl LineReader {
         ensures range { result ≤ length piece.now }
         ensures progress { 0 < length piece.now → spec.waiting self.old ≡ None → 0 < result }
         ensures kept { self.new ≡ spec.fed self.old piece.now }
-        ensures lines { (more : List ℕ) → spec.lines_after self.old (take result piece.now ++ more) ≡ spec.lines_after self.new more }
-        ensures stream { (bytes : List ℕ) → self.old ≡ spec.kept_after bytes → self.new ≡ spec.kept_after (bytes ++ take result piece.now) }
+
+        // What is to come is not changed by when it comes.
+        ensures lines { (more : List ℕ) →
+            spec.lines_after self.old (take result piece.now ++ more) ≡ spec.lines_after self.new more }
+        ensures stream { (bytes : List ℕ) → self.old ≡ spec.kept_after bytes →
+            self.new ≡ spec.kept_after (bytes ++ take result piece.now) }
     {
         if self.is_finished {
             return 0;
@@ -78,8 +82,9 @@ impl LineReader {
     pub fn next_line(&mut self) -> Option<Line>
         ensures line { result ≡ spec.waiting self.old }
         ensures kept { self.new ≡ spec.taken_out self.old }
-        ensures lines { (more : List ℕ) → MatchOption result (spec.lines_after self.new more ≡ spec.lines_after self.old more) (λ line.
-            spec.lines_after self.old more ≡ line ∷ spec.lines_after self.new more) }
+        ensures lines { (more : List ℕ) → MatchOption result
+            (spec.lines_after self.new more ≡ spec.lines_after self.old more)
+            (λ line. spec.lines_after self.old more ≡ line ∷ spec.lines_after self.new more) }
 
         // What has not ended is no line.
         ensures none { IfNone result (spec.lines_after self.new [] ≡ []) }

@@ -106,8 +106,9 @@ fn number_of(bytes: &[u8]) -> Option<u32>
 
 /// What stands before the first space and what stands behind it, if there is a space.
 fn cut_at_space(bytes: &[u8]) -> Option<(&[u8], &[u8])>
-    ensures { MatchOption result (slice_split spec.is_space bytes.now ≡ bytes.now ∷ []) (λ cut.
-        slice_split spec.is_space bytes.now ≡ cut.0.now ∷ slice_split spec.is_space cut.1.now) }
+    ensures { MatchOption result
+        (slice_split spec.is_space bytes.now ≡ bytes.now ∷ [])
+        (λ cut. slice_split spec.is_space bytes.now ≡ cut.0.now ∷ slice_split spec.is_space cut.1.now) }
 {
     match memchr(b' ', bytes) {
         None => None,
@@ -134,7 +135,8 @@ fn only_argument(rest: &[u8]) -> Option<&[u8]>
 }
 
 fn two_arguments(rest: &[u8]) -> Option<(&[u8], &[u8])>
-    ensures { option_map (λ both. (both.0.now, both.1.now)) result ≡ spec.two_arguments (spec.arguments_in rest.now) }
+    ensures { option_map (λ both. (both.0.now, both.1.now)) result
+        ≡ spec.two_arguments (spec.arguments_in rest.now) }
 {
     match rest {
         [] => None,

@@ -30,7 +30,8 @@ pub(crate) fn greeting<A: Allocator>(
     host: &[u8],
 ) -> Result<Vec<u8, A>, Memory>
     ensures value { IfOk result (λ text. text.items ≡ spec.greeting nonce.now host.now) }
-    ensures short { length nonce.now ≤ 60 → length host.now ≤ 100 → IfOk result (λ text. spec.HasShortFirstLine text.items) }
+    ensures short { length nonce.now ≤ 60 → length host.now ≤ 100 →
+        IfOk result (λ text. spec.HasShortFirstLine text.items) }
 {
     let mut text = with_room(alloc, 32 + nonce.len() as u128 + host.len() as u128)?;
     put(&mut text, b"+OK POP3 server ready <")?;

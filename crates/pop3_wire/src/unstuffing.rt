@@ -12,8 +12,9 @@ use std::alloc::Allocator;
 
 /// The bytes up to the first line end, if that is CR and LF, and what stands behind it.
 fn cut_at_line_end(bytes: &[u8]) -> Option<(&[u8], &[u8])>
-    ensures { MatchOption result ((line rest : List ℕ) → IsLine line → ¬ (bytes.now ≡ line ++ 13 ∷ 10 ∷ rest)) (λ cut.
-        IsLine cut.0.now × (bytes.now ≡ cut.0.now ++ 13 ∷ 10 ∷ cut.1.now)) }
+    ensures { MatchOption result
+        ((line rest : List ℕ) → IsLine line → ¬ (bytes.now ≡ line ++ 13 ∷ 10 ∷ rest))
+        (λ cut. IsLine cut.0.now × (bytes.now ≡ cut.0.now ++ 13 ∷ 10 ∷ cut.1.now)) }
 {
     let Some(end) = memchr(b'\n', bytes) else {
         return None;
@@ -51,8 +52,12 @@ pub fn unstuffed<A: Allocator + Copy>(
     alloc: A,
     bytes: &[u8],
 ) -> Result<Option<(Text<A>, &[u8])>, Memory>
-    ensures found { IfOk result (λ found. IfSome found (λ f. All IsLine f.0 × (bytes.now ≡ wire_form f.0 ++ f.1.now))) }
-    ensures every { (text : List (List ℕ)) (rest : List ℕ) → All IsLine text → bytes.now ≡ wire_form text ++ rest → IfOk result (λ found. IsSomeAnd found (λ f. (f.0 ≡ text) × (f.1.now ≡ rest))) }
+    ensures found { IfOk result (λ found. IfSome found (λ f.
+        All IsLine f.0 × (bytes.now ≡ wire_form f.0 ++ f.1.now))) }
+
+    // So nothing is found only where no front of the bytes is a wire form.
+    ensures every { (text : List (List ℕ)) (rest : List ℕ) → All IsLine text → bytes.now ≡ wire_form text ++ rest →
+        IfOk result (λ found. IsSomeAnd found (λ f. (f.0 ≡ text) × (f.1.now ≡ rest))) }
 {
     let mut lines = Vec::new(alloc);
     let mut left = bytes;

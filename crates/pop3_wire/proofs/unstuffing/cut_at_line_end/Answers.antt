@@ -1,4 +1,4 @@
-use Rattle.std.proofs.Common.{◌≡◌, ◌++◌, ◌∷◌, [], ◌∙◌, sym, ap, length, refl, take, arith, length-append}
+use Rattle.std.proofs.Common.{◌∷◌, [], ◌∙◌, sym, ap, length, arith, length-append}
 use Rattle.std.proofs.lemmas.List.{same_from_push}
 use Rattle.pop3_wire.proofs.WireForms.{no_line_end, line_end, cut_line}
 use Rattle.pop3_wire.proofs.unstuffing.cut_at_line_end.Goals as goal

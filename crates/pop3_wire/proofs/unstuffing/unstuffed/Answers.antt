@@ -1,4 +1,4 @@
-use Rattle.std.proofs.Common.{◌≡◌, ◌++◌, ◌∷◌, [], ◌∙◌, sym, ap, length, refl, arith, Some, None}
+use Rattle.std.proofs.Common.{◌≡◌, ◌++◌, ◌∷◌, [], ◌∙◌, sym, ap, length, arith}
 use Rattle.std.proofs.lemmas.List.Elements.{All-push}
 use Rattle.maildrop.specs.Text.{IsLine}
 use Rattle.pop3_wire.proofs.WireForms.{remains-open, remains-next, remains-end, wire-next, wire-end, unstuffed-line}
