@@ -1,1 +1,9 @@
 pub mod EntryLemmas
+pub mod Settled
+pub mod Parts
+pub mod Runs
+pub mod Streams
+pub mod Answering
+pub mod Pieces
+pub mod ReaderLemmas
+pub mod Served

@@ -1,6 +1,6 @@
 -- A whole session as a function: from accounts, a greeting, lines, and the answers to what is asked, to the replies and
 -- the asked operations.
-use Rattle.std.specs.Prelude.{ℕ, List, [], ◌∷◌, ◌++◌, Option, Some, None, if◌then◌else◌}
+use Rattle.std.specs.Prelude.{ℕ, ◌+◌, List, [], ◌∷◌, ◌++◌, Option, Some, None, if◌then◌else◌}
 use Rattle.maildrop.specs.Ticket.{Ticket}
 use Rattle.maildrop.specs.declared.op.Op.{Op}
 use Rattle.maildrop.specs.declared.outcome.Outcome.{Outcome}
@@ -19,29 +19,31 @@ pub record Answer (A : Type 0) : Type 0 where
   pub ticket : Ticket
   pub outcome : Outcome A
 
--- an operation that was asked, and for whom
-pub record Asked (A : Type 0) : Type 0 where
+-- an operation that was asked, for whom, and by which line, counted from 0
+pub record Request (A : Type 0) : Type 0 where
+  pub line : ℕ
   pub user : List ℕ
   pub op : Op A
 
--- what is said and what is asked, in order
+-- what is said and what is asked, in order, and where the session is then
 pub record Conversation (A : Type 0) : Type 0 where
   pub replies : List (List ℕ)
-  pub asked : List (Asked A)
+  pub asked : List (Request A)
+  pub state : State A
 
 -- how a conversation goes on from a state, with the answers that are left
 abbrev pub Rest : Type 0 → Type 0
 Rest A = State A → List (Answer A) → Conversation A
 
 module _ {A : Type 0} where
-  abbrev pub silence : Conversation A
-  silence = record { replies = []; asked = [] }
+  abbrev pub silence : State A → Conversation A
+  silence state = record { replies = []; asked = []; state = state }
 
   abbrev pub with_reply : List ℕ → Conversation A → Conversation A
   with_reply bytes conversation = record conversation { replies = bytes ∷ conversation.replies }
 
-  abbrev pub with_asked : List ℕ → Op A → Conversation A → Conversation A
-  with_asked user op conversation = record conversation { asked = record { user = user; op = op } ∷ conversation.asked }
+  abbrev pub with_request : Request A → Conversation A → Conversation A
+  with_request request conversation = record conversation { asked = request ∷ conversation.asked }
 
   -- after what an answer brought; it asks nothing itself
   abbrev pub after_said : Rest A → State A → List (Answer A) → Step A → Conversation A
@@ -56,24 +58,28 @@ module _ {A : Type 0} where
 
   -- an asked operation takes the next answer; where there is none, no more is said
   abbrev pub after_asked : Rest A → State A → List (Answer A) → Conversation A
-  after_asked rest state [] = silence
+  after_asked rest state [] = silence state
   after_asked rest state (answer ∷ answers) =
       after_answer rest state (by_answer state answer.ticket answer.outcome) answers
 
-  -- after a line
-  abbrev pub after_line : Rest A → State A → List (Answer A) → Step A → Conversation A
-  after_line rest state answers (Say bytes) = with_reply bytes (rest state answers)
-  after_line rest state answers (SayAndClose bytes) = with_reply bytes (rest state answers)
-  after_line rest state answers (Ask user op) = with_asked user op (after_asked rest state answers)
+  -- after the line of a number
+  abbrev pub after_line : Rest A → ℕ → State A → List (Answer A) → Step A → Conversation A
+  after_line rest number state answers (Say bytes) = with_reply bytes (rest state answers)
+  after_line rest number state answers (SayAndClose bytes) = with_reply bytes (rest state answers)
+  after_line rest number state answers (Ask user op) =
+      with_request (record { line = number; user = user; op = op }) (after_asked rest state answers)
 
-  -- the conversation from a state on; a session that is closed, or that awaits an answer, says no more
-  abbrev pub conversation_from : List Account → List Line → State A → List (Answer A) → Conversation A
-  conversation_from accounts [] state answers = silence
-  conversation_from accounts (line ∷ lines) state answers =
+  -- the conversation from a state on, where the first line has this number; a session that is closed, or that awaits an
+  -- answer, says no more
+  abbrev pub conversation_from : List Account → Stamp → ℕ → List Line → State A → List (Answer A) → Conversation A
+  conversation_from accounts stamp number [] state answers = silence state
+  conversation_from accounts stamp number (line ∷ lines) state answers =
       let turn = by_line accounts state line in
-      if hears state then after_line (conversation_from accounts lines) turn.state answers turn.step else silence
+      if hears state
+      then after_line (conversation_from accounts stamp (number + 1) lines) number turn.state answers turn.step
+      else silence state
 
   -- the whole conversation, from the greeting on
   abbrev pub conversation : List Account → Stamp → List Line → List (Answer A) → Conversation A
   conversation accounts stamp lines answers =
-      with_reply (reply.greeting stamp.nonce stamp.host) (conversation_from accounts lines opening answers)
+      with_reply (reply.greeting stamp.nonce stamp.host) (conversation_from accounts stamp 0 lines opening answers)

@@ -2,4 +2,10 @@ pub mod Errors
 pub mod Entries
 pub mod Open
 pub mod Session
+pub mod Heard
+pub mod Prefix
+pub mod Desks
 pub mod Conversation
+pub mod Transcript
+pub mod Serve
+pub mod Dialogue

@@ -3,17 +3,28 @@
 
 mod answer;
 mod authorization;
+mod desk;
+mod desk_stopped;
+mod dialogue;
 mod entry;
+mod heard;
 mod opened;
+mod serving;
 mod session;
 mod state;
 mod transaction;
+mod transcript;
 mod turn;
 
+pub use desk::{Desk, Gate, OpenGate};
+pub use desk_stopped::DeskStopped;
 pub use entry::Entry;
+pub use heard::Heard;
 pub use opened::Opened;
+pub use serving::serve;
 pub use session::Session;
 pub use state::{SessionError, State, Step, Turn};
+pub use transcript::{Asked, End, Transcript};
 
 #[cfg(test)]
 mod tests;

@@ -179,13 +179,29 @@ impl<A: Allocator + Copy> Session<A> {
         ensures only_busy { IfErr result (λ error. error ≡ SessionError.Busy) }
         ensures unchanged { OnErr result (self.new ≡ self.old) }
     {
-        let lock = match &self.state {
-            State::Locking { .. } | State::Leaving { .. } => return Err(SessionError::Busy),
-            State::Authorization { .. } | State::Closed => None,
-            State::Transaction { user, lock, .. } => Some((*user, *lock)),
-            State::Spent { lock } => *lock,
-        };
+        if matches!(&self.state, State::Locking { .. } | State::Leaving { .. }) {
+            return Err(SessionError::Busy);
+        }
+        let lock = self.lock();
         self.state = State::Closed;
         Ok(lock.map(|(user, lock)| (user, Op::Free { lock })))
+    }
+
+    /// The lock that the session holds, with its user.
+    pub(crate) fn lock(&self) -> Option<(Name, Ticket)>
+        ensures { result ≡ spec.lock_due self.now.state }
+    {
+        match &self.state {
+            State::Transaction { user, lock, .. } => Some((*user, *lock)),
+            State::Spent { lock } => *lock,
+            _ => None,
+        }
+    }
+
+    /// Closes the session for want of memory. This lock is still to be given back by `hangup`.
+    pub(crate) fn spend(&mut self, lock: Option<(Name, Ticket)>)
+        ensures { self.new ≡ record self.old { state = State.Spent lock } }
+    {
+        self.state = State::Spent { lock };
     }
 }

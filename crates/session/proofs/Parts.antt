@@ -1,0 +1,94 @@
+-- The parts of a conversation, one after another.
+use Rattle.std.proofs.Common.{◌≡◌, ℕ, ◌+◌, true, false, List, [], ◌∷◌, ◌++◌, length, Option, Some, None, refl, ap, sym, ◌∙◌, append_assoc, append-nil, arith, inl, inr, subst}
+use Rattle.std.specs.List.{concat}
+use Rattle.std.proofs.lemmas.List.{length-append}
+use Rattle.std.proofs.lemmas.List.Folds.{concat-append}
+use Rattle.maildrop.specs.Ticket.{Ticket}
+use Rattle.maildrop.specs.declared.op.Op.{Op}
+use Rattle.maildrop.specs.declared.outcome.Outcome.{Outcome}
+use Rattle.apop.specs.Stamp.{Stamp}
+use Rattle.apop.specs.Accounts.{Account}
+use Rattle.pop3_wire.specs.declared.line.Line.{Line}
+use Rattle.session.specs.Prefix.{IsPrefix}
+use Rattle.session.specs.Desks.{Given}
+use Rattle.session.specs.Session.{hears, by_line, by_answer}
+use Rattle.session.specs.Conversation.{Answer, Request, Conversation, silence, conversation_from}
+use Rattle.session.specs.Transcript.{answers_of, requests_of, given_of, IsHistory}
+use Rattle.session.specs.declared.state.State.{State}
+use Rattle.session.specs.declared.state.Step.{Step}
+use Rattle.session.specs.declared.state.Step.TheVariants.{Say, Ask, SayAndClose}
+use Rattle.session.specs.declared.state.Turn.{Turn}
+use Rattle.session.specs.declared.transcript.Asked.{Asked}
+use Rattle.session.specs.Dialogue.{with_front, entry_of, IsPart}
+
+module _ {A : Type 0} where
+  pub answers_append : (xs ys : List (Asked A)) → answers_of (xs ++ ys) ≡ answers_of xs ++ answers_of ys
+  answers_append [] ys = refl
+  answers_append (x ∷ xs) ys = rw (answers_append xs ys, append_assoc) refl
+
+  pub requests_append : (xs ys : List (Asked A)) → requests_of (xs ++ ys) ≡ requests_of xs ++ requests_of ys
+  requests_append [] ys = refl
+  requests_append (x ∷ xs) ys = rw (requests_append xs ys, append_assoc) refl
+
+  fronts : (first second : List (List ℕ)) (asked more : List (Request A)) (rest : Conversation A) → with_front first asked (with_front second more rest) ≡ with_front (first ++ second) (asked ++ more) rest
+  fronts first second asked more rest = rw (append_assoc first second rest.replies, append_assoc asked more rest.asked) refl
+
+  -- a part behind a part
+  pub part_join : (accounts : List Account) (stamp : Stamp) (number : ℕ) (first middle last : State A) (lines lines2 : List Line) (entries entries2 : List (Asked A)) (replies replies2 : List (List ℕ))
+      → IsPart accounts stamp number first middle lines entries replies
+      → IsPart accounts stamp (number + length lines) middle last lines2 entries2 replies2
+      → IsPart accounts stamp number first last (lines ++ lines2) (entries ++ entries2) (replies ++ replies2)
+  part_join accounts stamp number first middle last lines lines2 entries entries2 replies replies2 part part2 = record {
+    follows = λ more answers.
+        let counted : (number + length lines) + length lines2 ≡ number + length (lines ++ lines2) = omega (arith, length-append lines lines2) in
+        rw (answers_append entries entries2, append_assoc lines lines2 more, append_assoc (answers_of entries) (answers_of entries2) answers)
+        (part.follows (lines2 ++ more) (answers_of entries2 ++ answers)
+        ∙ ap (with_front replies (requests_of entries)) (part2.follows more answers)
+        ∙ fronts replies replies2 (requests_of entries) (requests_of entries2) _
+        ∙ rw (requests_append entries entries2, counted) refl);
+  }
+
+  -- a line to which the session says something
+  pub say_part : (accounts : List Account) (stamp : Stamp) (number : ℕ) (state : State A) (line : Line) (bytes : List ℕ)
+      → hears state ≡ true → (by_line accounts state line).step ≡ Say bytes
+      → IsPart accounts stamp number state (by_line accounts state line).state (line ∷ []) [] (bytes ∷ [])
+  say_part accounts stamp number state line bytes hearing step = record { follows = λ more answers. rw (hearing, step) refl }
+
+  -- and closes
+  pub close_part : (accounts : List Account) (stamp : Stamp) (number : ℕ) (state : State A) (line : Line) (bytes : List ℕ)
+      → hears state ≡ true → (by_line accounts state line).step ≡ SayAndClose bytes
+      → IsPart accounts stamp number state (by_line accounts state line).state (line ∷ []) [] (bytes ∷ [])
+  close_part accounts stamp number state line bytes hearing step = record { follows = λ more answers. rw (hearing, step) refl }
+
+  -- a line that asks, and the answer to which the session says something
+  pub answered_part : (accounts : List Account) (stamp : Stamp) (number : ℕ) (state : State A) (line : Line) (user : List ℕ) (op : Op A) (ticket : Ticket) (outcome : Outcome A) (turn : Turn A) (bytes : List ℕ)
+      → hears state ≡ true → (by_line accounts state line).step ≡ Ask user op
+      → by_answer (by_line accounts state line).state ticket outcome ≡ Some turn → turn.step ≡ Say bytes
+      → IsPart accounts stamp number state turn.state (line ∷ []) (entry_of number user op (Some ticket) (Some outcome) ∷ []) (bytes ∷ [])
+  answered_part accounts stamp number state line user op ticket outcome turn bytes hearing step fits says = record { follows = λ more answers. rw (hearing, step, fits, says) refl }
+
+  pub answered_close : (accounts : List Account) (stamp : Stamp) (number : ℕ) (state : State A) (line : Line) (user : List ℕ) (op : Op A) (ticket : Ticket) (outcome : Outcome A) (turn : Turn A) (bytes : List ℕ)
+      → hears state ≡ true → (by_line accounts state line).step ≡ Ask user op
+      → by_answer (by_line accounts state line).state ticket outcome ≡ Some turn → turn.step ≡ SayAndClose bytes
+      → IsPart accounts stamp number state turn.state (line ∷ []) (entry_of number user op (Some ticket) (Some outcome) ∷ []) (bytes ∷ [])
+  answered_close accounts stamp number state line user op ticket outcome turn bytes hearing step fits says = record { follows = λ more answers. rw (hearing, step, fits, says) refl }
+
+  -- the conversation of a part, and of a part and what is behind it
+  pub part_ends : (accounts : List Account) (stamp : Stamp) (number : ℕ) (first last : State A) (lines : List Line) (entries : List (Asked A)) (replies : List (List ℕ))
+      → IsPart accounts stamp number first last lines entries replies
+      → conversation_from accounts stamp number lines first (answers_of entries) ≡ record { replies = replies; asked = requests_of entries; state = last }
+  part_ends accounts stamp number first last lines entries replies part =
+      let whole = part.follows [] [] in
+      rw (append-nil, append-nil, append-nil, append-nil) at whole
+
+  pub part_then : (accounts : List Account) (stamp : Stamp) (number : ℕ) (first middle last : State A) (lines lines2 : List Line) (entries entries2 : List (Asked A)) (replies replies2 : List (List ℕ))
+      → IsPart accounts stamp number first middle lines entries replies
+      → conversation_from accounts stamp (number + length lines) lines2 middle (answers_of entries2) ≡ record { replies = replies2; asked = requests_of entries2; state = last }
+      → conversation_from accounts stamp number (lines ++ lines2) first (answers_of (entries ++ entries2)) ≡ record { replies = replies ++ replies2; asked = requests_of (entries ++ entries2); state = last }
+  part_then accounts stamp number first middle last lines lines2 entries entries2 replies replies2 part rest =
+      rw (answers_append entries entries2, requests_append entries entries2)
+      (part.follows lines2 (answers_of entries2) ∙ ap (with_front replies (requests_of entries)) rest)
+
+pub history_join : {A D : Type 0} (gives : D → Given A → D → Type 0) (xs ys : List (Asked A)) (first middle last : D) → IsHistory gives first xs middle → IsHistory gives middle ys last → IsHistory gives first (xs ++ ys) last
+history_join gives [] ys first middle last before behind = subst (λ desk. IsHistory gives desk ys last) before behind
+history_join gives (x ∷ xs) ys first middle last before behind = (before.0, before.1, history_join gives xs ys before.0 middle last before.2 behind)

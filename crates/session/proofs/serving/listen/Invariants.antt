@@ -1,0 +1,19 @@
+use Rattle.std.proofs.Common.{◌≡◌, ℕ, ◌+◌, ◌*◌, ◌^◌, ◌≤◌, List, [], None, true}
+use Rattle.std.specs.Io.KnownBytes.{Consumes}
+use Rattle.pop3_wire.specs.Reader.{Open, lines_after, waiting}
+use Rattle.session.specs.Dialogue.{place, IsPieceFront}
+use Rattle.session.specs.Session.{hears}
+use Rattle.session.proofs.serving.listen.Given as goal
+
+-- what was read was served
+abbrev pub invariant-loop : goal.invariant-loop
+invariant-loop g l = record {
+  served : (read : List ℕ) × Consumes (g.R.Read.remaining l.initial.reader) (g.R.Read.remaining l.reader) read
+      × IsPieceFront l.accounts l.initial.dialogue.session.stamp g.D.Desk.gives (place l.initial.dialogue l.initial.desk) (place l.dialogue l.desk)
+      (Open []) l.lines read [] (g.W.Write.contents l.initial.writer) (g.W.Write.contents l.writer);
+  stamp : l.dialogue.session.stamp ≡ l.initial.dialogue.session.stamp;
+  hearing : hears l.dialogue.session.state ≡ true;
+  ready : waiting l.lines ≡ None;
+  ended : lines_after l.lines [] ≡ [];
+  count : l.dialogue.count ≤ 2 ^ 64 + l.counter * (4096 * 2 ^ 64);
+}

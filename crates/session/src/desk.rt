@@ -1,0 +1,37 @@
+//! What a session asks, and what lets it go on.
+ghost use Rattle.session.specs.Desks.{Given, given_by_ask, given_by_tell};
+
+use crate::desk_stopped::DeskStopped;
+use maildrop::{Name, Op, Outcome, Ticket};
+use std::alloc::Allocator;
+
+/// Where a session has its operations performed.
+pub trait Desk<A: Allocator> {
+    /// That the desk, in the first state, may be asked this, give this, and be in the second state then.
+    ghost gives: { Self → Given A → Self → Type 0 };
+
+    /// Has an operation of a user performed, and awaits its outcome.
+    fn ask(&mut self, name: Name, op: Op<A>) -> Result<(Ticket, Outcome<A>), DeskStopped>
+        ensures { gives self.old (given_by_ask name op result) self.new };
+
+    /// Has an operation of a user performed, and awaits nothing.
+    fn tell(&mut self, name: Name, op: Op<A>) -> Result<Ticket, DeskStopped>
+        ensures { gives self.old (given_by_tell name op result) self.new };
+}
+
+/// What a session passes around each line: it enters before the line is heard, and leaves once the reply is written.
+pub trait Gate {
+    fn enter(&mut self);
+
+    fn leave(&mut self);
+}
+
+/// A gate that holds nothing up.
+#[derive(Clone, Copy, Debug, Default, PartialEq, Eq)]
+pub struct OpenGate;
+
+impl Gate for OpenGate {
+    fn enter(&mut self) {}
+
+    fn leave(&mut self) {}
+}

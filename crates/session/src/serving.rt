@@ -1,0 +1,289 @@
+//! A session that is served: from a reader, over a desk, to a writer.
+ghost use Rattle.std.specs.Prelude.{◌≡◌, ◌≢◌, ◌<◌, ◌≤◌, ◌+◌, ◌*◌, ◌^◌, ℕ, List, [], ◌∷◌, ◌++◌, length, take, true, false, None, IfOk, IfErr, OnOk, OnErr, MatchOption};
+ghost use Rattle.std.specs.Io.KnownBytes.{Appends, Consumes, IsAtEnd};
+ghost use Rattle.pop3_wire.specs.Reader.{lines_after, waiting};
+ghost use Rattle.pop3_wire.specs.Reply.{greeting as greeting_of};
+ghost use Rattle.session.specs.Dialogue.{place, IsRun, IsStop, IsPieceFront, IsPieceStop, IsListened, IsConversed, IsHungUp, IsTold};
+ghost use Rattle.session.specs.Serve.{IsServed};
+ghost use Rattle.session.specs.Session.{hears, awaits_answer, opening};
+
+use crate::desk::{Desk, Gate};
+use crate::dialogue::Dialogue;
+use crate::session::Session;
+use crate::transcript::{Asked, End, Transcript};
+use apop::{Accounts, Stamp};
+use ballot::{Items, Memory};
+use maildrop::{Name, Op};
+use pop3_wire::{Line, LineReader};
+use std::alloc::Allocator;
+use std::io::{Read, Write};
+
+/// Writes as much as the writer takes, and gives how many bytes that is. Less than all means that a write failed, or
+/// took nothing.
+fn send<W: Write>(writer: &mut W, bytes: &[u8]) -> usize
+    ensures range { result ≤ length bytes.now }
+    ensures written { Appends (W.contents writer.old) (W.contents writer.new) (take result bytes.now) }
+{
+    let mut sent = 0;
+    while sent < bytes.len() {
+        match writer.write(&bytes[sent..]) {
+            Ok(0) | Err(_) => return sent,
+            Ok(count) => sent += count,
+        }
+    }
+    sent
+}
+
+/// Feeds the reader the bytes up to the next line end. Gives the line that has ended, if one has, and the bytes behind.
+fn next_line<'a>(reader: &mut LineReader, rest: &'a [u8]) -> (Option<Line>, &'a [u8])
+    requires ready { waiting reader.old ≡ None }
+    requires some { 0 < length rest.now }
+    ensures shorter { length result.1.now < length rest.now }
+    ensures ready { waiting reader.new ≡ None }
+    ensures lines { (more : List ℕ) → MatchOption result.0
+        (lines_after reader.old (rest.now ++ more) ≡ lines_after reader.new (result.1.now ++ more))
+        (λ line. lines_after reader.old (rest.now ++ more) ≡ line ∷ lines_after reader.new (result.1.now ++ more)) }
+    ensures ended { lines_after reader.new [] ≡ [] }
+{
+    let taken = reader.feed(rest);
+    let (_, behind) = rest.split_at(taken);
+    (reader.next_line(), behind)
+}
+
+/// One line: the session hears it, and what it says is written.
+fn exchange<A: Allocator + Copy, W: Write, D: Desk<A>, G: Gate>(
+    accounts: &Accounts<A>,
+    dialogue: &mut Dialogue<A>,
+    writer: &mut W,
+    desk: &mut D,
+    gate: &mut G,
+    line: &Line,
+) -> Result<(), End>
+    requires hearing { hears dialogue.old.session.state ≡ true }
+    requires room { dialogue.old.count + 2 ^ 64 ≤ 2 ^ 128 }
+    ensures stamp { dialogue.new.session.stamp ≡ dialogue.old.session.stamp }
+    ensures unended { IfErr result (λ end. end ≢ End.HungUp) }
+    ensures hearing { OnOk result (hears dialogue.new.session.state ≡ true) }
+    ensures room { dialogue.new.count < dialogue.old.count + 2 ^ 64 }
+    ensures goes_on { OnOk result ((written : List ℕ) × Appends (W.contents writer.old) (W.contents writer.new) written
+        × IsRun accounts.now dialogue.old.session.stamp D.gives (place dialogue.old desk.old) (place dialogue.new desk.new) (line.now ∷ []) written) }
+    ensures stops { IfErr result (λ end. (written : List ℕ) × Appends (W.contents writer.old) (W.contents writer.new) written
+        × IsStop accounts.now dialogue.old.session.stamp D.gives (place dialogue.old desk.old) (place dialogue.new desk.new) (line.now ∷ []) end written) }
+{
+    gate.enter();
+    let saying = dialogue.hear(accounts, desk, line)?;
+    let sent = send(writer, saying.bytes.get());
+    dialogue.count += sent as u128;
+    if sent < saying.bytes.len() {
+        return Err(End::WriteFault);
+    }
+    gate.leave();
+    if saying.closes {
+        return Err(End::Closed);
+    }
+    Ok(())
+}
+
+/// The lines of a piece of the input, one after another.
+fn exchange_all<A: Allocator + Copy, W: Write, D: Desk<A>, G: Gate>(
+    accounts: &Accounts<A>,
+    dialogue: &mut Dialogue<A>,
+    lines: &mut LineReader,
+    writer: &mut W,
+    desk: &mut D,
+    gate: &mut G,
+    piece: &[u8],
+) -> Result<(), End>
+    requires hearing { hears dialogue.old.session.state ≡ true }
+    requires ready { waiting lines.old ≡ None }
+    requires ended { lines_after lines.old [] ≡ [] }
+    requires room { dialogue.old.count + length piece.now * 2 ^ 64 ≤ 2 ^ 128 }
+    ensures stamp { dialogue.new.session.stamp ≡ dialogue.old.session.stamp }
+    ensures unended { IfErr result (λ end. end ≢ End.HungUp) }
+    ensures hearing { OnOk result (hears dialogue.new.session.state ≡ true) }
+    ensures ready { OnOk result (waiting lines.new ≡ None) }
+    ensures ended { OnOk result (lines_after lines.new [] ≡ []) }
+    ensures room { dialogue.new.count ≤ dialogue.old.count + length piece.now * 2 ^ 64 }
+    ensures goes_on { OnOk result (IsPieceFront accounts.now dialogue.old.session.stamp D.gives (place dialogue.old desk.old) (place dialogue.new desk.new)
+        lines.old lines.new piece.now [] (W.contents writer.old) (W.contents writer.new)) }
+    ensures stops { IfErr result (λ end. IsPieceStop accounts.now dialogue.old.session.stamp D.gives (place dialogue.old desk.old) (place dialogue.new desk.new)
+        lines.old piece.now end (W.contents writer.old) (W.contents writer.new)) }
+{
+    let mut rest = piece;
+    while !rest.is_empty() {
+        let (line, behind) = next_line(lines, rest);
+        rest = behind;
+        if let Some(line) = line {
+            if let Err(end) = exchange(accounts, dialogue, writer, desk, gate, &line) {
+                return Err(end);
+            }
+        }
+    }
+    Ok(())
+}
+
+/// Reads the input and serves its lines, in at most 4,294,967,295 reads.
+fn listen<A: Allocator + Copy, R: Read, W: Write, D: Desk<A>, G: Gate>(
+    accounts: &Accounts<A>,
+    dialogue: &mut Dialogue<A>,
+    reader: &mut R,
+    writer: &mut W,
+    desk: &mut D,
+    gate: &mut G,
+) -> End
+    requires hearing { hears dialogue.old.session.state ≡ true }
+    requires room { dialogue.old.count ≤ 2 ^ 64 }
+    ensures stamp { dialogue.new.session.stamp ≡ dialogue.old.session.stamp }
+    ensures listened { IsListened accounts.now dialogue.old.session.stamp D.gives (place dialogue.old desk.old) (place dialogue.new desk.new)
+        result (R.remaining reader.old) (R.remaining reader.new) (W.contents writer.old) (W.contents writer.new) }
+{
+    let mut lines = LineReader::new();
+    let mut buffer = [0u8; 4096];
+    for _ in 0..u32::MAX {
+        let count = match reader.read(&mut buffer) {
+            Ok(0) => return End::HungUp,
+            Ok(count) => count,
+            Err(_) => return End::ReadFault,
+        };
+        let piece = &buffer[..count];
+        if let Err(end) = exchange_all(accounts, dialogue, &mut lines, writer, desk, gate, piece) {
+            return end;
+        }
+    }
+    End::ReadFault
+}
+
+/// Says the greeting, and serves the client's lines.
+fn converse<A: Allocator + Copy, R: Read, W: Write, D: Desk<A>, G: Gate>(
+    accounts: &Accounts<A>,
+    greeting: &[u8],
+    dialogue: &mut Dialogue<A>,
+    reader: &mut R,
+    writer: &mut W,
+    desk: &mut D,
+    gate: &mut G,
+) -> End
+    requires greets { greeting.now ≡ greeting_of dialogue.old.session.stamp.nonce dialogue.old.session.stamp.host }
+    requires opening { dialogue.old.session.state ≡ opening }
+    requires no_lines { dialogue.old.lines.items ≡ [] }
+    requires none_asked { dialogue.old.asked.items ≡ [] }
+    ensures conversed { IsConversed accounts.now dialogue.old.session.stamp D.gives desk.old (place dialogue.new desk.new)
+        result (R.remaining reader.old) (R.remaining reader.new) (W.contents writer.old) (W.contents writer.new) }
+{
+    let sent = send(writer, greeting);
+    dialogue.count = sent as u128;
+    if sent < greeting.len() {
+        return End::WriteFault;
+    }
+    listen(accounts, dialogue, reader, writer, desk, gate)
+}
+
+/// Tells the desk the Free of a lock that the session still holds.
+fn hang_up<A: Allocator + Copy, D: Desk<A>>(
+    dialogue: &mut Dialogue<A>,
+    desk: &mut D,
+    end: End,
+) -> End
+    requires settled { end ≢ End.DeskStopped → awaits_answer dialogue.old.session.state ≡ false }
+    ensures { IsHungUp D.gives (place dialogue.old desk.old) (place dialogue.new desk.new) end result }
+{
+    if end == End::DeskStopped {
+        return end;
+    }
+    match dialogue.session.hangup() {
+        Ok(Some((user, op))) => match tell(dialogue, desk, user, op) {
+            Ok(()) => end,
+            Err(Memory) => End::Memory,
+        },
+        Ok(None) | Err(_) => end,
+    }
+}
+
+/// Tells the desk an operation, unless there is no room for its entry.
+fn tell<A: Allocator + Copy, D: Desk<A>>(
+    dialogue: &mut Dialogue<A>,
+    desk: &mut D,
+    user: Name,
+    op: Op<A>,
+) -> Result<(), Memory>
+    ensures told { OnOk result (IsTold D.gives (place dialogue.old desk.old) (place dialogue.new desk.new) user op) }
+    ensures untold { OnErr result (place dialogue.new desk.new ≡ place dialogue.old desk.old) }
+{
+    dialogue.asked.reserve(1)?;
+    let kept = op.copy()?;
+    let ticket = match desk.tell(user, op) {
+        Ok(ticket) => Some(ticket),
+        Err(stopped) => stopped.ticket,
+    };
+    dialogue.asked.push_reserved(Asked {
+        line: None,
+        name: user,
+        op: kept,
+        ticket,
+        outcome: None,
+    });
+    Ok(())
+}
+
+/// Serves a session (RFC 1939) to its end: writes the greeting, hears the lines that are read, has the desk perform
+/// what they ask, and writes each reply before the next line is heard. A lock that the session holds at its end is
+/// given back, unless the desk has stopped. Gives all that went through it.
+pub fn serve<A: Allocator + Copy, R: Read, W: Write, D: Desk<A>, G: Gate>(
+    alloc: A,
+    reader: &mut R,
+    writer: &mut W,
+    accounts: &Accounts<A>,
+    stamp: Stamp,
+    desk: &mut D,
+    gate: &mut G,
+) -> Transcript<A>
+    ensures served { (read : List ℕ) × (written : List ℕ)
+        × Consumes (R.remaining reader.old) (R.remaining reader.new) read
+        × Appends (W.contents writer.old) (W.contents writer.new) written
+        × IsServed D.gives accounts.now stamp desk.old desk.new read written result }
+    ensures end { result.end ≡ End.HungUp → IsAtEnd (R.remaining reader.new) }
+{
+    let session = Session::new(alloc, stamp);
+    let lines = Vec::new(alloc);
+    let asked = Vec::new(alloc);
+    let greeting = match session.greeting() {
+        Ok(greeting) => greeting,
+        Err(_) => return silent(alloc),
+    };
+    let mut dialogue = Dialogue {
+        session,
+        lines,
+        asked,
+        count: 0,
+    };
+    let end = converse(
+        accounts,
+        greeting.get(),
+        &mut dialogue,
+        reader,
+        writer,
+        desk,
+        gate,
+    );
+    let end = hang_up(&mut dialogue, desk, end);
+    Transcript {
+        greeting,
+        lines: Items::from_vec(dialogue.lines),
+        asked: Items::from_vec(dialogue.asked),
+        count: dialogue.count,
+        end,
+    }
+}
+
+/// What is kept of a session that found no memory for its greeting.
+fn silent<A: Allocator + Copy>(alloc: A) -> Transcript<A>
+    ensures { result ≡ record { greeting = []; lines = []; asked = []; count = 0; end = End.Memory } }
+{
+    Transcript {
+        greeting: Items::new(alloc),
+        lines: Items::new(alloc),
+        asked: Items::new(alloc),
+        count: 0,
+        end: End::Memory,
+    }
+}
