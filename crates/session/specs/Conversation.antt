@@ -67,13 +67,13 @@ module _ {A : Type 0} where
   after_line rest state answers (Ask user op) = with_asked user op (after_asked rest state answers)
 
   -- the conversation from a state on; a session that is closed, or that awaits an answer, says no more
-  abbrev pub conversation_from : List Account → List Line → State A → List (Answer A) → Conversation A
-  conversation_from accounts [] state answers = silence
-  conversation_from accounts (line ∷ lines) state answers =
-      let turn = by_line accounts state line in
-      if hears state then after_line (conversation_from accounts lines) turn.state answers turn.step else silence
+  abbrev pub conversation_from : List Account → Stamp → List Line → State A → List (Answer A) → Conversation A
+  conversation_from accounts stamp [] state answers = silence
+  conversation_from accounts stamp (line ∷ lines) state answers =
+      let turn = by_line accounts stamp state line in
+      if hears state then after_line (conversation_from accounts stamp lines) turn.state answers turn.step else silence
 
   -- the whole conversation, from the greeting on
   abbrev pub conversation : List Account → Stamp → List Line → List (Answer A) → Conversation A
   conversation accounts stamp lines answers =
-      with_reply (reply.greeting stamp.nonce stamp.host) (conversation_from accounts lines opening answers)
+      with_reply (reply.greeting stamp.nonce stamp.host) (conversation_from accounts stamp lines opening answers)
