@@ -32,7 +32,7 @@ module _ {A : Type 0} where
 -- from any service on, whatever answers are left over, the conversation of lines is the one that the desk held
 abbrev IsHeld : Type 0 → List Account → List Line → Type 0
 IsHeld A accounts lines = (service : Service A) (more : List (Command A))
-    → conversation_from accounts lines service.state (answers_in service.users (commands_of accounts service lines ++ more)) ≡ held accounts service lines
+    → conversation_from accounts service.stamp lines service.state (answers_in service.users (commands_of accounts service lines ++ more)) ≡ held accounts service lines
 
 module _ {A : Type 0} where
   -- a session that hears nothing says nothing, and asks nothing
@@ -46,7 +46,7 @@ module _ {A : Type 0} where
 
   -- what an answer brought
   held-said : (accounts : List Account) (lines : List Line) → IsHeld A accounts lines → (service : Service A) (step : Step A) (more : List (Command A))
-      → after_said (conversation_from accounts lines) service.state (answers_in service.users (commands_of accounts service lines ++ more)) step
+      → after_said (conversation_from accounts service.stamp lines) service.state (answers_in service.users (commands_of accounts service lines ++ more)) step
       ≡ record { replies = said_by step ++ replies_to accounts service lines; asked = asked_by (commands_of accounts service lines) }
   held-said accounts lines rest service (Say bytes) more = ap (with_reply bytes) (rest service more)
   held-said accounts lines rest service (SayAndClose bytes) more = ap (with_reply bytes) (rest service more)
@@ -54,7 +54,7 @@ module _ {A : Type 0} where
 
   -- the answer to a command
   held-asked : (accounts : List Account) (lines : List Line) → IsHeld A accounts lines → (service : Service A) (command : Command A) (turn : Option (Turn A)) (more : List (Command A))
-      → with_asked command.user command.op (after_answer (conversation_from accounts lines) service.state turn (answers_in service.users (commands_of accounts (with_answer service turn (command ∷ [])).after lines ++ more)))
+      → with_asked command.user command.op (after_answer (conversation_from accounts service.stamp lines) service.state turn (answers_in service.users (commands_of accounts (with_answer service turn (command ∷ [])).after lines ++ more)))
       ≡ record {
         replies = (with_answer service turn (command ∷ [])).said ++ replies_to accounts (with_answer service turn (command ∷ [])).after lines;
         asked = asked_by ((with_answer service turn (command ∷ [])).commands ++ commands_of accounts (with_answer service turn (command ∷ [])).after lines);
@@ -68,23 +68,23 @@ module _ {A : Type 0} where
 
   -- a step of the session
   held-step : (accounts : List Account) (lines : List Line) → IsHeld A accounts lines → (service : Service A) (step : Step A) (more : List (Command A))
-      → after_line (conversation_from accounts lines) service.state (answers_in service.users ((exchange_by service step).commands ++ (commands_of accounts (exchange_by service step).after lines ++ more))) step
+      → after_line (conversation_from accounts service.stamp lines) service.state (answers_in service.users ((exchange_by service step).commands ++ (commands_of accounts (exchange_by service step).after lines ++ more))) step
       ≡ record { replies = (exchange_by service step).said ++ replies_to accounts (exchange_by service step).after lines; asked = asked_by ((exchange_by service step).commands ++ commands_of accounts (exchange_by service step).after lines) }
   held-step accounts lines rest service (Say bytes) more = ap (with_reply bytes) (rest service more)
   held-step accounts lines rest service (SayAndClose bytes) more = ap (with_reply bytes) (rest service more)
   held-step accounts lines rest service (Ask user op) more =
       let command : Command A = command_of service user op in
-      let after : Service A = record { state = service.state; users = users_after service.users command; next = service.next + 1 } in
+      let after : Service A = record service { users = users_after service.users command; next = service.next + 1 } in
       let turn = by_answer service.state command.ticket (outcome_in service.users command) in
       let first = performed-commands after turn command in
-      ap (λ commands. after_line (conversation_from accounts lines) service.state (answers_in service.users (commands ++ (commands_of accounts (with_answer after turn (command ∷ [])).after lines ++ more))) (Ask user op)) first
+      ap (λ commands. after_line (conversation_from accounts service.stamp lines) service.state (answers_in service.users (commands ++ (commands_of accounts (with_answer after turn (command ∷ [])).after lines ++ more))) (Ask user op)) first
       ∙ held-asked accounts lines rest after command turn more
 
   -- a line, which the session hears or not
   held-line : (accounts : List Account) (lines : List Line) → IsHeld A accounts lines → (service : Service A) (line : Line) (more : List (Command A)) (heard : Bool) → hears service.state ≡ heard
-      → conversation_from accounts (line ∷ lines) service.state (answers_in service.users (commands_of accounts service (line ∷ lines) ++ more)) ≡ held accounts service (line ∷ lines)
+      → conversation_from accounts service.stamp (line ∷ lines) service.state (answers_in service.users (commands_of accounts service (line ∷ lines) ++ more)) ≡ held accounts service (line ∷ lines)
   held-line accounts lines rest service line more true heard =
-      let turn = by_line accounts service.state line in
+      let turn = by_line accounts service.stamp service.state line in
       rw (heard, append_assoc) (held-step accounts lines rest (record service { state = turn.state }) turn.step more)
   held-line accounts lines rest service line more false heard =
       rw (heard, deaf-replies accounts service lines heard, deaf-commands accounts service lines heard) refl
@@ -106,14 +106,14 @@ module _ {A : Type 0} where
   numbered-step service (SayAndClose bytes) tail rest = rest
   numbered-step service (Ask user op) tail rest =
       let command : Command A = command_of service user op in
-      let after : Service A = record { state = service.state; users = users_after service.users command; next = service.next + 1 } in
+      let after : Service A = record service { users = users_after service.users command; next = service.next + 1 } in
       numbered-answer after command (by_answer service.state command.ticket (outcome_in service.users command)) tail service.next refl refl rest
 
   numbered-line : (accounts : List Account) (service : Service A) (line : Line) (tail : List (Command A)) (heard : Bool) → hears service.state ≡ heard
       → commands_from (exchange accounts service line).after.next (asked_by tail) ≡ tail
       → commands_from service.next (asked_by ((exchange accounts service line).commands ++ tail)) ≡ (exchange accounts service line).commands ++ tail
   numbered-line accounts service line tail true heard =
-      let turn = by_line accounts service.state line in
+      let turn = by_line accounts service.stamp service.state line in
       rw heard (λ rest. numbered-step (record service { state = turn.state }) turn.step tail rest)
   numbered-line accounts service line tail false heard = rw heard (λ rest. rest)
 
@@ -124,12 +124,12 @@ module _ {A : Type 0} where
 
   -- what the desk wrote is a whole session
   pub session_of_service : (accounts : List Account) (stamp : Stamp) (users : List (User A)) (input : List ℕ)
-      → IsSessionOf accounts stamp users input (greeting stamp.nonce stamp.host ++ concat (replies_to accounts (record { state = opening; users = users; next = 1 }) (lines_of input)))
+      → IsSessionOf accounts stamp users input (greeting stamp.nonce stamp.host ++ concat (replies_to accounts (record { stamp = stamp; state = opening; users = users; next = 1 }) (lines_of input)))
   session_of_service accounts stamp users input =
-      let service : Service A = record { state = opening; users = users; next = 1 } in
+      let service : Service A = record { stamp = stamp; state = opening; users = users; next = 1 } in
       let own = commands_of accounts service (lines_of input) in
-      let same : conversation_from accounts (lines_of input) opening (answers_in users own) ≡ held accounts service (lines_of input) =
-      ap (λ commands. conversation_from accounts (lines_of input) opening (answers_in users commands)) (sym (append-nil own)) ∙ held-lines accounts (lines_of input) service [] in
+      let same : conversation_from accounts stamp (lines_of input) opening (answers_in users own) ≡ held accounts service (lines_of input) =
+      ap (λ commands. conversation_from accounts stamp (lines_of input) opening (answers_in users commands)) (sym (append-nil own)) ∙ held-lines accounts (lines_of input) service [] in
       record {
         own = own;
         asked = sym (numbered-lines accounts service (lines_of input)) ∙ ap (λ (c : Conversation A). commands_from 1 c.asked) (sym same);

@@ -5,4 +5,4 @@ use Rattle.server.specs.Service.{Service}
 use Rattle.server.specs.declared.desk.Desk.{Desk}
 
 abbrev pub service_of : Open Global → Desk → Service Global
-service_of session desk = record { state = session.state; users = desk.office; next = desk.next }
+service_of session desk = record { stamp = session.stamp; state = session.state; users = desk.office; next = desk.next }

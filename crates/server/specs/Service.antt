@@ -6,6 +6,7 @@ use Rattle.maildrop.specs.declared.user.User.{User}
 use Rattle.maildrop.specs.declared.op.Op.{Op}
 use Rattle.maildrop.specs.declared.command.Command.{Command}
 use Rattle.apop.specs.Accounts.{Account}
+use Rattle.apop.specs.Stamp.{Stamp}
 use Rattle.pop3_wire.specs.declared.line.Line.{Line}
 use Rattle.session.specs.Session.{hears, by_line, by_answer}
 use Rattle.session.specs.declared.state.State.{State}
@@ -13,8 +14,9 @@ use Rattle.session.specs.declared.state.Step.{Step}
 use Rattle.session.specs.declared.state.Step.TheVariants.{Say, Ask, SayAndClose}
 use Rattle.session.specs.declared.state.Turn.{Turn}
 
--- where the session is, the office, and the number of the next ticket
+-- the timestamp of the session's greeting, where the session is, the office, and the number of the next ticket
 pub record Service (A : Type 0) : Type 0 where
+  pub stamp : Stamp
   pub state : State A
   pub users : List (User A)
   pub next : ℕ
@@ -47,7 +49,7 @@ module _ {A : Type 0} where
   abbrev pub performed : Service A → Command A → Exchange A
   performed service command =
       with_answer
-      (record { state = service.state; users = users_after service.users command; next = service.next + 1 })
+      (record service { users = users_after service.users command; next = service.next + 1 })
       (by_answer service.state command.ticket (outcome_in service.users command))
       (command ∷ [])
 
@@ -59,7 +61,7 @@ module _ {A : Type 0} where
   -- what one line leads to, where the session hears it
   abbrev pub exchange : List Account → Service A → Line → Exchange A
   exchange accounts service line =
-      let turn = by_line accounts service.state line in
+      let turn = by_line accounts service.stamp service.state line in
       if hears service.state
       then exchange_by (record service { state = turn.state }) turn.step
       else record { said = []; commands = []; after = service }
