@@ -1,4 +1,5 @@
 use super::{Accounts, AccountsError, Method, Stamp, stamp};
+use ballot::Memory;
 use maildrop::Name;
 use std::alloc::Global;
 use std::test::Fail;
@@ -124,6 +125,7 @@ fn errors_have_their_numbers(rt: HostRuntime) {
     assert_eq!(rt; AccountsError::Line(7).number(), 1);
     assert_eq!(rt; AccountsError::Twice(7).number(), 2);
     assert_eq!(rt; AccountsError::Memory.number(), 3);
+    assert_eq!(rt; AccountsError::from(Memory), AccountsError::Memory);
 }
 
 #[test]
