@@ -1,5 +1,5 @@
 -- A POP3 session: what each line and each answer brings (RFC 1939 sections 4 to 7).
-use Rattle.std.specs.Prelude.{ℕ, ◌+◌, nat_lt, Bool, true, false, not, List, [], ◌∷◌, ◌++◌, length, map, Option, Some, None, is_some, Result, Ok, Err, if◌then◌else◌}
+use Rattle.std.specs.Prelude.{ℕ, ◌+◌, nat_lt, Bool, true, false, not, List, [], length, map, Option, Some, None, is_some, Result, Ok, Err, if◌then◌else◌}
 use Rattle.std.specs.List.{list_any}
 use Rattle.maildrop.specs.Ticket.{Ticket}
 use Rattle.maildrop.specs.declared.message.Message.{Message}
@@ -23,7 +23,6 @@ use Rattle.pop3_wire.specs.declared.verb.LineFault.TheVariants.{Unknown, Argumen
 use Rattle.session.specs.declared.entry.Entry.{Entry}
 use Rattle.session.specs.declared.state.State.{State}
 use Rattle.session.specs.declared.state.State.TheVariants.{Authorization, Locking, Transaction, Leaving, Closed, Spent}
-use Rattle.session.specs.declared.state.Step.{Step}
 use Rattle.session.specs.declared.state.Step.TheVariants.{Say, Ask, SayAndClose}
 use Rattle.session.specs.declared.state.Turn.{Turn}
 use Rattle.session.specs.Entries.{entry_of, entry_at, with_mark_at, without_mark, unmarked, octets_in, listed_from, identified_from, marked_uids}
