@@ -1,4 +1,5 @@
-use super::{Accounts, AccountsError, Stamp, stamp};
+use super::{Accounts, AccountsError, Method, Stamp, stamp};
+use ballot::Memory;
 use maildrop::Name;
 use std::alloc::Global;
 use std::test::Fail;
@@ -124,6 +125,7 @@ fn errors_have_their_numbers(rt: HostRuntime) {
     assert_eq!(rt; AccountsError::Line(7).number(), 1);
     assert_eq!(rt; AccountsError::Twice(7).number(), 2);
     assert_eq!(rt; AccountsError::Memory.number(), 3);
+    assert_eq!(rt; AccountsError::from(Memory), AccountsError::Memory);
 }
 
 #[test]
@@ -161,6 +163,31 @@ fn a_secret_is_compared_whole(rt: HostRuntime) -> Result<(), Fail> {
     }
     assert!(rt; !accounts.check_pass(&name(b"bob")?, b"s3"));
     assert!(rt; !accounts.check_pass(&name(b"zoe")?, b" s3"));
+    Ok(())
+}
+
+/// A table of one account has this account, and there is none for a secret that no row may have.
+#[test]
+fn a_table_of_one_account(rt: HostRuntime) -> Result<(), Fail> {
+    let alloc = rt.alloc();
+    let longest = [0xFFu8; 256];
+    for (secret, valid) in [
+        (b" a b".as_slice(), true),
+        (&longest[..255], true),
+        (longest.as_slice(), false),
+        (b"".as_slice(), false),
+        (b"a\tb".as_slice(), false),
+    ] {
+        let accounts = Accounts::single(alloc, name(b"alice")?, Method::Pass, secret)?;
+        assert_eq!(rt; accounts.is_some(), valid, "{secret:?}");
+    }
+    let accounts = Accounts::single(alloc, name(b"mrose")?, Method::Apop, b"tanstaaf")?;
+    let mrose = accounts.ok_or("no account")?;
+    assert_eq!(rt; mrose.names().len(), 1);
+    assert_eq!(rt; mrose.names()[0].get(), b"mrose".as_slice());
+    assert!(rt; !mrose.check_pass(&name(b"mrose")?, b"tanstaaf"));
+    let digest = b"c4c9334bac560ecc979e58001b3e22fb";
+    assert!(rt; mrose.check_apop(&name(b"mrose")?, &greeting()?, digest));
     Ok(())
 }
 

@@ -1,5 +1,5 @@
 use super::{MboxError, read, write};
-use ballot::Items;
+use ballot::{Items, Memory};
 use maildrop::Text;
 use std::alloc::Global;
 use std::test::Fail;
@@ -111,6 +111,7 @@ fn a_file_without_a_from_line_is_refused(rt: HostRuntime) {
     }
     assert_eq!(rt; MboxError::NoFromLine.number(), 1);
     assert_eq!(rt; MboxError::Memory.number(), 2);
+    assert_eq!(rt; MboxError::from(Memory), MboxError::Memory);
 }
 
 /// Two messages, with lines that have any number of `>` before `From `.

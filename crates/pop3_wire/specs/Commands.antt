@@ -24,6 +24,7 @@ abbrev pub keyword_of : List ℕ → Option Keyword
 keyword_of bytes =
     if is_word bytes (codes "user") then Some keyword.User
     else if is_word bytes (codes "pass") then Some keyword.Pass
+    else if is_word bytes (codes "apop") then Some keyword.Apop
     else if is_word bytes (codes "stat") then Some keyword.Stat
     else if is_word bytes (codes "list") then Some keyword.List
     else if is_word bytes (codes "retr") then Some keyword.Retr
@@ -100,9 +101,22 @@ both_of first second = None
 abbrev pub numbers_in : List (List ℕ) → Option (ℕ × ℕ)
 numbers_in arguments = option_and_then (λ both. both_of (number_of both.0) (number_of both.1)) (two_arguments arguments)
 
+-- an argument is 1 to 40 visible characters, as a name is
+abbrev pub is_argument : List ℕ → Bool
+is_argument bytes = is_name bytes
+
+-- whether a digest is the right one is seen at the login
+abbrev pub apop_of : List ℕ → List ℕ → Option Verb
+apop_of name digest = if is_name name && is_argument digest then Some (verb.Apop name digest) else None
+
+-- the two arguments, which are a name and a digest
+abbrev pub apop_in : List (List ℕ) → Option Verb
+apop_in arguments = option_and_then (λ both. apop_of both.0 both.1) (two_arguments arguments)
+
 -- the command of a keyword and its arguments, where these are good
 abbrev pub verb_with : Keyword → List (List ℕ) → Option Verb
 verb_with keyword.User arguments = option_map verb.User (name_in arguments)
+verb_with keyword.Apop arguments = apop_in arguments
 verb_with keyword.Stat arguments = if is_nothing arguments then Some verb.Stat else None
 verb_with keyword.List arguments = if is_nothing arguments then Some (verb.List None) else option_map (λ n. verb.List (Some n)) (number_in arguments)
 verb_with keyword.Retr arguments = option_map verb.Retr (number_in arguments)

@@ -24,6 +24,8 @@ fn keyword_of(bytes: &[u8]) -> Option<Keyword>
         Some(Keyword::User)
     } else if is_word(bytes, b"pass") {
         Some(Keyword::Pass)
+    } else if is_word(bytes, b"apop") {
+        Some(Keyword::Apop)
     } else if is_word(bytes, b"stat") {
         Some(Keyword::Stat)
     } else if is_word(bytes, b"list") {
@@ -180,6 +182,27 @@ fn numbers_in(rest: &[u8]) -> Option<(u32, u32)>
     }
 }
 
+fn apop_of(name: &[u8], digest: &[u8]) -> Option<Verb>
+    ensures { result ≡ spec.apop_of name.now digest.now }
+{
+    let name = Name::new(name)?;
+    // An argument has the characters of a name.
+    let digest = Name::new(digest)?;
+    Some(Verb::Apop {
+        name,
+        digest: LineBytes::copied(digest.get()),
+    })
+}
+
+fn apop_in(rest: &[u8]) -> Option<Verb>
+    ensures { result ≡ spec.apop_in (spec.arguments_in rest.now) }
+{
+    match two_arguments(rest) {
+        None => None,
+        Some((name, digest)) => apop_of(name, digest),
+    }
+}
+
 fn bare(verb: Verb, rest: &[u8]) -> Option<Verb>
     ensures { result ≡ (if spec.is_nothing (spec.arguments_in rest.now) then Some verb else None) }
 {
@@ -192,6 +215,7 @@ fn verb_with(keyword: Keyword, rest: &[u8]) -> Option<Verb>
     match keyword {
         Keyword::User => name_in(rest).map(Verb::User),
         Keyword::Pass => None,
+        Keyword::Apop => apop_in(rest),
         Keyword::Stat => bare(Verb::Stat, rest),
         Keyword::List if is_nothing(rest) => Some(Verb::List(None)),
         Keyword::List => number_in(rest).map(|number| Verb::List(Some(number))),

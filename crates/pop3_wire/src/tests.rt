@@ -123,7 +123,7 @@ fn commands(rt: HostRuntime) {
         (b"USERalice", 1),
         (b"US\0ER alice", 1),
         (b"U\x80SER alice", 1),
-        (b"APOP alice c4c9334bac560ecc979e58001b3e22fb", 1),
+        (b"XAPOP alice c4", 1),
         (b"USER", 2),
         (b"USER ", 2),
         (b"USER al ice", 2),
@@ -206,6 +206,54 @@ fn names_and_secrets(rt: HostRuntime) -> Result<(), Fail> {
         assert!(rt; is_pass(&verb, secret), "{secret:?}");
     }
     Ok(())
+}
+
+fn is_apop(verb: &Result<Verb, LineFault>, user: &[u8], expected: &[u8]) -> bool {
+    match verb {
+        Ok(Verb::Apop { name, digest }) => name.get() == user && digest.get() == expected,
+        _ => false,
+    }
+}
+
+/// APOP has a name and a digest, which is kept as it stands, right or wrong.
+#[test]
+fn names_and_digests(rt: HostRuntime) {
+    let longest = [b'f'; 40];
+    for (bytes, digest) in [
+        (
+            b"APOP mrose c4c9334bac560ecc979e58001b3e22fb".as_slice(),
+            b"c4c9334bac560ecc979e58001b3e22fb".as_slice(),
+        ),
+        (b"aPoP mrose C4!~  ", b"C4!~"),
+        (
+            b"apop mrose ffffffffffffffffffffffffffffffffffffffff",
+            &longest,
+        ),
+    ] {
+        assert!(rt;
+            is_apop(&parse(&line(&rt, bytes)), b"mrose", digest),
+            "{bytes:?}"
+        );
+    }
+}
+
+fn is_bad_apop(verb: &Result<Verb, LineFault>) -> bool {
+    matches!(verb, Err(LineFault::Arguments(Keyword::Apop)))
+}
+
+/// What APOP may not have behind it.
+#[test]
+fn bad_arguments_of_apop(rt: HostRuntime) {
+    for bytes in [
+        b"apop mrose".as_slice(),
+        b"APOP mrose  c4",
+        b"APOP mrose c4 c4",
+        b"APOP mrose \x80",
+        b"APOP mr\xFFse c4",
+        b"APOP mrose fffffffffffffffffffffffffffffffffffffffff",
+    ] {
+        assert!(rt; is_bad_apop(&parse(&line(&rt, bytes))), "{bytes:?}");
+    }
 }
 
 /// The bytes of a line are at most 511.

@@ -11,6 +11,7 @@ use thiserror::Error;
 pub enum Keyword {
     User,
     Pass,
+    Apop,
     Stat,
     List,
     Retr,
@@ -28,6 +29,8 @@ pub enum Verb {
     User(Name),
     /// The secret, spaces included.
     Pass(LineBytes),
+    /// The digest as it came, 1 to 40 bytes of 0x21 to 0x7E.
+    Apop { name: Name, digest: LineBytes },
     Stat,
     /// One message, or all.
     List(Option<u32>),

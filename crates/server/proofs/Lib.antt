@@ -1,3 +1,1 @@
-pub mod ReaderLemmas
-pub mod ServiceLemmas
 pub mod LoneLemmas

@@ -1,137 +1,123 @@
--- A session beside its desk is a session whose asked operations the user's maildrop answers.
-use Rattle.std.proofs.Common.{◌≡◌, ℕ, ◌+◌, Bool, true, false, List, [], ◌∷◌, ◌++◌, Option, Some, None, ap, refl, sym, ◌∙◌, append_assoc, append-nil, cond}
+-- A session that was served over the desk of a lone session is one that the user's maildrop answers.
+use Rattle.std.proofs.Common.{◌≡◌, ◌⊎◌, ℕ, ◌+◌, List, [], ◌∷◌, ◌++◌, Option, Some, None, refl, ap, sym, ◌∙◌, append-nil, inl, inr, subst}
+use Rattle.std.specs.Prelude.{IfSome}
 use Rattle.std.specs.List.{concat}
+use Rattle.std.specs.Io.KnownBytes.{Appends, Consumes, IsAtEnd}
+use Rattle.maildrop.specs.Ticket.{Ticket}
 use Rattle.maildrop.specs.Office.{outcome_in, users_after}
 use Rattle.maildrop.specs.declared.user.User.{User}
-use Rattle.maildrop.specs.declared.op.Op.{Op}
+use Rattle.maildrop.specs.declared.outcome.Outcome.{Outcome}
 use Rattle.maildrop.specs.declared.command.Command.{Command}
-use Rattle.apop.specs.Accounts.{Account}
 use Rattle.apop.specs.Stamp.{Stamp}
+use Rattle.apop.specs.Accounts.{Account}
 use Rattle.pop3_wire.specs.Lines.{lines_of}
 use Rattle.pop3_wire.specs.Reply.{greeting}
 use Rattle.pop3_wire.specs.declared.line.Line.{Line}
-use Rattle.session.specs.Session.{opening, hears, by_line, by_answer}
-use Rattle.session.specs.Conversation.{Answer, Asked, Conversation, silence, with_reply, with_asked, after_said, after_answer, after_line, conversation_from, conversation}
-use Rattle.session.specs.declared.state.State.{State}
-use Rattle.session.specs.declared.state.Step.{Step}
-use Rattle.session.specs.declared.state.Step.TheVariants.{Say, Ask, SayAndClose}
-use Rattle.session.specs.declared.state.Turn.{Turn}
-use Rattle.server.specs.Service.{Service, Exchange, ticket_of, command_of, said_by, with_answer, performed, exchange_by, exchange, replies_to, commands_of}
+use Rattle.session.specs.Session.{opening, free_of, lock_due}
+use Rattle.session.specs.Conversation.{Answer, Conversation, with_reply, conversation, conversation_from}
+use Rattle.session.specs.Transcript.{answers_of, requests_of, given_of, IsAnsweredEntry, AreAnswered, IsHistory}
+use Rattle.session.specs.Serve.{IsServed, told}
+use Rattle.session.specs.declared.transcript.Asked.{Asked}
+use Rattle.session.specs.declared.transcript.Transcript.{Transcript}
+use Rattle.session.specs.declared.transcript.End.TheVariants as end
+use Rattle.session.proofs.Parts.{answers_append, history_front}
+use Rattle.session.proofs.Served.{unanswered}
+use Rattle.session.proofs.Closing.{closed_ends}
+use Rattle.server.specs.Tickets.{ticket_of}
+use Rattle.server.specs.LoneDesks.{Gives, GivesTicket}
 use Rattle.server.specs.Lone.{answers_in, commands_from, IsSessionOf}
+use Rattle.server.specs.declared.lone_desk.LoneDesk.{LoneDesk}
 
 module _ {A : Type 0} where
-  -- what commands ask
-  abbrev asked_by : List (Command A) → List (Asked A)
-  asked_by [] = []
-  asked_by (c ∷ cs) = record { user = c.user; op = c.op } ∷ asked_by cs
+  -- what entries asked, under the tickets from a number on
+  abbrev commands_by : ℕ → List (Asked A) → List (Command A)
+  commands_by number [] = []
+  commands_by number (entry ∷ entries) = record { user = entry.name; ticket = ticket_of number; op = entry.op } ∷ commands_by (number + 1) entries
 
-  -- the conversation of lines, as the desk held it
-  abbrev held : List Account → Service A → List Line → Conversation A
-  held accounts service lines = record { replies = replies_to accounts service lines; asked = asked_by (commands_of accounts service lines) }
+  commands_asked : (number : ℕ) (entries : List (Asked A)) → AreAnswered entries → commands_from number (requests_of entries) ≡ commands_by number entries
+  commands_asked number [] answered = refl
+  commands_asked number (entry ∷ entries) answered =
+      let rest = commands_asked (number + 1) entries answered.1 in
+      rw answered.0.asked_by (ap (λ commands. record { user = entry.name; ticket = ticket_of number; op = entry.op } ∷ commands) rest)
 
--- from any service on, whatever answers are left over, the conversation of lines is the one that the desk held
-abbrev IsHeld : Type 0 → List Account → List Line → Type 0
-IsHeld A accounts lines = (service : Service A) (more : List (Command A))
-    → conversation_from accounts lines service.state (answers_in service.users (commands_of accounts service lines ++ more)) ≡ held accounts service lines
+  -- one entry more: its answer, and those behind it
+  answer-first : (first next : LoneDesk A) (entry : Asked A) (ticket : Ticket) (outcome : Outcome A) (answers : List (Answer A)) (commands : List (Command A))
+      → entry.ticket ≡ Some ticket → entry.outcome ≡ Some outcome → Gives first (given_of entry) next → answers ≡ answers_in next.office commands
+      → record { ticket = ticket; outcome = outcome } ∷ answers ≡ answers_in first.office (record { user = entry.name; ticket = ticket_of first.next; op = entry.op } ∷ commands)
+  answer-first first next entry ticket outcome answers commands ticketed answered gives rest =
+      let given : GivesTicket first (given_of entry) next (Some ticket) = subst (λ t. GivesTicket first (given_of entry) next t) ticketed gives in
+      let same : ticket ≡ ticket_of first.next = given.0 in
+      let command : Ticket → Command A = λ t. record { user = entry.name; ticket = t; op = entry.op } in
+      let office : next.office ≡ users_after first.office (command ticket) = given.1 in
+      let said : outcome ≡ outcome_in first.office (command ticket) = subst (λ o. IfSome o (λ outcome. outcome ≡ outcome_in first.office (command ticket))) answered given.3 in
+      let front : record { ticket = ticket; outcome = outcome } ∷ answers ≡ record { ticket = ticket; outcome = outcome_in first.office (command ticket) } ∷ answers_in (users_after first.office (command ticket)) commands =
+      rw (rest, office, said) refl in
+      subst (λ t. record { ticket = ticket; outcome = outcome } ∷ answers ≡ record { ticket = t; outcome = outcome_in first.office (command t) } ∷ answers_in (users_after first.office (command t)) commands) same front
 
-module _ {A : Type 0} where
-  -- a session that hears nothing says nothing, and asks nothing
-  deaf-replies : (accounts : List Account) (service : Service A) (lines : List Line) → hears service.state ≡ false → replies_to accounts service lines ≡ []
-  deaf-replies accounts service [] deaf = refl
-  deaf-replies accounts service (line ∷ lines) deaf = rw deaf (deaf-replies accounts service lines deaf)
+  -- the desk's answers are those of the maildrop to these commands
+  history-answers : (entries : List (Asked A)) (first last : LoneDesk A) → AreAnswered entries → IsHistory Gives first entries last → answers_of entries ≡ answers_in first.office (commands_by first.next entries)
+  history-answers [] first last answered history = refl
+  history-answers (entry ∷ entries) first last answered history =
+      let one = answered.0 in
+      let next = history.0 in
+      let rest = history-answers entries next last answered.1 history.2 in
+      let given : GivesTicket first (given_of entry) next (Some one.ticket) = subst (λ t. GivesTicket first (given_of entry) next t) one.ticketed history.1 in
+      rw (one.ticketed, one.answered)
+      (answer-first first next entry one.ticket one.outcome (answers_of entries) (commands_by (first.next + 1) entries) one.ticketed one.answered history.1 (rest ∙ ap (λ n. answers_in next.office (commands_by n entries)) given.2))
 
-  deaf-commands : (accounts : List Account) (service : Service A) (lines : List Line) → hears service.state ≡ false → commands_of accounts service lines ≡ []
-  deaf-commands accounts service [] deaf = refl
-  deaf-commands accounts service (line ∷ lines) deaf = rw deaf (deaf-commands accounts service lines deaf)
+  -- a session that ended by itself or with the input
+  abbrev pub IsOver : Transcript A → List ℕ → Type 0
+  IsOver transcript rest = (transcript.end ≡ end.Closed) ⊎ ((transcript.end ≡ end.HungUp) × (rest ≡ []))
 
-  -- what an answer brought
-  held-said : (accounts : List Account) (lines : List Line) → IsHeld A accounts lines → (service : Service A) (step : Step A) (more : List (Command A))
-      → after_said (conversation_from accounts lines) service.state (answers_in service.users (commands_of accounts service lines ++ more)) step
-      ≡ record { replies = said_by step ++ replies_to accounts service lines; asked = asked_by (commands_of accounts service lines) }
-  held-said accounts lines rest service (Say bytes) more = ap (with_reply bytes) (rest service more)
-  held-said accounts lines rest service (SayAndClose bytes) more = ap (with_reply bytes) (rest service more)
-  held-said accounts lines rest service (Ask user op) more = rest service more
+  over-end : (transcript : Transcript A) (rest : List ℕ) → IsOver transcript rest → (transcript.end ≡ end.Closed) ⊎ (transcript.end ≡ end.HungUp)
+  over-end transcript rest (inl closed) = inl closed
+  over-end transcript rest (inr hung_up) = inr hung_up.0
 
-  -- the answer to a command
-  held-asked : (accounts : List Account) (lines : List Line) → IsHeld A accounts lines → (service : Service A) (command : Command A) (turn : Option (Turn A)) (more : List (Command A))
-      → with_asked command.user command.op (after_answer (conversation_from accounts lines) service.state turn (answers_in service.users (commands_of accounts (with_answer service turn (command ∷ [])).after lines ++ more)))
-      ≡ record {
-        replies = (with_answer service turn (command ∷ [])).said ++ replies_to accounts (with_answer service turn (command ∷ [])).after lines;
-        asked = asked_by ((with_answer service turn (command ∷ [])).commands ++ commands_of accounts (with_answer service turn (command ∷ [])).after lines);
-      }
-  held-asked accounts lines rest service command None more = ap (with_asked command.user command.op) (rest service more)
-  held-asked accounts lines rest service command (Some turn) more = ap (with_asked command.user command.op) (held-said accounts lines rest (record service { state = turn.state }) turn.step more)
+  all-answered : (transcript : Transcript A) (rest : List ℕ) (entries : List (Asked A)) → IsOver transcript rest → (transcript.end ≡ end.DeskStopped) ⊎ AreAnswered entries → AreAnswered entries
+  all-answered transcript rest entries over (inr answered) = answered
+  all-answered transcript rest entries (inl closed) (inl stopped) = absurd (cc)
+  all-answered transcript rest entries (inr hung_up) (inl stopped) = let same = hung_up.0 in absurd (cc)
 
-  performed-commands : (service : Service A) (turn : Option (Turn A)) (command : Command A) → (with_answer service turn (command ∷ [])).commands ≡ command ∷ []
-  performed-commands service None command = refl
-  performed-commands service (Some turn) command = refl
-
-  -- a step of the session
-  held-step : (accounts : List Account) (lines : List Line) → IsHeld A accounts lines → (service : Service A) (step : Step A) (more : List (Command A))
-      → after_line (conversation_from accounts lines) service.state (answers_in service.users ((exchange_by service step).commands ++ (commands_of accounts (exchange_by service step).after lines ++ more))) step
-      ≡ record { replies = (exchange_by service step).said ++ replies_to accounts (exchange_by service step).after lines; asked = asked_by ((exchange_by service step).commands ++ commands_of accounts (exchange_by service step).after lines) }
-  held-step accounts lines rest service (Say bytes) more = ap (with_reply bytes) (rest service more)
-  held-step accounts lines rest service (SayAndClose bytes) more = ap (with_reply bytes) (rest service more)
-  held-step accounts lines rest service (Ask user op) more =
-      let command : Command A = command_of service user op in
-      let after : Service A = record { state = service.state; users = users_after service.users command; next = service.next + 1 } in
-      let turn = by_answer service.state command.ticket (outcome_in service.users command) in
-      let first = performed-commands after turn command in
-      ap (λ commands. after_line (conversation_from accounts lines) service.state (answers_in service.users (commands ++ (commands_of accounts (with_answer after turn (command ∷ [])).after lines ++ more))) (Ask user op)) first
-      ∙ held-asked accounts lines rest after command turn more
-
-  -- a line, which the session hears or not
-  held-line : (accounts : List Account) (lines : List Line) → IsHeld A accounts lines → (service : Service A) (line : Line) (more : List (Command A)) (heard : Bool) → hears service.state ≡ heard
-      → conversation_from accounts (line ∷ lines) service.state (answers_in service.users (commands_of accounts service (line ∷ lines) ++ more)) ≡ held accounts service (line ∷ lines)
-  held-line accounts lines rest service line more true heard =
-      let turn = by_line accounts service.state line in
-      rw (heard, append_assoc) (held-step accounts lines rest (record service { state = turn.state }) turn.step more)
-  held-line accounts lines rest service line more false heard =
-      rw (heard, deaf-replies accounts service lines heard, deaf-commands accounts service lines heard) refl
-
-  held-lines : (accounts : List Account) (lines : List Line) → IsHeld A accounts lines
-  held-lines accounts [] service more = refl
-  held-lines accounts (line ∷ lines) service more = held-line accounts lines (held-lines accounts lines) service line more (hears service.state) refl
-
-  -- the commands have the tickets of node 1, one after another
-  numbered-answer : (service : Service A) (command : Command A) (turn : Option (Turn A)) (tail : List (Command A)) (number : ℕ) → command.ticket ≡ ticket_of number → service.next ≡ number + 1
-      → commands_from (with_answer service turn (command ∷ [])).after.next (asked_by tail) ≡ tail
-      → commands_from number (asked_by ((with_answer service turn (command ∷ [])).commands ++ tail)) ≡ (with_answer service turn (command ∷ [])).commands ++ tail
-  numbered-answer service command None tail number ticket next rest = rw (← ticket, ← next) (ap (λ cs. command ∷ cs) rest)
-  numbered-answer service command (Some turn) tail number ticket next rest = rw (← ticket, ← next) (ap (λ cs. command ∷ cs) rest)
-
-  numbered-step : (service : Service A) (step : Step A) (tail : List (Command A)) → commands_from (exchange_by service step).after.next (asked_by tail) ≡ tail
-      → commands_from service.next (asked_by ((exchange_by service step).commands ++ tail)) ≡ (exchange_by service step).commands ++ tail
-  numbered-step service (Say bytes) tail rest = rest
-  numbered-step service (SayAndClose bytes) tail rest = rest
-  numbered-step service (Ask user op) tail rest =
-      let command : Command A = command_of service user op in
-      let after : Service A = record { state = service.state; users = users_after service.users command; next = service.next + 1 } in
-      numbered-answer after command (by_answer service.state command.ticket (outcome_in service.users command)) tail service.next refl refl rest
-
-  numbered-line : (accounts : List Account) (service : Service A) (line : Line) (tail : List (Command A)) (heard : Bool) → hears service.state ≡ heard
-      → commands_from (exchange accounts service line).after.next (asked_by tail) ≡ tail
-      → commands_from service.next (asked_by ((exchange accounts service line).commands ++ tail)) ≡ (exchange accounts service line).commands ++ tail
-  numbered-line accounts service line tail true heard =
-      let turn = by_line accounts service.state line in
-      rw heard (λ rest. numbered-step (record service { state = turn.state }) turn.step tail rest)
-  numbered-line accounts service line tail false heard = rw heard (λ rest. rest)
-
-  numbered-lines : (accounts : List Account) (service : Service A) (lines : List Line) → commands_from service.next (asked_by (commands_of accounts service lines)) ≡ commands_of accounts service lines
-  numbered-lines accounts service [] = refl
-  numbered-lines accounts service (line ∷ lines) =
-      numbered-line accounts service line (commands_of accounts (exchange accounts service line).after lines) (hears service.state) refl (numbered-lines accounts (exchange accounts service line).after lines)
-
-  -- what the desk wrote is a whole session
-  pub session_of_service : (accounts : List Account) (stamp : Stamp) (users : List (User A)) (input : List ℕ)
-      → IsSessionOf accounts stamp users input (greeting stamp.nonce stamp.host ++ concat (replies_to accounts (record { state = opening; users = users; next = 1 }) (lines_of input)))
-  session_of_service accounts stamp users input =
-      let service : Service A = record { state = opening; users = users; next = 1 } in
-      let own = commands_of accounts service (lines_of input) in
-      let same : conversation_from accounts (lines_of input) opening (answers_in users own) ≡ held accounts service (lines_of input) =
-      ap (λ commands. conversation_from accounts (lines_of input) opening (answers_in users commands)) (sym (append-nil own)) ∙ held-lines accounts (lines_of input) service [] in
+  pub session_served : (accounts : List Account) (stamp : Stamp) (desk last : LoneDesk A) (read rest input written : List ℕ) (transcript : Transcript A)
+      → IsServed Gives accounts stamp desk last read written transcript → desk.next ≡ 1 → input ≡ read ++ rest → IsOver transcript rest → IsSessionOf accounts stamp desk.office input written
+  session_served accounts stamp desk last read rest input written transcript served first is over =
+      let entries = served.entries in
+      let answered = all-answered transcript rest entries over served.answered in
+      let history = history_front Gives entries served.hangup desk last (subst (λ asked. IsHistory Gives desk asked last) served.in_order served.given) in
+      let own = commands_by 1 entries in
+      let hung : answers_of served.hangup ≡ [] = elim served.freed [
+        | inl freed ↦ unanswered (free_of (lock_due (told accounts stamp transcript).state)) served.hangup freed
+        | inr full ↦ rw full.0 refl
+      ] in
+      let answers : answers_of transcript.asked ≡ answers_in desk.office own =
+      ap answers_of served.in_order ∙ answers_append entries served.hangup ∙ ap (λ more. answers_of entries ++ more) hung ∙ append-nil (answers_of entries)
+      ∙ history-answers entries desk history.0 answered history.1 ∙ ap (λ n. answers_in desk.office (commands_by n entries)) first in
+      let lines : conversation accounts stamp (lines_of input) (answers_of transcript.asked) ≡ told accounts stamp transcript = elim over [
+        | inl closed ↦
+            let behind = served.heard rest in
+            rw (is, ← behind.1) (ap (with_reply (greeting stamp.nonce stamp.host)) (closed_ends accounts stamp 0 transcript.lines behind.0 opening (answers_of transcript.asked) (served.closed closed)))
+        | inr hung_up ↦
+            let whole : transcript.lines ≡ lines_of input = served.heard_all hung_up.0 ∙ ap lines_of (sym (is ∙ ap (λ more. read ++ more) hung_up.1 ∙ append-nil read)) in
+            ap (λ lines. conversation accounts stamp lines (answers_of transcript.asked)) (sym whole)
+      ] in
+      let same : conversation accounts stamp (lines_of input) (answers_in desk.office own) ≡ told accounts stamp transcript =
+      ap (λ answers. conversation accounts stamp (lines_of input) answers) (sym answers) ∙ lines in
       record {
         own = own;
-        asked = sym (numbered-lines accounts service (lines_of input)) ∙ ap (λ (c : Conversation A). commands_from 1 c.asked) (sym same);
-        replied = ap (λ (c : Conversation A). greeting stamp.nonce stamp.host ++ concat c.replies) (sym same);
+        asked = sym (commands_asked 1 entries answered) ∙ ap (λ asked. commands_from 1 asked) served.asked ∙ ap (λ (c : Conversation A). commands_from 1 c.asked) (sym same);
+        replied = served.said_all (over-end transcript rest over) ∙ ap (λ (c : Conversation A). concat c.replies) (sym same);
       }
+
+  -- where the input is known, all of it was answered
+  pub written_session : (accounts : List Account) (stamp : Stamp) (desk last : LoneDesk A) (remaining remaining2 contents contents2 : Option (List ℕ)) (transcript : Transcript A)
+      → (read : List ℕ) × (written : List ℕ) × Consumes remaining remaining2 read × Appends contents contents2 written × IsServed Gives accounts stamp desk last read written transcript
+      → desk.next ≡ 1 → (transcript.end ≡ end.HungUp → IsAtEnd remaining2) → (transcript.end ≡ end.Closed) ⊎ (transcript.end ≡ end.HungUp)
+      → IfSome remaining (λ input. (written : List ℕ) × IsSessionOf accounts stamp desk.office input written × Appends contents contents2 written)
+  written_session accounts stamp desk last None remaining2 contents contents2 transcript served first at_end over = tt
+  written_session accounts stamp desk last (Some input) None contents contents2 transcript served first at_end over = absurd served.2
+  written_session accounts stamp desk last (Some input) (Some rest) contents contents2 transcript served first at_end over =
+      let ended : IsOver transcript rest = elim over [
+        | inl closed ↦ inl closed
+        | inr hung_up ↦ inr (hung_up, at_end hung_up)
+      ] in
+      (served.1, session_served accounts stamp desk last served.0 rest input served.1 transcript served.4 first served.2 ended, served.3)

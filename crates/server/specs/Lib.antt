@@ -1,4 +1,4 @@
 pub mod Options
-pub mod Service
-pub mod Desk
+pub mod Tickets
+pub mod LoneDesks
 pub mod Lone

@@ -7,8 +7,8 @@ use Rattle.maildrop.specs.declared.command.Command.{Command}
 use Rattle.apop.specs.Accounts.{Account}
 use Rattle.apop.specs.Stamp.{Stamp}
 use Rattle.pop3_wire.specs.Lines.{lines_of}
-use Rattle.session.specs.Conversation.{Answer, Asked, conversation}
-use Rattle.server.specs.Service.{ticket_of}
+use Rattle.session.specs.Conversation.{Answer, Request, conversation}
+use Rattle.server.specs.Tickets.{ticket_of}
 use Rattle.server.specs.Options.{account_of, stamp_of, lone_limits}
 use Rattle.server.specs.declared.options.LoneOptions.{LoneOptions}
 
@@ -19,7 +19,7 @@ module _ {A : Type 0} where
   answers_in users (c ∷ cs) = record { ticket = c.ticket; outcome = outcome_in users c } ∷ answers_in (users_after users c) cs
 
   -- asked operations as commands, under the tickets of node 1 from a number on
-  abbrev pub commands_from : ℕ → List (Asked A) → List (Command A)
+  abbrev pub commands_from : ℕ → List (Request A) → List (Command A)
   commands_from number [] = []
   commands_from number (a ∷ more) = record { user = a.user; ticket = ticket_of number; op = a.op } ∷ commands_from (number + 1) more
 

@@ -1,16 +1,18 @@
 //! The program `maildropd`, as calls over any reader and writer.
 #![tactic(auto)]
 
-mod desk;
+mod asking;
 mod fault;
 mod lone;
+mod lone_desk;
 mod options;
-mod service;
 
-pub use desk::Desk;
 pub use fault::Fault;
 pub use lone::lone_run;
+pub use lone_desk::LoneDesk;
 pub use options::LoneOptions;
 
+#[cfg(test)]
+mod serve_tests;
 #[cfg(test)]
 mod tests;

@@ -1,41 +1,19 @@
 //! One session over an empty maildrop, from a reader to a writer.
 ghost use Rattle.std.specs.Prelude.{◌≡◌, ◌≢◌, ℕ, List, ◌+◌, ◌-◌, ◌<◌, ◌≤◌, ◌^◌, ◌++◌, ◌∷◌, [], length, vec_len, IfOk, IfSome, OnOk, OnErr, IfErr, IsErrOf, ◌↔◌, ◌⊎◌};
 ghost use Rattle.std.specs.declared.alloc.Global.{Global};
-ghost use Rattle.std.specs.Io.KnownBytes.{Appends, Consumes, IsAtEnd, Keeps};
-ghost use Rattle.maildrop.specs.Limits.{Limits};
+ghost use Rattle.std.specs.Io.KnownBytes.{Appends};
 ghost use Rattle.maildrop.specs.Office.{new_user};
 ghost use Rattle.server.specs.Lone.{IsSessionOf, IsLoneSession};
 ghost use Rattle.server.specs.Options as spec;
 
-use crate::desk::Desk;
 use crate::fault::Fault;
+use crate::lone_desk::LoneDesk;
 use crate::options::LoneOptions;
-use crate::service::answer_all;
 use apop::{Accounts, Method, Stamp, stamp};
-use ballot::Memory;
 use maildrop::{Limits, Name};
-use session::Session;
+use session::{End, OpenGate, serve};
 use std::alloc::Global;
 use std::io::{Read, Write};
-
-/// Reads all there is, in at most 4,294,967,295 reads.
-fn read_whole<R: Read>(alloc: Global, reader: &mut R) -> Result<Vec<u8>, Fault>
-    ensures whole { IfOk result (λ bytes. IfSome (R.remaining reader.old) (λ input. bytes.items ≡ input)) }
-    ensures fault { IfErr result (λ fault. (fault ≡ Fault.Read) ⊎ (fault ≡ Fault.Memory)) }
-{
-    let mut bytes = Vec::new(alloc);
-    let mut buffer = [0u8; 4096];
-    for _ in 0..u32::MAX {
-        let count = reader.read(&mut buffer).map_err(|_| Fault::Read)?;
-        if count == 0 {
-            return Ok(bytes);
-        }
-        bytes
-            .extend_from_slice(&buffer[..count])
-            .map_err(|_| Fault::Memory)?;
-    }
-    Err(Fault::Read)
-}
 
 /// The account that the options name, with the user's name.
 fn account_of(alloc: Global, options: &LoneOptions<'_>) -> Result<(Name, Accounts), Fault>
@@ -55,53 +33,43 @@ fn account_of(alloc: Global, options: &LoneOptions<'_>) -> Result<(Name, Account
     }
 }
 
-/// All that is written to a client that sends this input and hangs up.
-fn session_bytes(
+/// Serves a session over the maildrop of one user.
+fn serve_user<R: Read, W: Write>(
     alloc: Global,
+    reader: &mut R,
+    writer: &mut W,
     accounts: &Accounts,
     user: Name,
     stamp: Stamp,
-    limits: Limits,
-    input: &[u8],
-) -> Result<Vec<u8>, Memory>
-    requires { length input.now < 2 ^ 63 }
-    ensures { IfOk result (λ text. IsSessionOf {A = Global} accounts.now stamp (new_user limits user ∷ []) input.now text.items) }
+) -> Result<(), Fault>
+    ensures written { OnOk result (IfSome (R.remaining reader.old) (λ input. (written : List ℕ)
+        × IsSessionOf {A = Global} accounts.now stamp (new_user spec.lone_limits user ∷ []) input written
+        × Appends (W.contents writer.old) (W.contents writer.new) written)) }
+    ensures fault { IfErr result (λ fault. (fault ≢ Fault.Account) × (fault ≢ Fault.Value)) }
 {
-    let mut desk = Desk::new(alloc, user, limits)?;
-    let mut session = Session::new(alloc, stamp);
-    let mut text = match session.greeting() {
-        Ok(greeting) => greeting.into_vec(),
-        Err(_) => return Err(Memory),
-    };
-    answer_all(accounts, &mut session, &mut desk, input, &mut text)?;
-    Ok(text)
-}
-
-/// What is written to a client that sends all that the reader has.
-fn output<R: Read>(
-    alloc: Global,
-    reader: &mut R,
-    options: &LoneOptions<'_>,
-) -> Result<Vec<u8>, Fault>
-    ensures output { IfOk result (λ text. IfSome (R.remaining reader.old) (λ input. IsLoneSession Global options.now input text.items)) }
-    ensures valid { OnOk result (spec.IsAccount options.now × spec.IsStamp options.now) }
-    ensures account { IsErrOf result Fault.Account ↔ ¬ spec.IsAccount options.now }
-    ensures value { IsErrOf result Fault.Value → ¬ spec.IsStamp options.now }
-    ensures fault { IfErr result (λ fault. fault ≢ Fault.Write) }
-{
-    let (user, accounts) = account_of(alloc, options)?;
-    let Some(stamp) = stamp(options.nonce, options.host) else {
-        return Err(Fault::Value);
-    };
     let limits = Limits::new(10_000, 50_000_000, 1_000_000_000).unwrap();
-    let input = read_whole(alloc, reader)?;
-    match session_bytes(alloc, &accounts, user, stamp, limits, input.as_slice()) {
-        Ok(text) => Ok(text),
-        Err(_) => Err(Fault::Memory),
+    let Ok(mut desk) = LoneDesk::new(alloc, user, limits) else {
+        return Err(Fault::Memory);
+    };
+    let transcript = serve(
+        alloc,
+        reader,
+        writer,
+        accounts,
+        stamp,
+        &mut desk,
+        &mut OpenGate,
+    );
+    match transcript.end {
+        End::Closed | End::HungUp => Ok(()),
+        End::ReadFault => Err(Fault::Read),
+        End::WriteFault => Err(Fault::Write),
+        // The desk of a lone session stops for want of memory alone.
+        End::DeskStopped | End::Memory => Err(Fault::Memory),
     }
 }
 
-/// Reads the whole input, and writes what a client that sent it is told.
+/// Serves the session that the options describe.
 fn run<R: Read, W: Write>(
     alloc: Global,
     reader: &mut R,
@@ -114,19 +82,18 @@ fn run<R: Read, W: Write>(
     ensures valid { OnOk result (spec.IsAccount options.now × spec.IsStamp options.now) }
     ensures account { IsErrOf result Fault.Account ↔ ¬ spec.IsAccount options.now }
     ensures value { IsErrOf result Fault.Value → ¬ spec.IsStamp options.now }
-    ensures untouched { IfErr result (λ fault. fault ≢ Fault.Write → writer.new ≡ writer.old) }
+    ensures untouched { IfErr result (λ fault. (fault ≡ Fault.Account) ⊎ (fault ≡ Fault.Value) → writer.new ≡ writer.old) }
 {
-    let text = output(alloc, reader, options)?;
-    match writer.write_all(text.as_slice()) {
-        Ok(()) => Ok(()),
-        Err(_) => Err(Fault::Write),
-    }
+    let (user, accounts) = account_of(alloc, options)?;
+    let Some(stamp) = stamp(options.nonce, options.host) else {
+        return Err(Fault::Value);
+    };
+    serve_user(alloc, reader, writer, &accounts, user, stamp)
 }
 
-/// Serves one POP3 session (RFC 1939) over an empty maildrop, from a reader to a writer: reads the whole input, and
-/// then writes what a client that sends it is told. Gives the exit status: 0 at the end of the session or of the
-/// input, 1 after a fault of memory, reading or writing, 2 for options that are none. A fault is told on standard
-/// error.
+/// Serves one POP3 session (RFC 1939) over an empty maildrop, from a reader to a writer, and answers each line as it
+/// comes. Gives the exit status: 0 at the end of the session or of the input, 1 after a fault of memory, reading or
+/// writing, 2 for options that are none. A fault is told on standard error.
 pub fn lone_run<H: AllocGlobal + Eprint, R: Read, W: Write>(
     rt: &H,
     reader: &mut R,

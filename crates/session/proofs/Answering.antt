@@ -47,13 +47,13 @@ module _ {A : Type 0} where
 
   -- a desk that stops answers nothing
   pub stopped_silenced : (old : State A) (ticket : Option Ticket) → awaits_answer old ≡ true → IsSilenced old ticket None old end.DeskStopped
-  stopped_silenced old None waits = record { replies = []; last = old; talk = refl; unclosed = λ same. elim same [ inl closed ↦ absurd (cc) | inr hung_up ↦ absurd (cc) ]; due = inl refl; undue = λ same. (awaiting old waits).1 }
-  stopped_silenced old (Some ticket) waits = record { replies = []; last = old; talk = refl; unclosed = λ same. elim same [ inl closed ↦ absurd (cc) | inr hung_up ↦ absurd (cc) ]; due = inl refl; undue = λ same. (awaiting old waits).1 }
+  stopped_silenced old None waits = record { replies = []; last = old; talk = refl; answered = inl refl; unclosed = λ same. elim same [ inl closed ↦ absurd (cc) | inr hung_up ↦ absurd (cc) ]; due = inl refl; undue = λ same. (awaiting old waits).1 }
+  stopped_silenced old (Some ticket) waits = record { replies = []; last = old; talk = refl; answered = inl refl; unclosed = λ same. elim same [ inl closed ↦ absurd (cc) | inr hung_up ↦ absurd (cc) ]; due = inl refl; undue = λ same. (awaiting old waits).1 }
 
   -- an outcome that doesn't fit
   unfit-silenced : (old new : State A) (ticket : Ticket) (outcome : Outcome A) → awaits_answer old ≡ true → by_answer old ticket outcome ≡ None → IsSilenced old (Some ticket) (Some outcome) new end.DeskStopped
   unfit-silenced old new ticket outcome waits unfit =
-      record { replies = []; last = old; talk = rw unfit refl; unclosed = λ same. elim same [ inl closed ↦ absurd (cc) | inr hung_up ↦ absurd (cc) ]; due = inl refl; undue = λ same. (awaiting old waits).1 }
+      record { replies = []; last = old; talk = rw unfit refl; answered = inl refl; unclosed = λ same. elim same [ inl closed ↦ absurd (cc) | inr hung_up ↦ absurd (cc) ]; due = inl refl; undue = λ same. (awaiting old waits).1 }
 
   -- an outcome that fits, where what is to be said finds no memory
   spent-silenced : (old new : State A) (ticket : Ticket) (outcome : Outcome A) (found : Option (Turn A)) → by_answer old ticket outcome ≡ found → found ≢ None → new ≡ state.Spent (lock_got old ticket outcome)
@@ -65,6 +65,7 @@ module _ {A : Type 0} where
         replies = said_by turn.step;
         last = turn.state;
         talk = rw fits (said-after turn.step turn.state);
+        answered = inr (ticket, outcome, refl, refl);
         unclosed = λ same. elim same [ inl closed ↦ absurd (cc) | inr hung_up ↦ absurd (cc) ];
         due = inr (ap lock_due spent ∙ settled.lock, ap awaits_answer spent);
         undue = λ same. absurd (cc);
@@ -111,15 +112,17 @@ module _ {A : Type 0} where
     said_all = λ over. elim over [ inl closed ↦ absurd (cc) | inr hung_up ↦ absurd (cc) ];
     counted = omega (arith, count);
     given = desk;
+    answered = inr tt;
+    closed = λ over. absurd (cc);
     due = inr (due, settled);
     undue = λ stopped. absurd (cc);
   }
 
   -- from the place before a line to the one behind it, where the session has heard it and nothing is kept yet
-  pub record IsTurned {D : Type 0} (accounts : List Account) (old middle : Place A D) (line : Line) (stepped : Step A) : Type 0 where
+  pub record IsTurned {D : Type 0} (accounts : List Account) (stamp : Stamp) (old middle : Place A D) (line : Line) (stepped : Step A) : Type 0 where
     pub hearing : hears old.state ≡ true
-    pub step : stepped ≡ (by_line accounts old.state line).step
-    pub state : middle.state ≡ (by_line accounts old.state line).state
+    pub step : stepped ≡ (by_line accounts stamp old.state line).step
+    pub state : middle.state ≡ (by_line accounts stamp old.state line).state
     pub lines : middle.lines ≡ old.lines
     pub asked : middle.asked ≡ old.asked
     pub count : middle.count ≡ old.count
@@ -132,13 +135,13 @@ module _ {A : Type 0} where
   asked-talk accounts stamp number number2 same waiting user op ticket outcome replies last talk =
       rw (same, append-nil) (ap (with_request (record { line = number; user = user; op = op })) talk)
 
-  pub turned_settled : {D : Type 0} (accounts : List Account) (old middle : Place A D) (line : Line) (step : Step A) → IsTurned accounts old middle line step → IsSettled step middle.state
-  turned_settled accounts old middle line step turned =
+  pub turned_settled : {D : Type 0} (accounts : List Account) (stamp : Stamp) (old middle : Place A D) (line : Line) (step : Step A) → IsTurned accounts stamp old middle line step → IsSettled step middle.state
+  turned_settled accounts stamp old middle line step turned =
       subst (λ step. IsSettled step middle.state) (sym turned.step)
-      (subst (λ state. IsSettled (by_line accounts old.state line).step state) (sym turned.state) (line_settles accounts old.state line turned.hearing))
+      (subst (λ state. IsSettled (by_line accounts stamp old.state line).step state) (sym turned.state) (line_settles accounts stamp old.state line turned.hearing))
 
   pub responded : {D : Type 0} (accounts : List Account) (stamp : Stamp) (gives : D → Given A → D → Type 0) (old middle new : Place A D) (line : Line) (step : Step A) (said : List ℕ)
-      → IsTurned accounts old middle line step → Responds gives middle new line step said → IsHeard accounts stamp gives old new line said
+      → IsTurned accounts stamp old middle line step → Responds gives middle new line step said → IsHeard accounts stamp gives old new line said
   responded accounts stamp gives old middle new line (Say bytes) said turned responds = rw (responds.0, responds.1) (record {
     entries = [];
     part = subst (λ state. IsPart accounts stamp (length old.lines) old.state state (line ∷ []) [] (bytes ∷ [])) (sym turned.state)
@@ -146,6 +149,7 @@ module _ {A : Type 0} where
     heard = ap (λ lines. lines ++ line ∷ []) turned.lines;
     asked = turned.asked ∙ sym (append-nil old.asked);
     counted = turned.count;
+    answered = tt;
     given = turned.desk;
   })
   responded accounts stamp gives old middle new line (SayAndClose bytes) said turned responds = rw (responds.0, responds.1) (record {
@@ -155,12 +159,13 @@ module _ {A : Type 0} where
     heard = ap (λ lines. lines ++ line ∷ []) turned.lines;
     asked = turned.asked ∙ sym (append-nil old.asked);
     counted = turned.count;
+    answered = tt;
     given = turned.desk;
   })
   responded accounts stamp gives old middle new line (Ask user op) said turned responds =
       let number : length middle.lines ≡ length old.lines = ap length turned.lines in
       let entry = entry_of (length middle.lines) user op (Some responds.ticket) (Some responds.outcome) in
-      let answered : by_answer (by_line accounts old.state line).state responds.ticket responds.outcome ≡ Some responds.answer.turn = subst (λ state. by_answer state responds.ticket responds.outcome ≡ Some responds.answer.turn) turned.state responds.answer.answered in
+      let answered : by_answer (by_line accounts stamp old.state line).state responds.ticket responds.outcome ≡ Some responds.answer.turn = subst (λ state. by_answer state responds.ticket responds.outcome ≡ Some responds.answer.turn) turned.state responds.answer.answered in
       let part : IsPart accounts stamp (length old.lines) old.state responds.answer.turn.state (line ∷ []) (entry_of (length old.lines) user op (Some responds.ticket) (Some responds.outcome) ∷ []) (said ∷ []) =
       elim responds.answer.says [
         | inl says ↦ answered_part accounts stamp (length old.lines) old.state line user op responds.ticket responds.outcome responds.answer.turn said turned.hearing (sym turned.step) answered says
@@ -173,11 +178,12 @@ module _ {A : Type 0} where
         heard = responds.lines ∙ ap (λ lines. lines ++ line ∷ []) turned.lines;
         asked = responds.asked ∙ ap (λ asked. asked ++ entry ∷ []) turned.asked;
         counted = responds.count ∙ turned.count;
+        answered = (record { line = length middle.lines; ticket = responds.ticket; outcome = responds.outcome; asked_by = refl; ticketed = refl; answered = refl }, tt);
         given = (new.desk, subst (λ desk. gives desk (given_of entry) new.desk) turned.desk responds.given, refl);
       }
 
   pub refused : {D : Type 0} (accounts : List Account) (stamp : Stamp) (gives : D → Given A → D → Type 0) (old middle new : Place A D) (line : Line) (step : Step A) (ended : End)
-      → IsTurned accounts old middle line step → Refuses gives middle new line (lock_due old.state) step ended → IsStop accounts stamp gives old new (line ∷ []) ended []
+      → IsTurned accounts stamp old middle line step → Refuses gives middle new line (lock_due old.state) step ended → IsStop accounts stamp gives old new (line ∷ []) ended []
   refused {D} accounts stamp gives old middle new line (Say bytes) ended turned refuses = absurd refuses
   refused {D} accounts stamp gives old middle new line (SayAndClose bytes) ended turned refuses = absurd refuses
   refused {D} accounts stamp gives old middle new line (Ask user op) ended turned (inl spent) =
@@ -207,6 +213,11 @@ module _ {A : Type 0} where
         said_all = λ closed. absurd (silenced.unclosed closed);
         counted = unanswered.count ∙ turned.count ∙ omega arith;
         given = (new.desk, subst (λ desk. gives desk (given_of entry) new.desk) turned.desk unanswered.given, refl);
+        answered = elim silenced.answered [
+          | inl stopped ↦ inl stopped
+          | inr given ↦ inr (record { line = length middle.lines; ticket = given.0; outcome = given.1; asked_by = refl; ticketed = given.2; answered = given.3 }, tt)
+        ];
+        closed = λ over. absurd (silenced.unclosed (inl over));
         due = silenced.due;
         undue = silenced.undue;
       }

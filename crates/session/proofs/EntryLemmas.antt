@@ -1,9 +1,9 @@
 -- The messages of an open maildrop: what is kept of them, and what a mark changes.
-use Rattle.std.proofs.Common.{◌≡◌, ℕ, suc, zero, ◌+◌, ◌-◌, ◌<◌, ◌≤◌, Bool, true, false, not, List, [], ◌∷◌, ◌++◌, length, get_or, set, Option, Some, None, refl, ap, ◌∙◌, sym, subst, arith, add_comm, add-one, sub-one, inl, inr}
-use Rattle.std.specs.Prelude.{map, filter, sum_by, slice_get, is_none, MatchOption}
+use Rattle.std.proofs.Common.{◌≡◌, ℕ, suc, zero, ◌+◌, ◌-◌, ◌<◌, ◌≤◌, false, List, [], ◌∷◌, length, get_or, set, Option, Some, None, refl, ap, ◌∙◌, arith, add_comm, sub-one, inl, inr}
+use Rattle.std.specs.Prelude.{map, filter, slice_get, is_none, MatchOption}
 use Rattle.std.specs.List.{AllPairs}
 use Rattle.std.specs.List.Sorted.{IsStrictlyIncreasing}
-use Rattle.std.proofs.lemmas.List.{map-set, length-set, length-map, get_or-map}
+use Rattle.std.proofs.lemmas.List.{length-set, length-map, get_or-map}
 use Rattle.std.proofs.lemmas.List.Sums.{sum_by-cons, sum_by-take-le, sum_by_more}
 use Rattle.std.proofs.lemmas.Option.{get_or_from_slice_get}
 use Rattle.std.proofs.lemmas.List.Kept.{AllPairs-filter, AllPairs-from_increasing}
@@ -14,7 +14,7 @@ use Rattle.maildrop.specs.Text.{octets_of}
 use Rattle.maildrop.specs.Taken.{AreTaken, message_octets, unique_ids}
 use Rattle.maildrop.specs.declared.message.Message.{Message}
 use Rattle.session.specs.declared.entry.Entry.{Entry}
-use Rattle.session.specs.Entries.{entry_of, entry_at, unless_marked, with_mark, without_mark, with_mark_at, unmarked, octets_in, marked_uids, AreCounted}
+use Rattle.session.specs.Entries.{entry_of, entry_at, unless_marked, with_mark, without_mark, unmarked, octets_in, marked_uids, AreCounted}
 
 module _ {A : Type 0} where
   abbrev uid_of : Entry A → ℕ

@@ -7,3 +7,4 @@ pub mod Answering
 pub mod Pieces
 pub mod ReaderLemmas
 pub mod Served
+pub mod Closing

@@ -13,7 +13,7 @@ use Rattle.session.specs.Prefix.{IsPrefix}
 use Rattle.session.specs.Desks.{Given}
 use Rattle.session.specs.Session.{hears, by_line, by_answer}
 use Rattle.session.specs.Conversation.{Answer, Request, Conversation, silence, conversation_from}
-use Rattle.session.specs.Transcript.{answers_of, requests_of, given_of, IsHistory}
+use Rattle.session.specs.Transcript.{answers_of, requests_of, given_of, AreAnswered, IsHistory}
 use Rattle.session.specs.declared.state.State.{State}
 use Rattle.session.specs.declared.state.Step.{Step}
 use Rattle.session.specs.declared.state.Step.TheVariants.{Say, Ask, SayAndClose}
@@ -50,26 +50,26 @@ module _ {A : Type 0} where
 
   -- a line to which the session says something
   pub say_part : (accounts : List Account) (stamp : Stamp) (number : ℕ) (state : State A) (line : Line) (bytes : List ℕ)
-      → hears state ≡ true → (by_line accounts state line).step ≡ Say bytes
-      → IsPart accounts stamp number state (by_line accounts state line).state (line ∷ []) [] (bytes ∷ [])
+      → hears state ≡ true → (by_line accounts stamp state line).step ≡ Say bytes
+      → IsPart accounts stamp number state (by_line accounts stamp state line).state (line ∷ []) [] (bytes ∷ [])
   say_part accounts stamp number state line bytes hearing step = record { follows = λ more answers. rw (hearing, step) refl }
 
   -- and closes
   pub close_part : (accounts : List Account) (stamp : Stamp) (number : ℕ) (state : State A) (line : Line) (bytes : List ℕ)
-      → hears state ≡ true → (by_line accounts state line).step ≡ SayAndClose bytes
-      → IsPart accounts stamp number state (by_line accounts state line).state (line ∷ []) [] (bytes ∷ [])
+      → hears state ≡ true → (by_line accounts stamp state line).step ≡ SayAndClose bytes
+      → IsPart accounts stamp number state (by_line accounts stamp state line).state (line ∷ []) [] (bytes ∷ [])
   close_part accounts stamp number state line bytes hearing step = record { follows = λ more answers. rw (hearing, step) refl }
 
   -- a line that asks, and the answer to which the session says something
   pub answered_part : (accounts : List Account) (stamp : Stamp) (number : ℕ) (state : State A) (line : Line) (user : List ℕ) (op : Op A) (ticket : Ticket) (outcome : Outcome A) (turn : Turn A) (bytes : List ℕ)
-      → hears state ≡ true → (by_line accounts state line).step ≡ Ask user op
-      → by_answer (by_line accounts state line).state ticket outcome ≡ Some turn → turn.step ≡ Say bytes
+      → hears state ≡ true → (by_line accounts stamp state line).step ≡ Ask user op
+      → by_answer (by_line accounts stamp state line).state ticket outcome ≡ Some turn → turn.step ≡ Say bytes
       → IsPart accounts stamp number state turn.state (line ∷ []) (entry_of number user op (Some ticket) (Some outcome) ∷ []) (bytes ∷ [])
   answered_part accounts stamp number state line user op ticket outcome turn bytes hearing step fits says = record { follows = λ more answers. rw (hearing, step, fits, says) refl }
 
   pub answered_close : (accounts : List Account) (stamp : Stamp) (number : ℕ) (state : State A) (line : Line) (user : List ℕ) (op : Op A) (ticket : Ticket) (outcome : Outcome A) (turn : Turn A) (bytes : List ℕ)
-      → hears state ≡ true → (by_line accounts state line).step ≡ Ask user op
-      → by_answer (by_line accounts state line).state ticket outcome ≡ Some turn → turn.step ≡ SayAndClose bytes
+      → hears state ≡ true → (by_line accounts stamp state line).step ≡ Ask user op
+      → by_answer (by_line accounts stamp state line).state ticket outcome ≡ Some turn → turn.step ≡ SayAndClose bytes
       → IsPart accounts stamp number state turn.state (line ∷ []) (entry_of number user op (Some ticket) (Some outcome) ∷ []) (bytes ∷ [])
   answered_close accounts stamp number state line user op ticket outcome turn bytes hearing step fits says = record { follows = λ more answers. rw (hearing, step, fits, says) refl }
 
@@ -92,3 +92,14 @@ module _ {A : Type 0} where
 pub history_join : {A D : Type 0} (gives : D → Given A → D → Type 0) (xs ys : List (Asked A)) (first middle last : D) → IsHistory gives first xs middle → IsHistory gives middle ys last → IsHistory gives first (xs ++ ys) last
 history_join gives [] ys first middle last before behind = subst (λ desk. IsHistory gives desk ys last) before behind
 history_join gives (x ∷ xs) ys first middle last before behind = (before.0, before.1, history_join gives xs ys before.0 middle last before.2 behind)
+
+pub answered_join : {A : Type 0} (xs ys : List (Asked A)) → AreAnswered xs → AreAnswered ys → AreAnswered (xs ++ ys)
+answered_join [] ys first second = second
+answered_join (x ∷ xs) ys first second = (first.0, answered_join xs ys first.1 second)
+
+-- the front of a history
+pub history_front : {A D : Type 0} (gives : D → Given A → D → Type 0) (xs ys : List (Asked A)) (first last : D) → IsHistory gives first (xs ++ ys) last → (middle : D) × IsHistory gives first xs middle
+history_front gives [] ys first last history = (first, refl)
+history_front gives (x ∷ xs) ys first last history =
+    let rest = history_front gives xs ys history.0 last history.2 in
+    (rest.0, (history.0, history.1, rest.1))

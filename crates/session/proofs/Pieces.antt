@@ -63,9 +63,9 @@ module _ {A : Type 0} where
     written = front.written ++ written;
     stop = run_stop accounts stamp gives old middle new front.lines (line ∷ []) ended front.written written front.run stop;
     appended = appends_join contents contents2 contents3 front.written written front.appended appended;
-    cut = (
-      lines_after after (behind ++ []),
-      append_assoc front.lines (line ∷ []) (lines_after after (behind ++ [])) ∙ ap (λ lines. front.lines ++ lines) (sym (next [])) ∙ sym (front.cut []) ∙ ap (λ bytes. lines_after kept bytes) (append-nil piece),
+    cut = λ more. (
+      lines_after after (behind ++ more),
+      append_assoc front.lines (line ∷ []) (lines_after after (behind ++ more)) ∙ ap (λ lines. front.lines ++ lines) (sym (next more)) ∙ sym (front.cut more),
     );
   }
 
@@ -85,19 +85,19 @@ module _ {A : Type 0} where
 
   -- the input has ended, or is read no more
   pub listened : {D : Type 0} (accounts : List Account) (stamp : Stamp) (gives : D → Given A → D → Type 0) (old new : Place A D) (fed : Kept) (read : List ℕ) (ended : End) (remaining remaining2 contents contents2 : Option (List ℕ))
-      → IsPieceFront accounts stamp gives old new (Open []) fed read [] contents contents2 → lines_after fed [] ≡ [] → Consumes remaining remaining2 read → ended ≢ end.DeskStopped → (ended ≡ end.HungUp → IsAtEnd remaining2)
+      → IsPieceFront accounts stamp gives old new (Open []) fed read [] contents contents2 → lines_after fed [] ≡ [] → Consumes remaining remaining2 read → ended ≢ end.DeskStopped → ended ≢ end.Closed → (ended ≡ end.HungUp → IsAtEnd remaining2)
       → IsListened accounts stamp gives old new ended remaining remaining2 contents contents2
-  listened accounts stamp gives old new fed read ended remaining remaining2 contents contents2 front none consumed served over =
+  listened accounts stamp gives old new fed read ended remaining remaining2 contents contents2 front none consumed served unclosed over =
       let whole : front.lines ≡ lines_of read =
       sym (append-nil front.lines) ∙ ap (λ lines. front.lines ++ lines) (sym none) ∙ sym (front.cut []) ∙ ap lines_of (append-nil read) in
       record {
         read = read;
         written = front.written;
         lines = front.lines;
-        stop = run_ends accounts stamp gives old new front.lines ended front.written front.run served;
+        stop = run_ends accounts stamp gives old new front.lines ended front.written front.run served unclosed;
         consumed = consumed;
         appended = front.appended;
-        cut = ([], append-nil front.lines ∙ whole);
+        cut = λ more. (lines_after fed more, sym (front.cut more));
         cut_all = λ hung_up. (front.run.heard ∙ ap (λ lines. old.lines ++ lines) whole, over hung_up);
       }
 
@@ -113,9 +113,9 @@ module _ {A : Type 0} where
     stop = run_stop accounts stamp gives old middle new front.lines stop.lines ended front.written stop.written front.run stop.stop;
     consumed = consumed;
     appended = appends_join contents contents2 contents3 front.written stop.written front.appended stop.appended;
-    cut = (
-      stop.cut.0,
-      append_assoc front.lines stop.lines stop.cut.0 ∙ ap (λ lines. front.lines ++ lines) stop.cut.1 ∙ sym (front.cut piece),
+    cut = λ more. (
+      (stop.cut more).0,
+      append_assoc front.lines stop.lines (stop.cut more).0 ∙ ap (λ lines. front.lines ++ lines) (stop.cut more).1 ∙ sym (front.cut (piece ++ more)) ∙ ap lines_of (sym (append_assoc read piece more)),
     );
     cut_all = λ hung_up. absurd (served hung_up);
   }
@@ -140,14 +140,16 @@ module _ {A : Type 0} where
           talk =
               let talk = rw (lines, state) at stop.talk in
               rw (heard, kept, is) (ap (with_reply (greeting stamp.nonce stamp.host)) talk);
-          heard =
-              let inside = prefix_of_prefix stop.front listened.lines (lines_of listened.read) stop.front_of listened.cut in
+          heard = λ more.
+              let inside = prefix_of_prefix stop.front listened.lines (lines_of (listened.read ++ more)) stop.front_of (listened.cut more) in
               rw heard inside;
           heard_all = λ hung_up. (listened.cut_all hung_up).0 ∙ ap (λ xs. xs ++ lines_of listened.read) lines;
           counted = omega (arith, stop.counted, count, length-append greeted listened.written);
           said = prefix_behind greeted listened.written (concat stop.replies) stop.said;
           said_all = λ over. ap (λ bytes. greeted ++ bytes) (stop.said_all over);
           given = rw kept stop.given;
+          answered = rw kept stop.answered;
+          closed = stop.closed;
           due = stop.due;
           undue = stop.undue;
         };
@@ -167,7 +169,7 @@ module _ {A : Type 0} where
       replies = greeted ∷ [];
       last = opening;
       talk = rw (lines, asked, is) refl;
-      heard = rw lines (lines_of [], refl);
+      heard = λ more. rw lines (lines_of more, refl);
       heard_all = λ same. absurd (cc);
       counted = count ∙ sym (length_taken sent greeted few);
       said = (drop sent greeted, take-append-drop sent greeted ∙ sym (append-nil greeted));
@@ -176,6 +178,8 @@ module _ {A : Type 0} where
         | inr hung_up ↦ absurd (cc)
       ];
       given = rw asked refl;
+      answered = inr (rw asked tt);
+      closed = λ same. absurd (cc);
       due = inr (rw state (refl, refl));
       undue = λ same. absurd (cc);
     };

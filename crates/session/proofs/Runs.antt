@@ -17,7 +17,7 @@ use Rattle.session.specs.declared.transcript.Asked.{Asked}
 use Rattle.session.specs.declared.transcript.End.{End}
 use Rattle.session.specs.declared.transcript.End.TheVariants as end
 use Rattle.session.specs.Dialogue.{Place, IsPart, IsRun, IsStop, IsHeard}
-use Rattle.session.proofs.Parts.{part_join, part_ends, part_then, history_join}
+use Rattle.session.proofs.Parts.{part_join, part_ends, part_then, history_join, answered_join}
 use Rattle.session.proofs.Settled.{heard_awaits}
 
 pub take_whole : (n : ℕ) (xs : List ℕ) → length xs ≤ n → take n xs ≡ xs
@@ -59,6 +59,7 @@ module _ {A : Type 0} where
     said = concats run.replies run2.replies written written2 run.said run2.said;
     counted = counts old.count middle.count new.count written written2 run.counted run2.counted;
     given = history_join gives run.entries run2.entries old.desk middle.desk new.desk run.given run2.given;
+    answered = answered_join run.entries run2.entries run.answered run2.answered;
     hears = run2.hears;
   }
 
@@ -82,14 +83,19 @@ module _ {A : Type 0} where
     said_all = λ closed. concats run.replies stop.replies written written2 run.said (stop.said_all closed);
     counted = counts old.count middle.count new.count written written2 run.counted stop.counted;
     given = history_join gives run.entries stop.entries old.desk middle.desk new.desk run.given stop.given;
+    answered = elim stop.answered [
+      | inl stopped ↦ inl stopped
+      | inr answered ↦ inr (answered_join run.entries stop.entries run.answered answered)
+    ];
+    closed = stop.closed;
     due = stop.due;
     undue = stop.undue;
   }
 
   -- a session that would go on, and stops all the same
   pub run_ends : {D : Type 0} (accounts : List Account) (stamp : Stamp) (gives : D → Given A → D → Type 0) (old new : Place A D) (lines : List Line) (ended : End) (written : List ℕ)
-      → IsRun accounts stamp gives old new lines written → ended ≢ end.DeskStopped → IsStop accounts stamp gives old new lines ended written
-  run_ends accounts stamp gives old new lines ended written run served = record {
+      → IsRun accounts stamp gives old new lines written → ended ≢ end.DeskStopped → ended ≢ end.Closed → IsStop accounts stamp gives old new lines ended written
+  run_ends accounts stamp gives old new lines ended written run served unclosed = record {
     entries = run.entries;
     replies = run.replies;
     front = lines;
@@ -102,6 +108,8 @@ module _ {A : Type 0} where
     said_all = λ closed. run.said;
     counted = run.counted;
     given = run.given;
+    answered = inr run.answered;
+    closed = λ over. absurd (unclosed over);
     due = inr (refl, heard_awaits new.state run.hears);
     undue = λ stopped. absurd (served stopped);
   }
@@ -119,6 +127,7 @@ module _ {A : Type 0} where
     said = refl;
     counted = omega arith;
     given = refl;
+    answered = tt;
     hears = hearing;
   }
 
@@ -138,15 +147,16 @@ module _ {A : Type 0} where
     said = sym (append-nil said);
     counted = omega (arith, hearing.counted);
     given = hearing.given;
+    answered = hearing.answered;
     hears = goes_on;
   })
 
   -- or a front of it, or the session is over
   pub heard_stop : {D : Type 0} (accounts : List Account) (stamp : Stamp) (gives : D → Given A → D → Type 0) (old heard new : Place A D) (line : Line) (said written : List ℕ) (ended : End)
       → IsHeard accounts stamp gives old heard line said → new ≡ with_count (heard.count + length written) heard
-      → IsPrefix written said → ((ended ≡ end.Closed) ⊎ (ended ≡ end.HungUp) → written ≡ said) → ended ≢ end.DeskStopped → awaits_answer heard.state ≡ false
+      → IsPrefix written said → ((ended ≡ end.Closed) ⊎ (ended ≡ end.HungUp) → written ≡ said) → ended ≢ end.DeskStopped → awaits_answer heard.state ≡ false → (ended ≡ end.Closed → heard.state ≡ state.Closed)
       → IsStop accounts stamp gives old new (line ∷ []) ended written
-  heard_stop accounts stamp gives old heard new line said written ended hearing is front all served settled = rw is (record {
+  heard_stop accounts stamp gives old heard new line said written ended hearing is front all served settled closed = rw is (record {
     entries = hearing.entries;
     replies = said ∷ [];
     front = line ∷ [];
@@ -159,6 +169,8 @@ module _ {A : Type 0} where
     said_all = λ closed. all closed ∙ sym (append-nil said);
     counted = omega (arith, hearing.counted);
     given = hearing.given;
+    answered = inr hearing.answered;
+    closed = closed;
     due = inr (refl, settled);
     undue = λ stopped. absurd (served stopped);
   })
@@ -177,8 +189,8 @@ module _ {A : Type 0} where
 
   pub written_stop : {D : Type 0} (accounts : List Account) (stamp : Stamp) (gives : D → Given A → D → Type 0) (old heard new : Place A D) (line : Line) (said : List ℕ) (sent : ℕ) (ended : End) (closes : Bool)
       → IsHeard accounts stamp gives old heard line said → new ≡ with_count (heard.count + sent) heard → sent ≤ length said → ((ended ≡ end.Closed) ⊎ (ended ≡ end.HungUp) → length said ≤ sent) → ended ≢ end.DeskStopped
-      → (closes ≡ false → hears heard.state ≡ true) → (closes ≡ true → heard.state ≡ state.Closed)
+      → (closes ≡ false → hears heard.state ≡ true) → (closes ≡ true → heard.state ≡ state.Closed) → (ended ≡ end.Closed → closes ≡ true)
       → IsStop accounts stamp gives old new (line ∷ []) ended (take sent said)
-  written_stop accounts stamp gives old heard new line said sent ended closes hearing is few all served goes_on closed =
+  written_stop accounts stamp gives old heard new line said sent ended closes hearing is few all served goes_on closed over =
       let count : length (take sent said) ≡ sent = length_taken sent said few in
-      heard_stop accounts stamp gives old heard new line said (take sent said) ended hearing (rw count is) (drop sent said, take-append-drop sent said) (λ over. take_whole sent said (all over)) served (settled heard.state closes goes_on closed)
+      heard_stop accounts stamp gives old heard new line said (take sent said) ended hearing (rw count is) (drop sent said, take-append-drop sent said) (λ over. take_whole sent said (all over)) served (settled heard.state closes goes_on closed) (λ end. closed (over end))

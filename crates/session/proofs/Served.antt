@@ -16,6 +16,7 @@ use Rattle.session.specs.Session.{free_of, lock_due}
 use Rattle.session.specs.Conversation.{Conversation, conversation}
 use Rattle.session.specs.Transcript.{answer_by, answers_of, requests_of, IsHistory}
 use Rattle.session.specs.Serve.{IsFreed, IsServed, told}
+use Rattle.session.specs.declared.state.State.TheVariants as state
 use Rattle.session.specs.declared.transcript.Asked.{Asked}
 use Rattle.session.specs.declared.transcript.Transcript.{Transcript}
 use Rattle.session.specs.declared.transcript.End.{End}
@@ -30,7 +31,7 @@ module _ {A : Type 0} where
   no-answer (Some ticket) outcome none = rw none refl
 
   -- a Free is answered by nothing
-  unanswered : (free : Option (List ℕ × Op A)) (hangup : List (Asked A)) → IsFreed free hangup → answers_of hangup ≡ []
+  pub unanswered : (free : Option (List ℕ × Op A)) (hangup : List (Asked A)) → IsFreed free hangup → answers_of hangup ≡ []
   unanswered None hangup freed = rw freed refl
   unanswered (Some free) [] freed = refl
   unanswered (Some free) (entry ∷ entries) freed = rw (no-answer entry.ticket entry.outcome freed.3, freed.4) refl
@@ -68,7 +69,7 @@ module _ {A : Type 0} where
         conversed.appended,
         rw is (record {
           greeted = inl refl;
-          heard = rw hung.lines talk.heard;
+          heard = λ more. rw hung.lines (talk.heard more);
           heard_all = λ hung_up. hung.lines ∙ talk.heard_all (same-end gives old new ended after end.HungUp hung hung_up (λ e. absurd (cc)));
           counted = hung.count ∙ talk.counted;
           said = subst (λ (c : Conversation A). IsPrefix conversed.written (concat c.replies)) (sym same) talk.said;
@@ -90,6 +91,17 @@ module _ {A : Type 0} where
             ]
             | inr full ↦ inr (full.1, full.0)
           ]);
+          closed = λ closed. subst (λ (c : Conversation A). c.state ≡ state.Closed) (sym same) (talk.closed (same-end gives old new ended after end.Closed hung closed (λ e. absurd (cc))));
+          answered = elim hung.freed [
+            | inl kept ↦ elim talk.answered [
+              | inl stopped ↦ inl (kept.0 ∙ stopped)
+              | inr answered ↦ inr answered
+            ]
+            | inr full ↦ elim talk.answered [
+              | inl stopped ↦ absurd (full.2 stopped)
+              | inr answered ↦ inr answered
+            ]
+          ];
           given = rw hung.asked (history_join gives old.asked hung.hangup before old.desk new.desk talk.given hung.given);
         }),
       )
@@ -110,7 +122,7 @@ module _ {A : Type 0} where
     appends_none contents,
     rw is (record {
       greeted = inr (refl, refl);
-      heard = ([], refl);
+      heard = λ more. (lines_of more, refl);
       heard_all = λ same. absurd (cc);
       counted = refl;
       said = (_, refl);
@@ -122,6 +134,8 @@ module _ {A : Type 0} where
       hangup = [];
       in_order = refl;
       asked = refl;
+      closed = λ same. absurd (cc);
+      answered = inr tt;
       freed = inl refl;
       given = refl;
     }),

@@ -6,8 +6,9 @@ use Rattle.std.proofs.lemmas.Bool.{cases_Bool}
 use Rattle.maildrop.specs.Ticket.{Ticket}
 use Rattle.maildrop.specs.declared.outcome.Outcome.{Outcome}
 use Rattle.maildrop.specs.declared.outcome.Outcome.TheVariants as outcome
+use Rattle.apop.specs.Stamp.{Stamp}
 use Rattle.apop.specs.Accounts.{Account}
-use Rattle.apop.specs.Login.{passes}
+use Rattle.apop.specs.Login.{passes, passes_apop}
 use Rattle.pop3_wire.specs.Commands.{verb_of}
 use Rattle.pop3_wire.specs.declared.line.Line.{Line}
 use Rattle.pop3_wire.specs.declared.line.Line.TheVariants.{Whole, TooLong}
@@ -20,7 +21,7 @@ use Rattle.session.specs.declared.state.State.TheVariants.{Authorization, Lockin
 use Rattle.session.specs.declared.state.Step.{Step}
 use Rattle.session.specs.declared.state.Turn.{Turn}
 use Rattle.session.specs.Entries.{entry_at}
-use Rattle.session.specs.Session.{hears, awaits_answer, is_closed, lock_due, lock_got, invalid_login, login, in_authorization, delete, quit, by_verb, in_transaction, by_command, by_line, by_answer, left}
+use Rattle.session.specs.Session.{hears, awaits_answer, is_closed, lock_due, lock_got, invalid_login, checked_login, login, in_authorization, delete, quit, by_verb, in_transaction, by_command, by_line, by_answer, left}
 use Rattle.session.specs.Dialogue.{IsSettled}
 
 abbrev Settles : {A : Type 0} → Turn A → Type 0
@@ -32,26 +33,28 @@ invalid-settles A invalid = elim (cases_Bool (nat_lt invalid 2)) [
   | inr many ↦ rw many refl
 ]
 
+checked-settles : (A : Type 0) (right : Bool) (user : List ℕ) (invalid : ℕ) → Settles (checked_login {A = A} right user invalid)
+checked-settles A true user invalid = refl
+checked-settles A false user invalid = invalid-settles A invalid
+
 login-settles : (A : Type 0) (accounts : List Account) (user : Option (List ℕ)) (invalid : ℕ) (secret : List ℕ) → Settles (login {A = A} accounts user invalid secret)
 login-settles A accounts None invalid secret = refl
-login-settles A accounts (Some user) invalid secret = elim (cases_Bool (passes accounts user secret)) [
-  | inl right ↦ rw right refl
-  | inr wrong ↦ rw wrong (invalid-settles A invalid)
-]
+login-settles A accounts (Some user) invalid secret = checked-settles A (passes accounts user secret) user invalid
 
-authorization-settles : (A : Type 0) (accounts : List Account) (user : Option (List ℕ)) (invalid : ℕ) (command : Result Verb LineFault) → Settles (in_authorization {A = A} accounts user invalid command)
-authorization-settles A accounts user invalid (Ok (verb.User name)) = refl
-authorization-settles A accounts user invalid (Ok (verb.Pass secret)) = login-settles A accounts user invalid secret
-authorization-settles A accounts user invalid (Ok verb.Stat) = refl
-authorization-settles A accounts user invalid (Ok (verb.List number)) = refl
-authorization-settles A accounts user invalid (Ok (verb.Retr number)) = refl
-authorization-settles A accounts user invalid (Ok (verb.Dele number)) = refl
-authorization-settles A accounts user invalid (Ok verb.Noop) = refl
-authorization-settles A accounts user invalid (Ok verb.Rset) = refl
-authorization-settles A accounts user invalid (Ok (verb.Top number lines)) = refl
-authorization-settles A accounts user invalid (Ok (verb.Uidl number)) = refl
-authorization-settles A accounts user invalid (Ok verb.Quit) = refl
-authorization-settles A accounts user invalid (Err fault) = refl
+authorization-settles : (A : Type 0) (accounts : List Account) (stamp : Stamp) (user : Option (List ℕ)) (invalid : ℕ) (command : Result Verb LineFault) → Settles (in_authorization {A = A} accounts stamp user invalid command)
+authorization-settles A accounts stamp user invalid (Ok (verb.User name)) = refl
+authorization-settles A accounts stamp user invalid (Ok (verb.Pass secret)) = login-settles A accounts user invalid secret
+authorization-settles A accounts stamp user invalid (Ok (verb.Apop name digest)) = checked-settles A (passes_apop accounts name stamp digest) name invalid
+authorization-settles A accounts stamp user invalid (Ok verb.Stat) = refl
+authorization-settles A accounts stamp user invalid (Ok (verb.List number)) = refl
+authorization-settles A accounts stamp user invalid (Ok (verb.Retr number)) = refl
+authorization-settles A accounts stamp user invalid (Ok (verb.Dele number)) = refl
+authorization-settles A accounts stamp user invalid (Ok verb.Noop) = refl
+authorization-settles A accounts stamp user invalid (Ok verb.Rset) = refl
+authorization-settles A accounts stamp user invalid (Ok (verb.Top number lines)) = refl
+authorization-settles A accounts stamp user invalid (Ok (verb.Uidl number)) = refl
+authorization-settles A accounts stamp user invalid (Ok verb.Quit) = refl
+authorization-settles A accounts stamp user invalid (Err fault) = refl
 
 module _ {A : Type 0} where
   delete-settles : (user : List ℕ) (lock : Ticket) (entries : List (Entry A)) (number : ℕ) (found : Option (Entry A)) → Settles (delete user lock entries number found)
@@ -67,6 +70,7 @@ module _ {A : Type 0} where
   transaction-settles : (user : List ℕ) (lock : Ticket) (entries : List (Entry A)) (command : Result Verb LineFault) → Settles (in_transaction user lock entries command)
   transaction-settles user lock entries (Ok (verb.User name)) = refl
   transaction-settles user lock entries (Ok (verb.Pass secret)) = refl
+  transaction-settles user lock entries (Ok (verb.Apop name digest)) = refl
   transaction-settles user lock entries (Ok verb.Stat) = refl
   transaction-settles user lock entries (Ok (verb.List number)) = refl
   transaction-settles user lock entries (Ok (verb.Retr number)) = refl
@@ -79,15 +83,15 @@ module _ {A : Type 0} where
   transaction-settles user lock entries (Err fault) = refl
 
   -- a line that is heard is answered, closes the session, or has it await an answer
-  pub line_settles : (accounts : List Account) (state : State A) (line : Line) → hears state ≡ true → Settles (by_line accounts state line)
-  line_settles accounts (Authorization user invalid) TooLong hearing = refl
-  line_settles accounts (Authorization user invalid) (Whole bytes) hearing = authorization-settles A accounts user invalid (verb_of bytes)
-  line_settles accounts (Transaction user lock entries) TooLong hearing = refl
-  line_settles accounts (Transaction user lock entries) (Whole bytes) hearing = transaction-settles user lock entries (verb_of bytes)
-  line_settles accounts (Locking user) line hearing = absurd (cc)
-  line_settles accounts (Leaving removing) line hearing = absurd (cc)
-  line_settles accounts Closed line hearing = absurd (cc)
-  line_settles accounts (Spent lock) line hearing = absurd (cc)
+  pub line_settles : (accounts : List Account) (stamp : Stamp) (state : State A) (line : Line) → hears state ≡ true → Settles (by_line accounts stamp state line)
+  line_settles accounts stamp (Authorization user invalid) TooLong hearing = refl
+  line_settles accounts stamp (Authorization user invalid) (Whole bytes) hearing = authorization-settles A accounts stamp user invalid (verb_of bytes)
+  line_settles accounts stamp (Transaction user lock entries) TooLong hearing = refl
+  line_settles accounts stamp (Transaction user lock entries) (Whole bytes) hearing = transaction-settles user lock entries (verb_of bytes)
+  line_settles accounts stamp (Locking user) line hearing = absurd (cc)
+  line_settles accounts stamp (Leaving removing) line hearing = absurd (cc)
+  line_settles accounts stamp Closed line hearing = absurd (cc)
+  line_settles accounts stamp (Spent lock) line hearing = absurd (cc)
 
   -- what an answer that fits leaves
   pub record IsAnswering (state : State A) (ticket : Ticket) (answer : Outcome A) (turn : Turn A) : Type 0 where

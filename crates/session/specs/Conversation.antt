@@ -74,7 +74,7 @@ module _ {A : Type 0} where
   abbrev pub conversation_from : List Account → Stamp → ℕ → List Line → State A → List (Answer A) → Conversation A
   conversation_from accounts stamp number [] state answers = silence state
   conversation_from accounts stamp number (line ∷ lines) state answers =
-      let turn = by_line accounts state line in
+      let turn = by_line accounts stamp state line in
       if hears state
       then after_line (conversation_from accounts stamp (number + 1) lines) number turn.state answers turn.step
       else silence state

@@ -13,7 +13,7 @@ use Rattle.session.specs.Desks.{Given}
 use Rattle.session.specs.Session.{hears, awaits_answer, lock_due, by_answer, free_of}
 use Rattle.session.specs.Conversation.{Answer, Request, Conversation, Rest, silence, after_asked, conversation_from, conversation}
 use Rattle.session.specs.Serve.{IsFreed}
-use Rattle.session.specs.Transcript.{answer_by, answers_of, requests_of, given_of, IsHistory}
+use Rattle.session.specs.Transcript.{answer_by, answers_of, requests_of, given_of, AreAnswered, IsHistory}
 use Rattle.maildrop.specs.Ticket.{Ticket}
 use Rattle.maildrop.specs.declared.op.Op.{Op}
 use Rattle.maildrop.specs.declared.outcome.Outcome.{Outcome}
@@ -66,6 +66,7 @@ module _ {A : Type 0} where
     pub said : written ≡ concat replies
     pub counted : new.count ≡ old.count + length written
     pub given : IsHistory gives old.desk entries new.desk
+    pub answered : AreAnswered entries
     pub hears : hears new.state ≡ true
 
   -- From one place to another a front of these lines was heard, and this was written. Then the session stops.
@@ -82,6 +83,8 @@ module _ {A : Type 0} where
     pub said_all : (ended ≡ end.Closed) ⊎ (ended ≡ end.HungUp) → written ≡ concat replies
     pub counted : new.count ≡ old.count + length written
     pub given : IsHistory gives old.desk entries new.desk
+    pub answered : (ended ≡ end.DeskStopped) ⊎ AreAnswered entries
+    pub closed : ended ≡ end.Closed → last ≡ Closed
     pub due : (ended ≡ end.DeskStopped) ⊎ ((lock_due new.state ≡ lock_due last) × (awaits_answer new.state ≡ false))
     pub undue : ended ≡ end.DeskStopped → lock_due last ≡ None
 
@@ -92,6 +95,7 @@ module _ {A : Type 0} where
     pub heard : new.lines ≡ old.lines ++ line ∷ []
     pub asked : new.asked ≡ old.asked ++ entries
     pub counted : new.count ≡ old.count
+    pub answered : AreAnswered entries
     pub given : IsHistory gives old.desk entries new.desk
 
   -- where a step leaves the session
@@ -121,11 +125,15 @@ module _ {A : Type 0} where
   abbrev pub quiet : Rest A
   quiet state answers = silence state
 
+  abbrev pub IsGiven : Option Ticket → Option (Outcome A) → Type 0
+  IsGiven ticket outcome = (t : Ticket) × (o : Outcome A) × (ticket ≡ Some t) × (outcome ≡ Some o)
+
   -- No answer came that fits, or what is to be said found no memory.
   pub record IsSilenced (old : State A) (ticket : Option Ticket) (outcome : Option (Outcome A)) (new : State A) (ended : End) : Type 0 where
     pub replies : List (List ℕ)
     pub last : State A
     pub talk : after_asked quiet old (answer_by ticket outcome) ≡ record { replies = replies; asked = []; state = last }
+    pub answered : (ended ≡ end.DeskStopped) ⊎ IsGiven ticket outcome
     pub unclosed : (ended ≡ end.Closed) ⊎ (ended ≡ end.HungUp) → ⊥
     pub due : (ended ≡ end.DeskStopped) ⊎ ((lock_due new ≡ lock_due last) × (awaits_answer new ≡ false))
     pub undue : ended ≡ end.DeskStopped → lock_due last ≡ None
@@ -171,12 +179,14 @@ module _ {A : Type 0} where
     pub replies : List (List ℕ)
     pub last : State A
     pub talk : conversation accounts stamp new.lines (answers_of new.asked) ≡ record { replies = replies; asked = requests_of new.asked; state = last }
-    pub heard : IsPrefix new.lines (lines_of read)
+    pub heard : (more : List ℕ) → IsPrefix new.lines (lines_of (read ++ more))
     pub heard_all : ended ≡ end.HungUp → new.lines ≡ lines_of read
     pub counted : new.count ≡ length written
     pub said : IsPrefix written (concat replies)
     pub said_all : (ended ≡ end.Closed) ⊎ (ended ≡ end.HungUp) → written ≡ concat replies
     pub given : IsHistory gives before new.asked new.desk
+    pub answered : (ended ≡ end.DeskStopped) ⊎ AreAnswered new.asked
+    pub closed : ended ≡ end.Closed → last ≡ Closed
     pub due : (ended ≡ end.DeskStopped) ⊎ ((lock_due new.state ≡ lock_due last) × (awaits_answer new.state ≡ false))
     pub undue : ended ≡ end.DeskStopped → lock_due last ≡ None
 
@@ -187,7 +197,7 @@ module _ {A : Type 0} where
     pub asked : new.asked ≡ old.asked ++ hangup
     pub count : new.count ≡ old.count
     pub given : IsHistory gives old.desk hangup new.desk
-    pub freed : ((after ≡ ended) × (((ended ≡ end.DeskStopped) × (hangup ≡ [])) ⊎ ((ended ≢ end.DeskStopped) × IsFreed (free_of (lock_due old.state)) hangup))) ⊎ ((after ≡ end.Memory) × (hangup ≡ []))
+    pub freed : ((after ≡ ended) × (((ended ≡ end.DeskStopped) × (hangup ≡ [])) ⊎ ((ended ≢ end.DeskStopped) × IsFreed (free_of (lock_due old.state)) hangup))) ⊎ ((after ≡ end.Memory) × (hangup ≡ []) × (ended ≢ end.DeskStopped))
 
   -- A front of a piece of the input was served, up to this rest of it, and the session goes on.
   pub record IsPieceFront {D : Type 0} (accounts : List Account) (stamp : Stamp) (gives : D → Given A → D → Type 0) (old new : Place A D) (kept after : Kept) (piece rest : List ℕ) (contents contents2 : Option (List ℕ)) : Type 0 where
@@ -203,7 +213,7 @@ module _ {A : Type 0} where
     pub written : List ℕ
     pub stop : IsStop accounts stamp gives old new lines ended written
     pub appended : Appends contents contents2 written
-    pub cut : IsPrefix lines (lines_after kept piece)
+    pub cut : (more : List ℕ) → IsPrefix lines (lines_after kept (piece ++ more))
 
   -- The input was served, up to its end or to that of the session.
   pub record IsListened {D : Type 0} (accounts : List Account) (stamp : Stamp) (gives : D → Given A → D → Type 0) (old new : Place A D) (ended : End) (remaining remaining2 contents contents2 : Option (List ℕ)) : Type 0 where
@@ -213,7 +223,7 @@ module _ {A : Type 0} where
     pub stop : IsStop accounts stamp gives old new lines ended written
     pub consumed : Consumes remaining remaining2 read
     pub appended : Appends contents contents2 written
-    pub cut : IsPrefix lines (lines_of read)
+    pub cut : (more : List ℕ) → IsPrefix lines (lines_of (read ++ more))
     pub cut_all : ended ≡ end.HungUp → (new.lines ≡ old.lines ++ lines_of read) × IsAtEnd remaining2
 
   -- The same with the greeting.

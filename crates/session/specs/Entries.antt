@@ -1,5 +1,5 @@
 -- The messages of an open maildrop, and which of them are marked as deleted.
-use Rattle.std.specs.Prelude.{ℕ, zero, suc, ◌+◌, ◌<◌, ◌≤◌, ◌^◌, ◌≡◌, Bool, false, true, not, List, [], ◌∷◌, length, map, filter, sum_by, slice_get, slice_set, ◌-◌, Option, Some, None, if◌then◌else◌}
+use Rattle.std.specs.Prelude.{ℕ, zero, suc, ◌+◌, ◌<◌, ◌≤◌, ◌^◌, ◌≡◌, false, true, not, List, [], ◌∷◌, length, map, filter, sum_by, slice_get, slice_set, ◌-◌, Option, Some, None, if◌then◌else◌}
 use Rattle.std.specs.List.{AllPairs}
 use Rattle.maildrop.specs.Text.{octets_of}
 use Rattle.maildrop.specs.declared.message.Message.{Message}

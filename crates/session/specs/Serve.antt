@@ -11,11 +11,12 @@ use Rattle.session.specs.Prefix.{IsPrefix}
 use Rattle.session.specs.Desks.{Given}
 use Rattle.session.specs.Session.{free_of, lock_due}
 use Rattle.session.specs.Conversation.{Conversation, conversation}
-use Rattle.session.specs.Transcript.{answers_of, requests_of, IsHistory}
+use Rattle.session.specs.Transcript.{answers_of, requests_of, AreAnswered, IsHistory}
 use Rattle.session.specs.declared.transcript.Asked.{Asked}
 use Rattle.session.specs.declared.transcript.Transcript.{Transcript}
 use Rattle.session.specs.declared.transcript.End.{End}
-use Rattle.session.specs.declared.transcript.End.TheVariants.{Closed, HungUp, Memory}
+use Rattle.session.specs.declared.transcript.End.TheVariants.{Closed, HungUp, DeskStopped, Memory}
+use Rattle.session.specs.declared.state.State.TheVariants as state
 
 module _ {A : Type 0} where
   -- the entry of what is freed at a hangup
@@ -34,18 +35,22 @@ module _ {A : Type 0} where
   pub record IsServed {D : Type 0} (gives : D → Given A → D → Type 0) (accounts : List Account) (stamp : Stamp) (before after : D) (read written : List ℕ) (transcript : Transcript A) : Type 0 where
     -- the greeting is the stamp's, or want of memory left none
     pub greeted : (transcript.greeting ≡ reply.greeting stamp.nonce stamp.host) ⊎ ((transcript.greeting ≡ []) × (transcript.end ≡ Memory))
-    -- the lines are a front of those that were read, and at the end of the input all of them
-    pub heard : IsPrefix transcript.lines (lines_of read)
+    -- the lines are a front of those that were read, whatever is behind these, and at the end of the input all of them
+    pub heard : (more : List ℕ) → IsPrefix transcript.lines (lines_of (read ++ more))
     pub heard_all : transcript.end ≡ HungUp → transcript.lines ≡ lines_of read
     -- what was written is a front of what the session says, counted, and at a proper end all of it
     pub counted : transcript.count ≡ length written
     pub said : IsPrefix written (concat (told accounts stamp transcript).replies)
     pub said_all : (transcript.end ≡ Closed) ⊎ (transcript.end ≡ HungUp) → written ≡ concat (told accounts stamp transcript).replies
+    -- the session ends itself where it is closed
+    pub closed : transcript.end ≡ Closed → (told accounts stamp transcript).state ≡ state.Closed
     -- the entries are what the session asks, and then the Free of the lock that is still held
     pub entries : List (Asked A)
     pub hangup : List (Asked A)
     pub in_order : transcript.asked ≡ entries ++ hangup
     pub asked : requests_of entries ≡ (told accounts stamp transcript).asked
     pub freed : IsFreed (free_of (lock_due (told accounts stamp transcript).state)) hangup ⊎ ((hangup ≡ []) × (transcript.end ≡ Memory))
+    -- unless the desk stopped, all that was asked was answered
+    pub answered : (transcript.end ≡ DeskStopped) ⊎ AreAnswered entries
     -- each with what the desk gave; and it was asked nothing else
     pub given : IsHistory gives before transcript.asked after

@@ -1,5 +1,5 @@
 -- A POP3 session: what each line and each answer brings (RFC 1939 sections 4 to 7).
-use Rattle.std.specs.Prelude.{ℕ, ◌+◌, nat_lt, Bool, true, false, not, List, [], ◌∷◌, ◌++◌, length, map, Option, Some, None, is_some, Result, Ok, Err, if◌then◌else◌}
+use Rattle.std.specs.Prelude.{ℕ, ◌+◌, nat_lt, Bool, true, false, not, List, [], length, map, Option, Some, None, is_some, Result, Ok, Err, if◌then◌else◌}
 use Rattle.std.specs.List.{list_any}
 use Rattle.maildrop.specs.Ticket.{Ticket}
 use Rattle.maildrop.specs.declared.message.Message.{Message}
@@ -7,8 +7,9 @@ use Rattle.maildrop.specs.declared.op.Op.{Op}
 use Rattle.maildrop.specs.declared.op.Op.TheVariants.{Take, Commit, Free}
 use Rattle.maildrop.specs.declared.outcome.Outcome.{Outcome}
 use Rattle.maildrop.specs.declared.outcome.Outcome.TheVariants as outcome
+use Rattle.apop.specs.Stamp.{Stamp}
 use Rattle.apop.specs.Accounts.{Account}
-use Rattle.apop.specs.Login.{passes}
+use Rattle.apop.specs.Login.{passes, passes_apop}
 use Rattle.pop3_wire.specs.Commands.{verb_of}
 use Rattle.pop3_wire.specs.Reply as reply
 use Rattle.pop3_wire.specs.declared.line.Line.{Line}
@@ -22,7 +23,6 @@ use Rattle.pop3_wire.specs.declared.verb.LineFault.TheVariants.{Unknown, Argumen
 use Rattle.session.specs.declared.entry.Entry.{Entry}
 use Rattle.session.specs.declared.state.State.{State}
 use Rattle.session.specs.declared.state.State.TheVariants.{Authorization, Locking, Transaction, Leaving, Closed, Spent}
-use Rattle.session.specs.declared.state.Step.{Step}
 use Rattle.session.specs.declared.state.Step.TheVariants.{Say, Ask, SayAndClose}
 use Rattle.session.specs.declared.state.Turn.{Turn}
 use Rattle.session.specs.Entries.{entry_of, entry_at, with_mark_at, without_mark, unmarked, octets_in, listed_from, identified_from, marked_uids}
@@ -31,6 +31,7 @@ use Rattle.session.specs.Entries.{entry_of, entry_at, with_mark_at, without_mark
 abbrev pub is_valid_before_login : Option (List ℕ) → Keyword → Bool
 is_valid_before_login user keyword.User = true
 is_valid_before_login user keyword.Pass = is_some user
+is_valid_before_login user keyword.Apop = true
 is_valid_before_login user keyword.Quit = true
 is_valid_before_login user word = false
 
@@ -38,6 +39,7 @@ is_valid_before_login user word = false
 abbrev pub is_valid_after_login : Keyword → Bool
 is_valid_after_login keyword.User = false
 is_valid_after_login keyword.Pass = false
+is_valid_after_login keyword.Apop = false
 is_valid_after_login word = true
 
 -- a command whose arguments are bad is refused for its state first
@@ -69,18 +71,22 @@ module _ {A : Type 0} where
       then say reply.invalid_login (Authorization None (invalid + 1))
       else say_and_close reply.invalid_login
 
+  -- a right login asks for the lock
+  abbrev pub checked_login : Bool → List ℕ → ℕ → Turn A
+  checked_login right user invalid = if right then ask user Take (Locking user) else invalid_login invalid
+
   abbrev pub login : List Account → Option (List ℕ) → ℕ → List ℕ → Turn A
   login accounts None invalid secret = say reply.not_in_this_state (Authorization None invalid)
-  login accounts (Some user) invalid secret =
-      if passes accounts user secret then ask user Take (Locking user) else invalid_login invalid
+  login accounts (Some user) invalid secret = checked_login (passes accounts user secret) user invalid
 
   -- AUTHORIZATION: every line but a USER that is answered +OK forgets the name
-  abbrev pub in_authorization : List Account → Option (List ℕ) → ℕ → Result Verb LineFault → Turn A
-  in_authorization accounts user invalid (Ok (verb.User name)) = say reply.send_pass (Authorization (Some name) invalid)
-  in_authorization accounts user invalid (Ok (verb.Pass secret)) = login accounts user invalid secret
-  in_authorization accounts user invalid (Ok verb.Quit) = say_and_close reply.signing_off
-  in_authorization accounts user invalid (Ok other) = say reply.not_in_this_state (Authorization None invalid)
-  in_authorization accounts user invalid (Err fault) = say (refusal_before_login user fault) (Authorization None invalid)
+  abbrev pub in_authorization : List Account → Stamp → Option (List ℕ) → ℕ → Result Verb LineFault → Turn A
+  in_authorization accounts stamp user invalid (Ok (verb.User name)) = say reply.send_pass (Authorization (Some name) invalid)
+  in_authorization accounts stamp user invalid (Ok (verb.Pass secret)) = login accounts user invalid secret
+  in_authorization accounts stamp user invalid (Ok (verb.Apop name digest)) = checked_login (passes_apop accounts name stamp digest) name invalid
+  in_authorization accounts stamp user invalid (Ok verb.Quit) = say_and_close reply.signing_off
+  in_authorization accounts stamp user invalid (Ok other) = say reply.not_in_this_state (Authorization None invalid)
+  in_authorization accounts stamp user invalid (Err fault) = say (refusal_before_login user fault) (Authorization None invalid)
 
   -- what is said of one message, unless it is absent or marked
   abbrev pub of_message : Option (Entry A) → (Entry A → List ℕ) → List ℕ
@@ -155,15 +161,15 @@ module _ {A : Type 0} where
   too_long (Authorization user invalid) = say reply.line_too_long (Authorization None invalid)
   too_long state = say reply.line_too_long state
 
-  abbrev pub by_command : List Account → State A → Result Verb LineFault → Turn A
-  by_command accounts (Authorization user invalid) command = in_authorization accounts user invalid command
-  by_command accounts (Transaction user lock entries) command = in_transaction user lock entries command
-  by_command accounts state command = say [] state
+  abbrev pub by_command : List Account → Stamp → State A → Result Verb LineFault → Turn A
+  by_command accounts stamp (Authorization user invalid) command = in_authorization accounts stamp user invalid command
+  by_command accounts stamp (Transaction user lock entries) command = in_transaction user lock entries command
+  by_command accounts stamp state command = say [] state
 
-  -- what a line brings, where the session is open and awaits no answer
-  abbrev pub by_line : List Account → State A → Line → Turn A
-  by_line accounts state TooLong = too_long state
-  by_line accounts state (Whole bytes) = by_command accounts state (verb_of bytes)
+  -- what a line brings behind a greeting with this timestamp, where the session is open and awaits no answer
+  abbrev pub by_line : List Account → Stamp → State A → Line → Turn A
+  by_line accounts stamp state TooLong = too_long state
+  by_line accounts stamp state (Whole bytes) = by_command accounts stamp state (verb_of bytes)
 
   -- a session that got the lock, with these messages
   abbrev pub opened : List ℕ → Ticket → List (Message A) → Turn A

@@ -1,5 +1,5 @@
 -- What is kept of a served session: its lines, and its entries, one for each asked operation.
-use Rattle.std.specs.Prelude.{◌≡◌, ℕ, List, [], ◌∷◌, ◌++◌, Option, Some, None}
+use Rattle.std.specs.Prelude.{◌≡◌, ℕ, List, [], ◌∷◌, ◌++◌, Option, Some, None, ⊤}
 use Rattle.maildrop.specs.Ticket.{Ticket}
 use Rattle.maildrop.specs.declared.op.Op.{Op}
 use Rattle.maildrop.specs.declared.outcome.Outcome.{Outcome}
@@ -34,3 +34,16 @@ module _ {A : Type 0} where
   abbrev pub IsHistory : {D : Type 0} → (D → Given A → D → Type 0) → D → List (Asked A) → D → Type 0
   IsHistory gives first [] last = last ≡ first
   IsHistory {D} gives first (entry ∷ entries) last = (next : D) × gives first (given_of entry) next × IsHistory gives next entries last
+
+  -- a line asked it, and the desk answered
+  pub record IsAnsweredEntry (entry : Asked A) : Type 0 where
+    pub line : ℕ
+    pub ticket : Ticket
+    pub outcome : Outcome A
+    pub asked_by : entry.line ≡ Some line
+    pub ticketed : entry.ticket ≡ Some ticket
+    pub answered : entry.outcome ≡ Some outcome
+
+  abbrev pub AreAnswered : List (Asked A) → Type 0
+  AreAnswered [] = ⊤
+  AreAnswered (entry ∷ entries) = IsAnsweredEntry entry × AreAnswered entries

@@ -1,11 +1,12 @@
 //! A session in which nobody is logged in (RFC 1939 section 4).
 ghost use Rattle.std.specs.Prelude.{◌≡◌, IfOk, None};
+ghost use Rattle.apop.specs.Login.{passes_apop};
 ghost use Rattle.pop3_wire.specs.Reply.{reply_text};
 ghost use Rattle.session.specs.Session as spec;
 
 use crate::state::{State, Turn};
 use crate::turn::{argument_refusal, ask, say, say_and_close};
-use apop::Accounts;
+use apop::{Accounts, Stamp};
 use ballot::Memory;
 use maildrop::{Name, Op};
 use pop3_wire::{Keyword, LineFault, Reply, Verb};
@@ -15,7 +16,7 @@ fn is_valid(user: &Option<Name>, keyword: Keyword) -> bool
     ensures { result ≡ spec.is_valid_before_login user.now keyword }
 {
     match keyword {
-        Keyword::User | Keyword::Quit => true,
+        Keyword::User | Keyword::Apop | Keyword::Quit => true,
         Keyword::Pass => user.is_some(),
         _ => false,
     }
@@ -31,6 +32,22 @@ fn invalid_login<A: Allocator + Copy>(alloc: A, invalid: u8) -> Result<Turn<A>, 
     }
 }
 
+/// A right login asks for the lock.
+fn checked_login<A: Allocator + Copy>(
+    alloc: A,
+    right: bool,
+    user: Name,
+    invalid: u8,
+) -> Result<Turn<A>, Memory>
+    ensures { IfOk result (λ turn. turn ≡ spec.checked_login right user invalid) }
+{
+    if right {
+        Ok(ask(user, Op::Take, State::Locking { user }))
+    } else {
+        invalid_login(alloc, invalid)
+    }
+}
+
 fn login<A: Allocator + Copy>(
     alloc: A,
     accounts: &Accounts<A>,
@@ -43,13 +60,24 @@ fn login<A: Allocator + Copy>(
     match user {
         None => say_and_forget(alloc, &Reply::WrongState, invalid),
         Some(user) => {
-            if accounts.check_pass(&user, secret) {
-                Ok(ask(user, Op::Take, State::Locking { user }))
-            } else {
-                invalid_login(alloc, invalid)
-            }
+            let right = accounts.check_pass(&user, secret);
+            checked_login(alloc, right, user, invalid)
         }
     }
+}
+
+fn login_by_digest<A: Allocator + Copy>(
+    alloc: A,
+    accounts: &Accounts<A>,
+    stamp: &Stamp,
+    invalid: u8,
+    user: Name,
+    digest: &[u8],
+) -> Result<Turn<A>, Memory>
+    ensures { IfOk result (λ turn. turn ≡ spec.checked_login (passes_apop accounts.now user stamp.now digest.now) user invalid) }
+{
+    let right = accounts.check_apop(&user, stamp, digest);
+    checked_login(alloc, right, user, invalid)
 }
 
 fn refusal<'a, A: Allocator>(user: &Option<Name>, fault: LineFault) -> Reply<'a, A>
@@ -80,11 +108,12 @@ fn say_and_forget<A: Allocator + Copy>(
 pub(crate) fn in_authorization<A: Allocator + Copy>(
     alloc: A,
     accounts: &Accounts<A>,
+    stamp: &Stamp,
     user: Option<Name>,
     invalid: u8,
     command: Result<Verb, LineFault>,
 ) -> Result<Turn<A>, Memory>
-    ensures { IfOk result (λ turn. turn ≡ spec.in_authorization accounts.now user invalid command) }
+    ensures { IfOk result (λ turn. turn ≡ spec.in_authorization accounts.now stamp.now user invalid command) }
 {
     match &command {
         Ok(Verb::User(name)) => {
@@ -95,6 +124,14 @@ pub(crate) fn in_authorization<A: Allocator + Copy>(
             say(alloc, &Reply::SendPass, state)
         }
         Ok(Verb::Pass(secret)) => login(alloc, accounts, user, invalid, secret.get()),
+        Ok(Verb::Apop { name, digest }) => login_by_digest(
+            alloc,
+            accounts,
+            stamp,
+            invalid,
+            *name,
+            digest.get(),
+        ),
         Ok(Verb::Quit) => say_and_close(alloc, &Reply::SigningOff),
         Ok(_) => say_and_forget(alloc, &Reply::WrongState, invalid),
         Err(fault) => say_and_forget(alloc, &refusal(&user, *fault), invalid),

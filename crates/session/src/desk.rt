@@ -1,21 +1,20 @@
 //! What a session asks, and what lets it go on.
-ghost use Rattle.session.specs.Desks.{Given, given_by_ask, given_by_tell};
+ghost use Rattle.session.specs.Desks.{GivenBy, given_by_ask, given_by_tell};
 
 use crate::desk_stopped::DeskStopped;
-use maildrop::{Name, Op, Outcome, Ticket};
-use std::alloc::Allocator;
+use maildrop::{Name, Ticket};
 
-/// Where a session has its operations performed.
-pub trait Desk<A: Allocator> {
+/// Where a session has its operations performed: operations of the type `O`, with outcomes of the type `R`.
+pub trait Desk<O, R> {
     /// That the desk, in the first state, may be asked this, give this, and be in the second state then.
-    ghost gives: { Self → Given A → Self → Type 0 };
+    ghost gives: { Self → GivenBy O R → Self → Type 0 };
 
     /// Has an operation of a user performed, and awaits its outcome.
-    fn ask(&mut self, name: Name, op: Op<A>) -> Result<(Ticket, Outcome<A>), DeskStopped>
+    fn ask(&mut self, name: Name, op: O) -> Result<(Ticket, R), DeskStopped>
         ensures { gives self.old (given_by_ask name op result) self.new };
 
     /// Has an operation of a user performed, and awaits nothing.
-    fn tell(&mut self, name: Name, op: Op<A>) -> Result<Ticket, DeskStopped>
+    fn tell(&mut self, name: Name, op: O) -> Result<Ticket, DeskStopped>
         ensures { gives self.old (given_by_tell name op result) self.new };
 }
 

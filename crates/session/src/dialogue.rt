@@ -47,7 +47,7 @@ impl<A: Allocator + Copy> Dialogue<A> {
     }
 
     /// Hands a line to the session, and what it asks to the desk. Gives what the session says.
-    pub(crate) fn hear<D: Desk<A>>(
+    pub(crate) fn hear<D: Desk<Op<A>, Outcome<A>>>(
         &mut self,
         accounts: &Accounts<A>,
         desk: &mut D,
@@ -77,7 +77,7 @@ impl<A: Allocator + Copy> Dialogue<A> {
 
     /// Keeps a line that was heard, and has the desk perform what it asks. The lock is the one that the session held
     /// before the line.
-    fn respond<D: Desk<A>>(
+    fn respond<D: Desk<Op<A>, Outcome<A>>>(
         &mut self,
         desk: &mut D,
         heard: Heard<A>,
@@ -116,7 +116,7 @@ impl<A: Allocator + Copy> Dialogue<A> {
     }
 
     /// Keeps a line that asks for an operation, and has the desk perform it.
-    fn ask<D: Desk<A>>(
+    fn ask<D: Desk<Op<A>, Outcome<A>>>(
         &mut self,
         desk: &mut D,
         heard: Heard<A>,
@@ -151,7 +151,7 @@ impl<A: Allocator + Copy> Dialogue<A> {
     }
 
     /// Asks the desk, and hands its answer to the session. Gives what the session says.
-    fn consult<D: Desk<A>>(
+    fn consult<D: Desk<Op<A>, Outcome<A>>>(
         &mut self,
         desk: &mut D,
         line: u64,

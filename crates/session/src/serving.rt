@@ -13,7 +13,7 @@ use crate::session::Session;
 use crate::transcript::{Asked, End, Transcript};
 use apop::{Accounts, Stamp};
 use ballot::{Items, Memory};
-use maildrop::{Name, Op};
+use maildrop::{Name, Op, Outcome};
 use pop3_wire::{Line, LineReader};
 use std::alloc::Allocator;
 use std::io::{Read, Write};
@@ -51,7 +51,7 @@ fn next_line<'a>(reader: &mut LineReader, rest: &'a [u8]) -> (Option<Line>, &'a 
 }
 
 /// One line: the session hears it, and what it says is written.
-fn exchange<A: Allocator + Copy, W: Write, D: Desk<A>, G: Gate>(
+fn exchange<A: Allocator + Copy, W: Write, D: Desk<Op<A>, Outcome<A>>, G: Gate>(
     accounts: &Accounts<A>,
     dialogue: &mut Dialogue<A>,
     writer: &mut W,
@@ -85,7 +85,7 @@ fn exchange<A: Allocator + Copy, W: Write, D: Desk<A>, G: Gate>(
 }
 
 /// The lines of a piece of the input, one after another.
-fn exchange_all<A: Allocator + Copy, W: Write, D: Desk<A>, G: Gate>(
+fn exchange_all<A: Allocator + Copy, W: Write, D: Desk<Op<A>, Outcome<A>>, G: Gate>(
     accounts: &Accounts<A>,
     dialogue: &mut Dialogue<A>,
     lines: &mut LineReader,
@@ -123,7 +123,7 @@ fn exchange_all<A: Allocator + Copy, W: Write, D: Desk<A>, G: Gate>(
 }
 
 /// Reads the input and serves its lines, in at most 4,294,967,295 reads.
-fn listen<A: Allocator + Copy, R: Read, W: Write, D: Desk<A>, G: Gate>(
+fn listen<A: Allocator + Copy, R: Read, W: Write, D: Desk<Op<A>, Outcome<A>>, G: Gate>(
     accounts: &Accounts<A>,
     dialogue: &mut Dialogue<A>,
     reader: &mut R,
@@ -154,7 +154,7 @@ fn listen<A: Allocator + Copy, R: Read, W: Write, D: Desk<A>, G: Gate>(
 }
 
 /// Says the greeting, and serves the client's lines.
-fn converse<A: Allocator + Copy, R: Read, W: Write, D: Desk<A>, G: Gate>(
+fn converse<A: Allocator + Copy, R: Read, W: Write, D: Desk<Op<A>, Outcome<A>>, G: Gate>(
     accounts: &Accounts<A>,
     greeting: &[u8],
     dialogue: &mut Dialogue<A>,
@@ -179,7 +179,7 @@ fn converse<A: Allocator + Copy, R: Read, W: Write, D: Desk<A>, G: Gate>(
 }
 
 /// Tells the desk the Free of a lock that the session still holds.
-fn hang_up<A: Allocator + Copy, D: Desk<A>>(
+fn hang_up<A: Allocator + Copy, D: Desk<Op<A>, Outcome<A>>>(
     dialogue: &mut Dialogue<A>,
     desk: &mut D,
     end: End,
@@ -200,7 +200,7 @@ fn hang_up<A: Allocator + Copy, D: Desk<A>>(
 }
 
 /// Tells the desk an operation, unless there is no room for its entry.
-fn tell<A: Allocator + Copy, D: Desk<A>>(
+fn tell<A: Allocator + Copy, D: Desk<Op<A>, Outcome<A>>>(
     dialogue: &mut Dialogue<A>,
     desk: &mut D,
     user: Name,
@@ -228,7 +228,7 @@ fn tell<A: Allocator + Copy, D: Desk<A>>(
 /// Serves a session (RFC 1939) to its end: writes the greeting, hears the lines that are read, has the desk perform
 /// what they ask, and writes each reply before the next line is heard. A lock that the session holds at its end is
 /// given back, unless the desk has stopped. Gives all that went through it.
-pub fn serve<A: Allocator + Copy, R: Read, W: Write, D: Desk<A>, G: Gate>(
+pub fn serve<A: Allocator + Copy, R: Read, W: Write, D: Desk<Op<A>, Outcome<A>>, G: Gate>(
     alloc: A,
     reader: &mut R,
     writer: &mut W,

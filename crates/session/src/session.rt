@@ -36,12 +36,13 @@ impl<A: Allocator> Model for Session<A> {
 fn at_line<A: Allocator + Copy>(
     alloc: A,
     accounts: &Accounts<A>,
+    stamp: &Stamp,
     state: State<A>,
     line: &Line,
 ) -> Result<Turn<A>, Memory>
     requires closed { spec.is_closed state ≡ false }
     requires awaits { spec.awaits_answer state ≡ false }
-    ensures { IfOk result (λ turn. turn ≡ spec.by_line accounts.now state line.now) }
+    ensures { IfOk result (λ turn. turn ≡ spec.by_line accounts.now stamp.now state line.now) }
 {
     let command = match line {
         Line::TooLong => return too_long(alloc, state),
@@ -49,7 +50,7 @@ fn at_line<A: Allocator + Copy>(
     };
     match state {
         State::Authorization { user, invalid } => in_authorization(
-            alloc, accounts, user, invalid, command,
+            alloc, accounts, stamp, user, invalid, command,
         ),
         State::Transaction { user, lock, opened } => in_transaction(
             alloc, user, lock, opened, command,
@@ -101,8 +102,8 @@ impl<A: Allocator + Copy> Session<A> {
     /// Hears a line of the client. After `Closed` and `Busy` nothing has changed; after `Memory` the session is closed,
     /// and its lock is still to be given back by `hangup`.
     pub fn line(&mut self, accounts: &Accounts<A>, line: &Line) -> Result<Step<A>, SessionError>
-        ensures step { IfOk result (λ step. step ≡ (spec.by_line accounts.now self.old.state line.now).step) }
-        ensures state { OnOk result (self.new ≡ record self.old { state = (spec.by_line accounts.now self.old.state line.now).state }) }
+        ensures step { IfOk result (λ step. step ≡ (spec.by_line accounts.now self.old.stamp self.old.state line.now).step) }
+        ensures state { OnOk result (self.new ≡ record self.old { state = (spec.by_line accounts.now self.old.stamp self.old.state line.now).state }) }
         ensures closed { (result ≡ Err SessionError.Closed) ↔ (spec.is_closed self.old.state ≡ true) }
         ensures busy { (result ≡ Err SessionError.Busy) ↔ (spec.awaits_answer self.old.state ≡ true) }
         ensures heard { OnOk result (spec.hears self.old.state ≡ true) }
@@ -118,7 +119,7 @@ impl<A: Allocator + Copy> Session<A> {
             State::Transaction { user, lock, .. } => Some((*user, *lock)),
         };
         let state = mem::replace(&mut self.state, State::Spent { lock });
-        match at_line(self.alloc, accounts, state, line) {
+        match at_line(self.alloc, accounts, &self.stamp, state, line) {
             Ok(turn) => {
                 self.state = turn.state;
                 Ok(turn.step)

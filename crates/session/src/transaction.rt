@@ -15,7 +15,7 @@ use std::alloc::Allocator;
 fn is_valid(keyword: Keyword) -> bool
     ensures { result ≡ spec.is_valid_after_login keyword }
 {
-    !matches!(keyword, Keyword::User | Keyword::Pass)
+    !matches!(keyword, Keyword::User | Keyword::Pass | Keyword::Apop)
 }
 
 fn list_all<A: Allocator + Copy>(alloc: A, opened: &Opened<A>) -> Result<Vec<u8, A>, Memory>

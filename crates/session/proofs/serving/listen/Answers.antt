@@ -26,21 +26,21 @@ returns-in-Ok-eq0-clause-listened g c =
     let none : c.in-Ok-eq0.field-0 ≡ 0 = search rules in
     listened c.args.accounts.now c.args.dialogue.now.session.stamp g.D.Desk.gives (place c.args.dialogue.now c.args.desk.now) (place c.loop.dialogue c.loop.desk) c.loop.lines served.0 HungUp
     (g.R.Read.remaining c.args.reader.now) (g.R.Read.remaining c.read.new.self) (g.W.Write.contents c.args.writer.now) (g.W.Write.contents c.loop.writer)
-    served.2 c.loop.invariant.ended (consumes_over _ (g.R.Read.remaining c.loop.reader) _ served.0 served.1 (rw none at c.in-Ok-eq0.ensures.bytes.0)) (λ same. absurd (cc)) (λ same. c.in-Ok-eq0.ensures.bytes.1 none (search rules))
+    served.2 c.loop.invariant.ended (consumes_over _ (g.R.Read.remaining c.loop.reader) _ served.0 served.1 (rw none at c.in-Ok-eq0.ensures.bytes.0)) (λ same. absurd (cc)) (λ same. absurd (cc)) (λ same. c.in-Ok-eq0.ensures.bytes.1 none (search rules))
 
 pub returns-in-Err-clause-listened : goal.returns-in-Err-clause-listened
 returns-in-Err-clause-listened g c =
     let served = c.loop.invariant.served in
     listened c.args.accounts.now c.args.dialogue.now.session.stamp g.D.Desk.gives (place c.args.dialogue.now c.args.desk.now) (place c.loop.dialogue c.loop.desk) c.loop.lines served.0 ReadFault
     (g.R.Read.remaining c.args.reader.now) (g.R.Read.remaining c.read.new.self) (g.W.Write.contents c.args.writer.now) (g.W.Write.contents c.loop.writer)
-    served.2 c.loop.invariant.ended (consumes_kept _ (g.R.Read.remaining c.loop.reader) _ served.0 served.1 c.in-Err.ensures.bytes) (λ same. absurd (cc)) (λ same. absurd (cc))
+    served.2 c.loop.invariant.ended (consumes_kept _ (g.R.Read.remaining c.loop.reader) _ served.0 served.1 c.in-Err.ensures.bytes) (λ same. absurd (cc)) (λ same. absurd (cc)) (λ same. absurd (cc))
 
 pub returns-clause-listened : goal.returns-clause-listened
 returns-clause-listened g c =
     let served = c.loop.invariant.served in
     listened c.args.accounts.now c.args.dialogue.now.session.stamp g.D.Desk.gives (place c.args.dialogue.now c.args.desk.now) (place c.loop.dialogue c.loop.desk) c.loop.lines served.0 ReadFault
     (g.R.Read.remaining c.args.reader.now) (g.R.Read.remaining c.loop.reader) (g.W.Write.contents c.args.writer.now) (g.W.Write.contents c.loop.writer)
-    served.2 c.loop.invariant.ended served.1 (λ same. absurd (cc)) (λ same. absurd (cc))
+    served.2 c.loop.invariant.ended served.1 (λ same. absurd (cc)) (λ same. absurd (cc)) (λ same. absurd (cc))
 
 pub returns-in-Err-exchange_all-clause-listened : goal.returns-in-Err-exchange_all-clause-listened
 returns-in-Err-exchange_all-clause-listened g c =

@@ -13,7 +13,7 @@ returns-in-Err-clause-stopped g c =
 
 pub respond-requires-clause-settled : goal.respond-requires-clause-settled
 respond-requires-clause-settled g c =
-    turned_settled c.args.accounts.now (place c.args.self.now c.args.desk.now) (place (record { session = c.line.new.self; lines = c.room_for.new.self.lines; asked = c.room_for.new.self.asked; count = c.room_for.new.self.count }) c.args.desk.now) c.args.line.now c.in-Ok-line.step
+    turned_settled c.args.accounts.now c.args.self.now.session.stamp (place c.args.self.now c.args.desk.now) (place (record { session = c.line.new.self; lines = c.room_for.new.self.lines; asked = c.room_for.new.self.asked; count = c.room_for.new.self.count }) c.args.desk.now) c.args.line.now c.in-Ok-line.step
     (record { hearing = c.requires.hearing; step = search rules; state = search rules; lines = c.room_for.ensures.same_lines; asked = c.room_for.ensures.same_asked; count = c.room_for.ensures.same_count; desk = refl })
 
 pub returns-in-Ok-line-clause-heard : goal.returns-in-Ok-line-clause-heard

@@ -1,6 +1,5 @@
-use Rattle.std.proofs.Common.{◌≡◌, ◌≤◌, ◌-◌, Some, false, refl, rules, sym, ◌∙◌, ap, subst}
-use Rattle.std.specs.Prelude.{is_none}
-use Rattle.session.specs.Entries.{entry_at, with_mark_at}
+use Rattle.std.proofs.Common.{refl, rules}
+use Rattle.session.specs.Entries.{entry_at}
 use Rattle.session.proofs.EntryLemmas.{marks, read_at, some_from}
 use Rattle.session.proofs.opened.Opened.mark.Goals as goal
 

@@ -1,6 +1,3 @@
-use Rattle.std.proofs.Common.{sym, subst, ◌∙◌, ap}
-use Rattle.std.specs.List.Sorted.{IsStrictlyIncreasing}
-use Rattle.session.specs.Entries.{marked_uids}
 use Rattle.session.proofs.EntryLemmas.{marked_uids-increasing}
 use Rattle.session.proofs.opened.Opened.marked_uids.Goals as goal
 

@@ -1,20 +1,10 @@
-//! Runs of the wire's calls, for the measurements of bench/.
-#![tactic(auto)]
+//! Runs of the wire's calls.
 
+use crate::value::line_value;
 use ballot::{Items, Memory};
 use maildrop::Text;
 use pop3_wire::{Line, LineReader, Reply, stuffed};
 use std::alloc::Global;
-
-/// What is taken of a line: its length, and its first and last byte.
-fn line_value(line: &[u8]) -> u64 {
-    match line {
-        [first, .., last] => (line.len() as u64)
-            .wrapping_add(*first as u64)
-            .wrapping_add(*last as u64),
-        _ => 0,
-    }
-}
 
 /// Cuts a piece to its end, and adds up the values of its lines.
 fn cut(reader: &mut LineReader, piece: &[u8], total: u64) -> u64 {
@@ -35,7 +25,7 @@ fn cut(reader: &mut LineReader, piece: &[u8], total: u64) -> u64 {
 
 /// The values of the lines of a stream together, where it comes in pieces of 4,096 bytes.
 #[unsafe(no_mangle)]
-pub extern "C" fn wire_bench_lines(stream: &[u8]) -> u64 {
+pub extern "C" fn bench_lines(stream: &[u8]) -> u64 {
     let mut reader = LineReader::new();
     let mut total = 0;
     for piece in stream.chunks(4096) {
@@ -64,7 +54,7 @@ fn stuffed_octets(alloc: Global, bytes: &[u8], rounds: u32) -> Result<u64, Memor
 
 /// The octets that so many wire forms have together, of a text of these bytes in lines of 60; 0 where memory ends.
 #[unsafe(no_mangle)]
-pub extern "C" fn wire_bench_stuffed(alloc: Global, bytes: &[u8], rounds: u32) -> u64 {
+pub extern "C" fn bench_stuffed(alloc: Global, bytes: &[u8], rounds: u32) -> u64 {
     stuffed_octets(alloc, bytes, rounds).unwrap_or(0)
 }
 
@@ -85,6 +75,6 @@ fn reply_octets(alloc: Global, bytes: &[u8], rounds: u32) -> Result<u64, Memory>
 /// The octets that so many replies to RETR have together, of a text of these bytes in lines of 60; 0 where memory
 /// ends.
 #[unsafe(no_mangle)]
-pub extern "C" fn wire_bench_reply(alloc: Global, bytes: &[u8], rounds: u32) -> u64 {
+pub extern "C" fn bench_reply(alloc: Global, bytes: &[u8], rounds: u32) -> u64 {
     reply_octets(alloc, bytes, rounds).unwrap_or(0)
 }

@@ -1,0 +1,6 @@
+//! Runs of the calls that bench/ measures.
+#![tactic(auto)]
+
+mod mailbox;
+mod value;
+mod wire;
