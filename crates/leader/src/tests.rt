@@ -204,8 +204,9 @@ fn what_was_accepted_replaces_the_proposal(rt: HostRuntime) -> Result<(), Fail> 
 #[test]
 fn a_leader_has_the_ballot_that_it_campaigned_for(rt: HostRuntime) -> Result<(), Fail> {
     let mut leader = leader_of_three(rt.alloc(), 1)?;
-    let others: [(Call, &[Short]); 2] = [
+    let others: [(Call, &[Short]); 3] = [
         (Call::Campaign, &[Short::P1a(0, 1)]),
+        (Call::Campaign, &[]),
         (Call::Adopted(0, 2), &[]),
     ];
     assert_sent(&rt, rt.alloc(), &mut leader, &others)?;
@@ -248,14 +249,14 @@ fn only_a_higher_ballot_preempts_a_leader(rt: HostRuntime) -> Result<(), Fail> {
 }
 
 #[test]
-fn a_proposal_is_asked_for_once_and_stays(rt: HostRuntime) -> Result<(), Fail> {
+fn the_first_proposal_of_a_slot_stays(rt: HostRuntime) -> Result<(), Fail> {
     let mut leader = leader_of_three(rt.alloc(), 1)?;
     let rows: [(Call, &[Short]); 6] = [
         (Call::Propose(1, 40), &[]),
-        (Call::Campaign, &[Short::P1a(0, 1)]),
-        (Call::Campaign, &[]),
-        (Call::Adopted(0, 1), &[Short::P2a(0, 1, 1, 40)]),
         (Call::Propose(1, 50), &[]),
+        (Call::Campaign, &[Short::P1a(0, 1)]),
+        (Call::Adopted(0, 1), &[Short::P2a(0, 1, 1, 40)]),
+        (Call::Propose(1, 60), &[]),
         (Call::Tick, &[Short::P2a(0, 1, 1, 40)]),
     ];
     assert_sent(&rt, rt.alloc(), &mut leader, &rows)
