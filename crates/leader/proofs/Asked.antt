@@ -3,7 +3,7 @@ use Rattle.std.proofs.Common.{◌≡◌, ◌≢◌, ◌⊎◌, ℕ, zero, suc, L
 use Rattle.std.specs.Prelude.{nat_lt}
 use Rattle.std.specs.List.{flat_map}
 use Rattle.std.proofs.lemmas.Bool.{true≢false}
-use Rattle.ballot.specs.Ballots.{BallotNumber, Below, AtMost, below, same_ballot, next_ballot}
+use Rattle.ballot.specs.Ballots.{BallotNumber, Below, below, same_ballot, next_ballot}
 use Rattle.ballot.specs.Lists.{IsIn}
 use Rattle.ballot.specs.Sends.{to_all}
 use Rattle.ballot.specs.declared.pvalue.PValue.{PValue}
@@ -22,7 +22,7 @@ use Rattle.proposer.specs.declared.scout.Progress.TheVariants.{Waiting, Adopted,
 use Rattle.proposer.specs.declared.commander.Verdict.{Verdict}
 use Rattle.proposer.specs.declared.commander.Verdict.TheVariants.{Decided}
 use Rattle.proposer.specs.declared.commander.Verdict.TheVariants as vote
-use Rattle.leader.specs.Leaders.{Phase, Passive, Scouting, Active, Over, LeaderState, Move, at_slot, with_slot, new_leader, in_phase, phase_is_active, best_pvalues, replaced, goes_on, yields_in, yields, stays, p2a, p2as, p2a_again, p2as_again, keeps_proposal, proposed_at, proposed, campaigned, preempted, leads, with_proposals, adopts, adopted, after_promise, on_progress, hears_promise, decision, after_vote, verdict_on, on_verdict, hears_vote, ticked}
+use Rattle.leader.specs.Leaders.{Phase, Passive, Scouting, Active, Over, LeaderState, Move, at_slot, with_slot, new_leader, in_phase, phase_is_active, best_pvalues, replaced, goes_on, yields_in, stays, p2a, p2a_again, keeps_proposal, proposed_at, proposed, campaigned, preempted, adopts, adopted, after_promise, on_progress, hears_promise, decision, after_vote, verdict_on, on_verdict, hears_vote, ticked}
 use Rattle.leader.specs.Calls.{Call, Proposes, HearsPromise, HearsVote, Adopts, IsPreempted, Campaigns, Ticks, called, all_called, Asks, IsAsked}
 use Rattle.leader.proofs.Slots.{at_slot-with_slot, at_slot-with_other, Rising, rising_with, rising_found}
 

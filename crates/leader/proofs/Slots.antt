@@ -1,12 +1,12 @@
 -- Lists in slot order: what stands at a slot once one is put in.
-use Rattle.std.proofs.Common.{◌≡◌, ◌≢◌, ◌⊎◌, ℕ, ◌<◌, List, [], ◌∷◌, Bool, true, false, Option, Some, None, refl, sym, ap, ◌∙◌, subst, inl, inr, ⊎_elim, arith, cond}
+use Rattle.std.proofs.Common.{◌≡◌, ◌≢◌, ℕ, ◌<◌, List, [], ◌∷◌, Bool, true, false, Some, refl, sym, ap, ◌∙◌, subst, inl, inr, ⊎_elim, arith, cond}
 use Rattle.std.specs.Ordering.{MatchOrdering, match_ordering, nat_cmp, is_eq}
 use Rattle.std.specs.Cmp.{nat_cmp_is}
 use Rattle.std.specs.declared.cmp.Ordering.{Ordering}
 use Rattle.std.specs.declared.cmp.Ordering.TheVariants.{Less, Equal, Greater}
 use Rattle.std.proofs.lemmas.Cmp.{ranked}
 use Rattle.ballot.specs.Lists.{IsIn}
-use Rattle.leader.specs.Leaders.{at_slot, with_slot, set_slot, without_slot}
+use Rattle.leader.specs.Leaders.{at_slot, with_slot}
 
 same_slot : (s : ℕ) → nat_cmp s s ≡ Equal
 same_slot s = sym (nat_cmp_is s s Equal refl)

@@ -5,7 +5,6 @@ use Rattle.ballot.specs.Lists.{IsIn}
 use Rattle.ballot.specs.declared.pvalue.PValue.{PValue}
 use Rattle.ballot.specs.declared.message.Promise.{Promise}
 use Rattle.ballot.specs.declared.message.Vote.{Vote}
-use Rattle.ballot.specs.declared.message.Message.{Message}
 use Rattle.ballot.specs.declared.message.Message.TheVariants.{P2a}
 use Rattle.ballot.specs.declared.outgoing.Outgoing.{Outgoing}
 use Rattle.leader.specs.Leaders.{LeaderState, Move, stays, at_slot, phase_is_active, proposed, campaigned, preempted, adopted, hears_promise, hears_vote, ticked}

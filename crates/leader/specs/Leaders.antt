@@ -1,5 +1,5 @@
 -- Leaders: what each call sends, and what the leader then is. Commands are compared by eq.
-use Rattle.std.specs.Prelude.{◌≡◌, refl, ℕ, ◌+◌, ◌^◌, List, [], ◌∷◌, ◌++◌, Option, Some, None, fold, Bool, true, false, if◌then◌else◌}
+use Rattle.std.specs.Prelude.{◌≡◌, refl, ℕ, List, [], ◌∷◌, Option, Some, None, fold, Bool, true, false, if◌then◌else◌}
 use Rattle.std.specs.List.{flat_map}
 use Rattle.std.specs.Map.{lookup, set_value, remove_entry}
 use Rattle.std.specs.BTreeMap.{insert_entry, is_at}
@@ -9,7 +9,6 @@ use Rattle.ballot.specs.Sends.{to_all}
 use Rattle.ballot.specs.declared.pvalue.PValue.{PValue}
 use Rattle.ballot.specs.declared.message.Promise.{Promise}
 use Rattle.ballot.specs.declared.message.Vote.{Vote}
-use Rattle.ballot.specs.declared.message.Message.{Message}
 use Rattle.ballot.specs.declared.message.Message.TheVariants.{P1a, P2a, Decision}
 use Rattle.ballot.specs.declared.outgoing.Outgoing.{Outgoing}
 use Rattle.proposer.specs.Quorums.{Pending, left_by}

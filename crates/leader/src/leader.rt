@@ -1,5 +1,5 @@
 //! The leader.
-ghost use Rattle.std.specs.Prelude.{◌≡◌, ◌↔◌, [], Some, None, option_map, IsTrue, IsErr, IfOk, IfSome, OnOk, OnErr};
+ghost use Rattle.std.specs.Prelude.{◌≡◌, ◌↔◌, Some, None, option_map, IsErr, IfOk, IfSome, OnOk, OnErr};
 
 use crate::state::{Doing, State};
 use crate::{adopting, phases};
@@ -126,10 +126,11 @@ impl<C: Payload, A: Allocator + Copy> Leader<C, A> {
 
     /// Yields to this ballot, if it is above its own: the leader is passive, and its ballot is of the
     /// round after. Where there is no round after, it keeps its ballot and is passive for ever.
+    /// Takes no memory: it answers `Memory` only where the leader is spent.
     pub fn preempted(&mut self, ballot: Ballot) -> Result<Sends<C, A>, Memory>
         ensures leader { OnOk result (self.new ≡ option_map (λ l. (preempted {A = A} l ballot).leader) self.old) }
         ensures sends { (l : LeaderState C) → self.old ≡ Some l → IfOk result (λ sends. sends ≡ (preempted l ballot).sends) }
-        ensures spent { self.old ≡ None → IsErr result }
+        ensures spent { IsErr result ↔ (self.old ≡ None) }
         ensures err { OnErr result (self.new ≡ None) }
     {
         if self.spent {

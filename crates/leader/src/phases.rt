@@ -1,5 +1,5 @@
 //! What a leader does at each event, except that a majority promises its ballot.
-ghost use Rattle.std.specs.Prelude.{◌≡◌, ◌++◌, OnOk, OnErr, IfOk};
+ghost use Rattle.std.specs.Prelude.{◌≡◌, ◌++◌, OnOk, IfOk};
 ghost use Rattle.leader.specs.Leaders.{Active, p2a_again, p2as_again, at_slot, without_slot, after_vote, verdict_on, in_phase, keeps_proposal, proposed, campaigned, yields, decision, hears_vote, ticked};
 ghost use Rattle.leader.specs.States.{state_of};
 
