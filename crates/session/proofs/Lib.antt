@@ -8,3 +8,4 @@ pub mod Pieces
 pub mod ReaderLemmas
 pub mod Served
 pub mod Closing
+pub mod Longer

@@ -9,3 +9,4 @@ pub mod Conversation
 pub mod Transcript
 pub mod Serve
 pub mod Dialogue
+pub mod Alone

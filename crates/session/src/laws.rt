@@ -1,0 +1,26 @@
+//! What holds of whole sessions.
+ghost use Rattle.std.specs.Prelude.{List, Option, ◌++◌};
+ghost use Rattle.maildrop.specs.Ticket.{Ticket};
+ghost use Rattle.maildrop.specs.Maildrop.{Maildrop};
+ghost use Rattle.maildrop.specs.declared.command.Command.{Command};
+ghost use Rattle.apop.specs.Stamp.{Stamp};
+ghost use Rattle.apop.specs.Accounts.{Account};
+ghost use Rattle.pop3_wire.specs.declared.line.Line.{Line};
+ghost use Rattle.session.specs.Alone.{replies_alone};
+ghost use Rattle.session.specs.Conversation.{Answer, conversation};
+ghost use Rattle.session.specs.Prefix.{IsPrefix};
+
+use std::alloc::Allocator;
+
+/// More lines and more answers only lengthen the replies.
+pub fn conversations_lengthen<A: Allocator>()
+    ensures { (accounts : List Account) (stamp : Stamp) (lines more : List Line) (answers others : List (Answer A)) →
+        IsPrefix (conversation accounts stamp lines answers).replies (conversation accounts stamp (lines ++ more) (answers ++ others)).replies }
+{}
+
+/// More lines, more tickets and more of the user's commands only lengthen what a server says that has the user's
+/// maildrop alone.
+pub fn replies_lengthen<A: Allocator>()
+    ensures { (accounts : List Account) (stamp : Stamp) (maildrop : Option (Maildrop A)) (lines more : List Line) (tickets others : List Ticket) (own decided : List (Command A)) →
+        IsPrefix (replies_alone accounts stamp maildrop lines tickets own) (replies_alone accounts stamp maildrop (lines ++ more) (tickets ++ others) (own ++ decided)) }
+{}
