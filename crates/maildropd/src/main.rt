@@ -3,10 +3,11 @@
 
 use clap::error::ErrorKind;
 use clap::{Arg, ArgAction, ArgMatches, Command, Error};
-use server::{LoneOptions, lone_run};
+use server::{Fault, LoneOptions, lone_run};
 use std::alloc::Global;
-use std::io;
 use std::process::ExitCode;
+use std::rt::Files;
+use std::{fs, io};
 
 /// An option with a value of the user's, which may begin with a hyphen.
 fn option<'a>(alloc: Global, name: &'a str, value: &'a str, help: &'a str) -> Arg<'a> {
@@ -31,6 +32,18 @@ fn lone<'a>(alloc: Global) -> Result<Command<'a>, Error> {
         "TEXT",
         "The user's secret: 1 to 255 bytes, spaces included, no control characters",
     );
+    let method = option(
+        alloc,
+        "method",
+        "METHOD",
+        "What the user logs in by: pass (USER and PASS) or apop",
+    );
+    let mbox = option(
+        alloc,
+        "mbox",
+        "FILE",
+        "A mailbox file (mboxrd), whose messages the maildrop holds; the file itself is only read",
+    );
     let nonce = option(
         alloc,
         "nonce",
@@ -44,9 +57,11 @@ fn lone<'a>(alloc: Global) -> Result<Command<'a>, Error> {
         "What the greeting's timestamp has behind its @",
     );
     let lone = Command::new(alloc, "lone")
-        .about("Serves one POP3 session over an empty maildrop on standard input and output")
+        .about("Serves one POP3 session over one user's maildrop on standard input and output")
         .arg(user.required(true))?
         .arg(secret.required(true))?
+        .arg(method.default_value("pass"))?
+        .arg(mbox)?
         .arg(nonce.default_value("1.1"))?
         .arg(host.default_value("localhost"))?;
     Ok(lone)
@@ -67,17 +82,48 @@ fn bytes_of<'a>(matches: &ArgMatches<'a>, name: &str) -> &'a [u8] {
     }
 }
 
-fn run_lone<R: AllocGlobal + Input + Print + Eprint>(rt: &R, matches: &ArgMatches<'_>) -> u8 {
+/// Runs `lone`, with the mailbox file's bytes, if there is one.
+fn serve<R: AllocGlobal + Input + Print + Eprint>(
+    rt: &R,
+    matches: &ArgMatches<'_>,
+    mbox: Option<&[u8]>,
+) -> u8 {
     let options = LoneOptions {
         user: bytes_of(matches, "user"),
+        method: bytes_of(matches, "method"),
         secret: bytes_of(matches, "secret"),
         nonce: bytes_of(matches, "nonce"),
         host: bytes_of(matches, "host"),
+        mbox,
     };
     lone_run(rt, &mut rt.reader(), &mut io::writer(rt), &options)
 }
 
-fn run<R: AllocGlobal + Input + Print + Eprint>(rt: &R, words: &[String]) -> Result<u8, Error> {
+fn run_lone<R: AllocGlobal + Files + Input + Print + Eprint>(
+    rt: &R,
+    matches: &ArgMatches<'_>,
+) -> u8 {
+    let Some(path) = matches.get_str("mbox") else {
+        return serve(rt, matches, None);
+    };
+    match fs::read(rt, path) {
+        Ok(bytes) => serve(rt, matches, Some(bytes.as_slice())),
+        Err(error) => {
+            let fault = if error.kind() == io::ErrorKind::OutOfMemory {
+                Fault::Memory
+            } else {
+                Fault::Read
+            };
+            let _ = eprintln!(rt; "maildropd: {fault}");
+            fault.status()
+        }
+    }
+}
+
+fn run<R: AllocGlobal + Files + Input + Print + Eprint>(
+    rt: &R,
+    words: &[String],
+) -> Result<u8, Error> {
     let matches = command(rt.alloc())?.try_get_matches_from(words)?;
     match matches.subcommand() {
         Some(("lone", inner)) => Ok(run_lone(rt, inner)),

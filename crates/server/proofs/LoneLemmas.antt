@@ -79,19 +79,19 @@ module _ {A : Type 0} where
   all-answered transcript rest entries (inr hung_up) (inl stopped) = let same = hung_up.0 in absurd (cc)
 
   pub session_served : (accounts : List Account) (stamp : Stamp) (desk last : LoneDesk A) (read rest input written : List ℕ) (transcript : Transcript A)
-      → IsServed Gives accounts stamp desk last read written transcript → desk.next ≡ 1 → input ≡ read ++ rest → IsOver transcript rest → IsSessionOf accounts stamp desk.office input written
-  session_served accounts stamp desk last read rest input written transcript served first is over =
+      → IsServed Gives accounts stamp desk last read written transcript → input ≡ read ++ rest → IsOver transcript rest → IsSessionOf accounts stamp desk.next desk.office input written
+  session_served accounts stamp desk last read rest input written transcript served is over =
       let entries = served.entries in
       let answered = all-answered transcript rest entries over served.answered in
       let history = history_front Gives entries served.hangup desk last (subst (λ asked. IsHistory Gives desk asked last) served.in_order served.given) in
-      let own = commands_by 1 entries in
+      let own = commands_by desk.next entries in
       let hung : answers_of served.hangup ≡ [] = elim served.freed [
         | inl freed ↦ unanswered (free_of (lock_due (told accounts stamp transcript).state)) served.hangup freed
         | inr full ↦ rw full.0 refl
       ] in
       let answers : answers_of transcript.asked ≡ answers_in desk.office own =
       ap answers_of served.in_order ∙ answers_append entries served.hangup ∙ ap (λ more. answers_of entries ++ more) hung ∙ append-nil (answers_of entries)
-      ∙ history-answers entries desk history.0 answered history.1 ∙ ap (λ n. answers_in desk.office (commands_by n entries)) first in
+      ∙ history-answers entries desk history.0 answered history.1 in
       let lines : conversation accounts stamp (lines_of input) (answers_of transcript.asked) ≡ told accounts stamp transcript = elim over [
         | inl closed ↦
             let behind = served.heard rest in
@@ -104,20 +104,20 @@ module _ {A : Type 0} where
       ap (λ answers. conversation accounts stamp (lines_of input) answers) (sym answers) ∙ lines in
       record {
         own = own;
-        asked = sym (commands_asked 1 entries answered) ∙ ap (λ asked. commands_from 1 asked) served.asked ∙ ap (λ (c : Conversation A). commands_from 1 c.asked) (sym same);
+        asked = sym (commands_asked desk.next entries answered) ∙ ap (λ asked. commands_from desk.next asked) served.asked ∙ ap (λ (c : Conversation A). commands_from desk.next c.asked) (sym same);
         replied = served.said_all (over-end transcript rest over) ∙ ap (λ (c : Conversation A). concat c.replies) (sym same);
       }
 
   -- where the input is known, all of it was answered
   pub written_session : (accounts : List Account) (stamp : Stamp) (desk last : LoneDesk A) (remaining remaining2 contents contents2 : Option (List ℕ)) (transcript : Transcript A)
       → (read : List ℕ) × (written : List ℕ) × Consumes remaining remaining2 read × Appends contents contents2 written × IsServed Gives accounts stamp desk last read written transcript
-      → desk.next ≡ 1 → (transcript.end ≡ end.HungUp → IsAtEnd remaining2) → (transcript.end ≡ end.Closed) ⊎ (transcript.end ≡ end.HungUp)
-      → IfSome remaining (λ input. (written : List ℕ) × IsSessionOf accounts stamp desk.office input written × Appends contents contents2 written)
-  written_session accounts stamp desk last None remaining2 contents contents2 transcript served first at_end over = tt
-  written_session accounts stamp desk last (Some input) None contents contents2 transcript served first at_end over = absurd served.2
-  written_session accounts stamp desk last (Some input) (Some rest) contents contents2 transcript served first at_end over =
+      → (transcript.end ≡ end.HungUp → IsAtEnd remaining2) → (transcript.end ≡ end.Closed) ⊎ (transcript.end ≡ end.HungUp)
+      → IfSome remaining (λ input. (written : List ℕ) × IsSessionOf accounts stamp desk.next desk.office input written × Appends contents contents2 written)
+  written_session accounts stamp desk last None remaining2 contents contents2 transcript served at_end over = tt
+  written_session accounts stamp desk last (Some input) None contents contents2 transcript served at_end over = absurd served.2
+  written_session accounts stamp desk last (Some input) (Some rest) contents contents2 transcript served at_end over =
       let ended : IsOver transcript rest = elim over [
         | inl closed ↦ inl closed
         | inr hung_up ↦ inr (hung_up, at_end hung_up)
       ] in
-      (served.1, session_served accounts stamp desk last served.0 rest input served.1 transcript served.4 first served.2 ended, served.3)
+      (served.1, session_served accounts stamp desk last served.0 rest input served.1 transcript served.4 served.2 ended, served.3)

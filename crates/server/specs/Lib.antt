@@ -2,3 +2,4 @@ pub mod Options
 pub mod Tickets
 pub mod LoneDesks
 pub mod Lone
+pub mod Mailed

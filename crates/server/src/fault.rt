@@ -6,12 +6,18 @@ use thiserror::Error;
 /// Why a run ends before its end. Its text is what the program says on standard error.
 #[derive(Clone, Copy, Debug, PartialEq, Eq, Error)]
 pub enum Fault {
-    /// The user is no name, or the secret is none that an account may have.
+    /// The user is no name, the method none of the two, or the secret none that an account may have.
     #[error("accounts line 1")]
     Account,
     /// The nonce or the host is none of a timestamp.
     #[error("bad value")]
     Value,
+    /// The mailbox file isn't one.
+    #[error("bad mbox")]
+    Mailbox,
+    /// A message of the mailbox file is too large, or one too many.
+    #[error("mail refused")]
+    Mail,
     #[error("no memory")]
     Memory,
     #[error("read failed")]
@@ -21,13 +27,16 @@ pub enum Fault {
 }
 
 impl Fault {
-    /// The exit status: 2 for a fault of the options, 1 for one of memory, reading or writing.
+    /// The exit status: 2 for a fault of the options, 3 for mail that is refused, 1 for a fault of memory, reading or
+    /// writing.
     pub fn status(self) -> u8
-        ensures options { (result ≡ 2) ↔ ((self ≡ Fault.Account) ⊎ (self ≡ Fault.Value)) }
-        ensures range { (1 ≤ result) × (result ≤ 2) }
+        ensures options { (result ≡ 2) ↔ ((self ≡ Fault.Account) ⊎ (self ≡ Fault.Value) ⊎ (self ≡ Fault.Mailbox)) }
+        ensures mail { (result ≡ 3) ↔ (self ≡ Fault.Mail) }
+        ensures range { (1 ≤ result) × (result ≤ 3) }
     {
         match self {
-            Fault::Account | Fault::Value => 2,
+            Fault::Account | Fault::Value | Fault::Mailbox => 2,
+            Fault::Mail => 3,
             Fault::Memory | Fault::Read | Fault::Write => 1,
         }
     }

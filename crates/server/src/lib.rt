@@ -5,6 +5,7 @@ mod asking;
 mod fault;
 mod lone;
 mod lone_desk;
+mod mail;
 mod options;
 
 pub use fault::Fault;
@@ -12,6 +13,8 @@ pub use lone::lone_run;
 pub use lone_desk::LoneDesk;
 pub use options::LoneOptions;
 
+#[cfg(test)]
+mod mail_tests;
 #[cfg(test)]
 mod serve_tests;
 #[cfg(test)]

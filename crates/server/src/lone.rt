@@ -1,19 +1,32 @@
-//! One session over an empty maildrop, from a reader to a writer.
+//! One session over one user's maildrop, from a reader to a writer.
 ghost use Rattle.std.specs.Prelude.{◌≡◌, ◌≢◌, ℕ, List, ◌+◌, ◌-◌, ◌<◌, ◌≤◌, ◌^◌, ◌++◌, ◌∷◌, [], length, vec_len, IfOk, IfSome, OnOk, OnErr, IfErr, IsErrOf, ◌↔◌, ◌⊎◌};
 ghost use Rattle.std.specs.declared.alloc.Global.{Global};
 ghost use Rattle.std.specs.Io.KnownBytes.{Appends};
-ghost use Rattle.maildrop.specs.Office.{new_user};
+ghost use Rattle.apop.specs.Accounts.{method_of as method_in};
+ghost use Rattle.mboxrd.specs.declared.error.MboxError.TheVariants.{NoFromLine};
 ghost use Rattle.server.specs.Lone.{IsSessionOf, IsLoneSession};
+ghost use Rattle.server.specs.Mailed.{IsMailed, IsRefused};
 ghost use Rattle.server.specs.Options as spec;
 
 use crate::fault::Fault;
 use crate::lone_desk::LoneDesk;
+use crate::mail::{deliver, texts_of};
 use crate::options::LoneOptions;
 use apop::{Accounts, Method, Stamp, stamp};
 use maildrop::{Limits, Name};
 use session::{End, OpenGate, serve};
 use std::alloc::Global;
 use std::io::{Read, Write};
+
+fn method_of(word: &[u8]) -> Option<Method>
+    ensures { result ≡ method_in word.now }
+{
+    match word {
+        b"pass" => Some(Method::Pass),
+        b"apop" => Some(Method::Apop),
+        _ => None,
+    }
+}
 
 /// The account that the options name, with the user's name.
 fn account_of(alloc: Global, options: &LoneOptions<'_>) -> Result<(Name, Accounts), Fault>
@@ -26,40 +39,31 @@ fn account_of(alloc: Global, options: &LoneOptions<'_>) -> Result<(Name, Account
     let Some(name) = Name::new(options.user) else {
         return Err(Fault::Account);
     };
-    match Accounts::single(alloc, name, Method::Pass, options.secret) {
+    let Some(method) = method_of(options.method) else {
+        return Err(Fault::Account);
+    };
+    match Accounts::single(alloc, name, method, options.secret) {
         Ok(Some(accounts)) => Ok((name, accounts)),
         Ok(None) => Err(Fault::Account),
         Err(_) => Err(Fault::Memory),
     }
 }
 
-/// Serves a session over the maildrop of one user.
-fn serve_user<R: Read, W: Write>(
+/// Serves a session over a desk.
+fn serve_desk<R: Read, W: Write>(
     alloc: Global,
     reader: &mut R,
     writer: &mut W,
     accounts: &Accounts,
-    user: Name,
     stamp: Stamp,
+    desk: &mut LoneDesk,
 ) -> Result<(), Fault>
     ensures written { OnOk result (IfSome (R.remaining reader.old) (λ input. (written : List ℕ)
-        × IsSessionOf {A = Global} accounts.now stamp (new_user spec.lone_limits user ∷ []) input written
+        × IsSessionOf {A = Global} accounts.now stamp desk.old.next desk.old.office input written
         × Appends (W.contents writer.old) (W.contents writer.new) written)) }
-    ensures fault { IfErr result (λ fault. (fault ≢ Fault.Account) × (fault ≢ Fault.Value)) }
+    ensures fault { IfErr result (λ fault. (fault ≡ Fault.Read) ⊎ (fault ≡ Fault.Write) ⊎ (fault ≡ Fault.Memory)) }
 {
-    let limits = Limits::new(10_000, 50_000_000, 1_000_000_000).unwrap();
-    let Ok(mut desk) = LoneDesk::new(alloc, user, limits) else {
-        return Err(Fault::Memory);
-    };
-    let transcript = serve(
-        alloc,
-        reader,
-        writer,
-        accounts,
-        stamp,
-        &mut desk,
-        &mut OpenGate,
-    );
+    let transcript = serve(alloc, reader, writer, accounts, stamp, desk, &mut OpenGate);
     match transcript.end {
         End::Closed | End::HungUp => Ok(()),
         End::ReadFault => Err(Fault::Read),
@@ -67,6 +71,22 @@ fn serve_user<R: Read, W: Write>(
         // The desk of a lone session stops for want of memory alone.
         End::DeskStopped | End::Memory => Err(Fault::Memory),
     }
+}
+
+/// The desk of the options' user, whose maildrop holds the messages of the mailbox file.
+fn desk_of(alloc: Global, user: Name, options: &LoneOptions<'_>) -> Result<LoneDesk, Fault>
+    ensures desk { IfOk result (λ desk. IsMailed user options.now desk) }
+    ensures mailbox { IsErrOf result Fault.Mailbox ↔ (spec.texts_of options.now ≡ Err NoFromLine) }
+    ensures mail { IsErrOf result Fault.Mail → IsRefused user options.now }
+    ensures fault { IfErr result (λ fault. (fault ≡ Fault.Mailbox) ⊎ (fault ≡ Fault.Mail) ⊎ (fault ≡ Fault.Memory)) }
+{
+    let texts = texts_of(alloc, options)?;
+    let limits = Limits::new(10_000, 50_000_000, 1_000_000_000).unwrap();
+    let Ok(mut desk) = LoneDesk::new(alloc, user, limits) else {
+        return Err(Fault::Memory);
+    };
+    deliver(&mut desk, user, texts.as_slice())?;
+    Ok(desk)
 }
 
 /// Serves the session that the options describe.
@@ -82,18 +102,22 @@ fn run<R: Read, W: Write>(
     ensures valid { OnOk result (spec.IsAccount options.now × spec.IsStamp options.now) }
     ensures account { IsErrOf result Fault.Account ↔ ¬ spec.IsAccount options.now }
     ensures value { IsErrOf result Fault.Value → ¬ spec.IsStamp options.now }
-    ensures untouched { IfErr result (λ fault. (fault ≡ Fault.Account) ⊎ (fault ≡ Fault.Value) → writer.new ≡ writer.old) }
+    ensures mailbox { IsErrOf result Fault.Mailbox → spec.texts_of options.now ≡ Err NoFromLine }
+    ensures mail { IsErrOf result Fault.Mail → IsRefused options.now.user.now options.now }
+    ensures untouched { IfErr result (λ fault. (fault ≢ Fault.Read) × (fault ≢ Fault.Write) × (fault ≢ Fault.Memory) → writer.new ≡ writer.old) }
 {
     let (user, accounts) = account_of(alloc, options)?;
     let Some(stamp) = stamp(options.nonce, options.host) else {
         return Err(Fault::Value);
     };
-    serve_user(alloc, reader, writer, &accounts, user, stamp)
+    let mut desk = desk_of(alloc, user, options)?;
+    serve_desk(alloc, reader, writer, &accounts, stamp, &mut desk)
 }
 
-/// Serves one POP3 session (RFC 1939) over an empty maildrop, from a reader to a writer, and answers each line as it
-/// comes. Gives the exit status: 0 at the end of the session or of the input, 1 after a fault of memory, reading or
-/// writing, 2 for options that are none. A fault is told on standard error.
+/// Serves one POP3 session (RFC 1939) over the maildrop of one user, which holds the messages of the mailbox file, from
+/// a reader to a writer, and answers each line as it comes. Gives the exit status: 0 at the end of the session or of the
+/// input, 1 after a fault of memory, reading or writing, 2 for options that are none, 3 where the maildrop refuses a
+/// message of the file. A fault is told on standard error; after 2 and 3 nothing was written.
 pub fn lone_run<H: AllocGlobal + Eprint, R: Read, W: Write>(
     rt: &H,
     reader: &mut R,
@@ -104,10 +128,11 @@ pub fn lone_run<H: AllocGlobal + Eprint, R: Read, W: Write>(
         × IsLoneSession Global options.now input written
         × Appends (W.contents writer.old) (W.contents writer.new) written) }
     ensures valid { result ≡ 0 → spec.IsAccount options.now × spec.IsStamp options.now }
-    ensures invalid { result ≡ 2 → (¬ spec.IsAccount options.now) ⊎ (¬ spec.IsStamp options.now) }
+    ensures invalid { result ≡ 2 → (¬ spec.IsAccount options.now) ⊎ (¬ spec.IsStamp options.now) ⊎ (spec.texts_of options.now ≡ Err NoFromLine) }
     ensures refused { (¬ spec.IsAccount options.now) → result ≡ 2 }
-    ensures untouched { result ≡ 2 → writer.new ≡ writer.old }
-    ensures statuses { result ≤ 2 }
+    ensures mail { result ≡ 3 → IsRefused options.now.user.now options.now }
+    ensures untouched { (result ≡ 2) ⊎ (result ≡ 3) → writer.new ≡ writer.old }
+    ensures statuses { result ≤ 3 }
 {
     match run(rt.alloc(), reader, writer, options) {
         Ok(()) => 0,

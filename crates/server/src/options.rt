@@ -5,10 +5,14 @@
 pub struct LoneOptions<'a> {
     /// The name of the one user.
     pub user: &'a [u8],
+    /// What the user logs in by: `pass` or `apop`.
+    pub method: &'a [u8],
     /// The user's secret.
     pub secret: &'a [u8],
     /// What stands before the `@` of the greeting's timestamp.
     pub nonce: &'a [u8],
     /// What stands behind it.
     pub host: &'a [u8],
+    /// A mailbox file, whose messages are in the maildrop when the session begins.
+    pub mbox: Option<&'a [u8]>,
 }

@@ -3,9 +3,11 @@ use std::test::Fail;
 
 const OPTIONS: LoneOptions<'static> = LoneOptions {
     user: b"alice",
+    method: b"pass",
     secret: b"s",
     nonce: b"1.1",
     host: b"localhost",
+    mbox: None,
 };
 
 const GREETING: &str = "+OK POP3 server ready <1.1@localhost>\r\n";
@@ -137,4 +139,108 @@ fn a_failed_write_is_told(rt: HostRuntime) {
     let mut writer: &mut [u8] = &mut room;
     let mut reader: &[u8] = b"QUIT\r\n";
     assert_eq!(rt; lone_run(&rt, &mut reader, &mut writer, &OPTIONS), 1);
+}
+
+const MAILBOX: &[u8] = b"From a@b Thu Jan  1 00:00:00 1970\nSubject: x\n\nhi\n.\n>From me\n\n";
+
+/// What is told behind the greeting to a user with a mailbox file.
+fn told(
+    rt: &(impl AllocGlobal + Eprint),
+    options: &LoneOptions<'_>,
+    input: &str,
+) -> Result<Vec<u8>, Fail> {
+    let mut output = Vec::new(rt.alloc());
+    let status = lone_run(rt, &mut input.as_bytes(), &mut output, options);
+    if status != 0 {
+        Err("a bad status")?;
+    }
+    Ok(output)
+}
+
+/// A message of a mailbox file, whole and its top.
+#[test]
+fn a_mailbox_is_served(rt: HostRuntime) -> Result<(), Fail> {
+    let options = LoneOptions {
+        mbox: Some(MAILBOX),
+        ..OPTIONS
+    };
+    let rows = [
+        (
+            "RETR 1\r\n",
+            "+OK 30 octets\r\nSubject: x\r\n\r\nhi\r\n..\r\nFrom me\r\n.\r\n",
+        ),
+        ("TOP 1 0\r\n", "+OK\r\nSubject: x\r\n\r\n.\r\n"),
+        ("TOP 1 1\r\n", "+OK\r\nSubject: x\r\n\r\nhi\r\n.\r\n"),
+        (
+            "TOP 1 99\r\n",
+            "+OK\r\nSubject: x\r\n\r\nhi\r\n..\r\nFrom me\r\n.\r\n",
+        ),
+        ("TOP 1\r\n", "-ERR bad arguments\r\n"),
+    ];
+    for (command, expected) in rows {
+        let input = format!(in rt.alloc(); "USER alice\r\nPASS s\r\n{command}")?;
+        let output = told(&rt, &options, input.as_str())?;
+        let whole = format!(in rt.alloc();
+            "{GREETING}+OK send PASS\r\n+OK maildrop has 1 messages (30 octets)\r\n{expected}"
+        )?;
+        assert_eq!(rt; output.as_slice(), whole.as_bytes(), "{command}");
+    }
+    Ok(())
+}
+
+/// A message whose file ends behind its first line.
+#[test]
+fn a_message_without_lines_is_served(rt: HostRuntime) -> Result<(), Fail> {
+    let options = LoneOptions {
+        mbox: Some(b"From x"),
+        ..OPTIONS
+    };
+    let output = told(&rt, &options, "USER alice\r\nPASS s\r\nRETR 1\r\n")?;
+    let whole = format!(in rt.alloc();
+        "{GREETING}+OK send PASS\r\n+OK maildrop has 1 messages (0 octets)\r\n+OK 0 octets\r\n.\r\n"
+    )?;
+    assert_eq!(rt; output.as_slice(), whole.as_bytes());
+    Ok(())
+}
+
+/// A user who logs in by a digest: the row of RFC 1939 section 7.
+#[test]
+fn a_digest_logs_in(rt: HostRuntime) -> Result<(), Fail> {
+    let options = LoneOptions {
+        user: b"mrose",
+        method: b"apop",
+        secret: b"tanstaaf",
+        nonce: b"1896.697170952",
+        host: b"dbc.mtview.ca.us",
+        mbox: None,
+    };
+    let input =
+        "APOP mrose C4C9334BAC560ECC979E58001B3E22FB\r\nUSER mrose\r\nPASS tanstaaf\r\nAPOP mrose c4c9334bac560ecc979e58001b3e22fb\r\n";
+    let output = told(&rt, &options, input)?;
+    let whole =
+        "+OK POP3 server ready <1896.697170952@dbc.mtview.ca.us>\r\n-ERR invalid login\r\n+OK send PASS\r\n-ERR invalid login\r\n+OK maildrop has 0 messages (0 octets)\r\n";
+    assert_eq!(rt; output.as_slice(), whole.as_bytes());
+    Ok(())
+}
+
+/// Faults come in order: account, timestamp, mailbox. Nothing is written then.
+#[test]
+fn bad_mailboxes_are_refused(rt: HostRuntime) {
+    let bad = LoneOptions {
+        mbox: Some(b"hello\n"),
+        ..OPTIONS
+    };
+    for options in [
+        bad,
+        LoneOptions {
+            method: b"PASS",
+            ..bad
+        },
+        LoneOptions { nonce: b"", ..bad },
+    ] {
+        let mut reader: &[u8] = b"QUIT\r\n";
+        let mut output = Vec::new(rt.alloc());
+        assert_eq!(rt; lone_run(&rt, &mut reader, &mut output, &options), 2);
+        assert_eq!(rt; output.len(), 0);
+    }
 }

@@ -1,0 +1,71 @@
+//! The messages that are in a maildrop before its session.
+ghost use Rattle.std.specs.Prelude.{◌≡◌, ◌+◌, ◌⊎◌, ◌↔◌, true, false, [], ◌∷◌, length, Ok, Err, IfOk, OnOk, IfErr, IsErrOf};
+ghost use Rattle.mboxrd.specs.declared.error.MboxError.TheVariants.{NoFromLine};
+ghost use Rattle.server.specs.Lone.{mails_from, users_after_all, is_stored, are_stored};
+ghost use Rattle.server.specs.Options.{texts_of as texts_in_options};
+
+use crate::fault::Fault;
+use crate::lone_desk::LoneDesk;
+use crate::options::LoneOptions;
+use maildrop::{Name, Op, Outcome, Text};
+use mboxrd::{MboxError, read};
+use std::alloc::Global;
+
+/// The texts of the mailbox file that the options name, if they name one.
+pub(crate) fn texts_of(alloc: Global, options: &LoneOptions<'_>) -> Result<Vec<Text>, Fault>
+    ensures texts { IfOk result (λ texts. texts_in_options options.now ≡ Ok texts.items) }
+    ensures refused { IsErrOf result Fault.Mailbox ↔ (texts_in_options options.now ≡ Err NoFromLine) }
+    ensures fault { IfErr result (λ fault. (fault ≡ Fault.Mailbox) ⊎ (fault ≡ Fault.Memory)) }
+{
+    let Some(mbox) = options.mbox else {
+        return Ok(Vec::new(alloc));
+    };
+    match read(alloc, mbox) {
+        Ok(texts) => Ok(texts),
+        Err(MboxError::NoFromLine) => Err(Fault::Mailbox),
+        Err(MboxError::Memory) => Err(Fault::Memory),
+    }
+}
+
+/// Has a message stored.
+fn store(desk: &mut LoneDesk, user: Name, text: &Text) -> Result<(), Fault>
+    ensures stored { OnOk result (are_stored desk.old.office (mails_from desk.old.next user (text.now ∷ [])) ≡ true) }
+    ensures office { OnOk result (desk.new.office ≡ users_after_all desk.old.office (mails_from desk.old.next user (text.now ∷ []))) }
+    ensures next { OnOk result (desk.new.next ≡ desk.old.next + 1) }
+    ensures refused { IsErrOf result Fault.Mail → are_stored desk.old.office (mails_from desk.old.next user (text.now ∷ [])) ≡ false }
+    ensures fault { IfErr result (λ fault. (fault ≡ Fault.Mail) ⊎ (fault ≡ Fault.Memory)) }
+{
+    let Ok(copy) = text.copy() else {
+        return Err(Fault::Memory);
+    };
+    match desk.perform(user, Op::Mail(copy)) {
+        Some((_, outcome)) => outcome_of(&outcome),
+        None => Err(Fault::Memory),
+    }
+}
+
+fn outcome_of(outcome: &Outcome) -> Result<(), Fault>
+    ensures stored { OnOk result (is_stored outcome.now ≡ true) }
+    ensures refused { IfErr result (λ fault. (fault ≡ Fault.Mail) × (is_stored outcome.now ≡ false)) }
+{
+    match outcome {
+        Outcome::Stored(_) => Ok(()),
+        _ => Err(Fault::Mail),
+    }
+}
+
+/// Has the texts stored in order, up to the first that isn't.
+pub(crate) fn deliver(desk: &mut LoneDesk, user: Name, texts: &[Text]) -> Result<(), Fault>
+    ensures stored { OnOk result (are_stored desk.old.office (mails_from desk.old.next user texts.now) ≡ true) }
+    ensures office { OnOk result (desk.new.office ≡ users_after_all desk.old.office (mails_from desk.old.next user texts.now)) }
+    ensures next { OnOk result (desk.new.next ≡ desk.old.next + length texts.now) }
+    ensures refused { IsErrOf result Fault.Mail → are_stored desk.old.office (mails_from desk.old.next user texts.now) ≡ false }
+    ensures fault { IfErr result (λ fault. (fault ≡ Fault.Mail) ⊎ (fault ≡ Fault.Memory)) }
+{
+    let mut rest = texts;
+    while let Some((text, behind)) = rest.split_first() {
+        store(desk, user, text)?;
+        rest = behind;
+    }
+    Ok(())
+}
