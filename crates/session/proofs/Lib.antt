@@ -9,3 +9,4 @@ pub mod ReaderLemmas
 pub mod Served
 pub mod Closing
 pub mod Longer
+pub mod Calls

@@ -10,3 +10,4 @@ pub mod Transcript
 pub mod Serve
 pub mod Dialogue
 pub mod Alone
+pub mod Calls

@@ -7,10 +7,17 @@ ghost use Rattle.apop.specs.Stamp.{Stamp};
 ghost use Rattle.apop.specs.Accounts.{Account};
 ghost use Rattle.pop3_wire.specs.declared.line.Line.{Line};
 ghost use Rattle.session.specs.Alone.{replies_alone};
+ghost use Rattle.session.specs.Calls.{Call, IsConversation};
 ghost use Rattle.session.specs.Conversation.{Answer, conversation};
 ghost use Rattle.session.specs.Prefix.{IsPrefix};
 
 use std::alloc::Allocator;
+
+/// In whatever order a session is handed lines and answers, what it said and asked is the conversation of those that it
+/// took.
+pub fn calls_make_a_conversation<A: Allocator>()
+    ensures { (accounts : List Account) (stamp : Stamp) (calls : List (Call A)) → IsConversation accounts stamp calls }
+{}
 
 /// More lines and more answers only lengthen the replies.
 pub fn conversations_lengthen<A: Allocator>()

@@ -21,7 +21,7 @@ pub use desk::{Desk, Gate, OpenGate};
 pub use desk_stopped::DeskStopped;
 pub use entry::Entry;
 pub use heard::Heard;
-pub use laws::{conversations_lengthen, replies_lengthen};
+pub use laws::{calls_make_a_conversation, conversations_lengthen, replies_lengthen};
 pub use opened::Opened;
 pub use serving::serve;
 pub use session::Session;
