@@ -14,6 +14,8 @@ pub use lone_desk::LoneDesk;
 pub use options::LoneOptions;
 
 #[cfg(test)]
+mod fault_tests;
+#[cfg(test)]
 mod mail_tests;
 #[cfg(test)]
 mod serve_tests;
