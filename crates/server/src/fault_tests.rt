@@ -1,10 +1,8 @@
 //! Sessions whose reader fails, or whose writer is slow.
 
-use crate::LoneDesk;
-use apop::{Accounts, stamp};
-use maildrop::{Limits, Name, Op, Outcome};
-use session::{End, OpenGate, Transcript, serve};
-use std::alloc::Global;
+use crate::served::{alice, new_desk, served};
+use maildrop::{Op, Outcome};
+use session::End;
 use std::io;
 use std::io::{Read, Write};
 use std::test::Fail;
@@ -52,28 +50,12 @@ impl Write for Slow {
     }
 }
 
-fn alice() -> Result<Name, Fail> {
-    Ok(Name::new(b"alice").ok_or("no name")?)
-}
-
-fn served(
-    alloc: Global,
-    reader: &mut Failing,
-    writer: &mut Slow,
-    desk: &mut LoneDesk,
-) -> Result<Transcript, Fail> {
-    let accounts = Accounts::read(alloc, b"alice pass s\n")?;
-    let stamp = stamp(b"1.1", b"localhost").ok_or("no stamp")?;
-    Ok(serve(alloc, reader, writer, &accounts, stamp, desk, &mut OpenGate))
-}
-
 /// A reader that fails at each read in turn. The replies so far are out, and the lock is given back.
 #[test]
 fn a_failed_read_ends_the_session(rt: HostRuntime) -> Result<(), Fail> {
     let alloc = rt.alloc();
-    let limits = Limits::new(9, 1_000, 9).ok_or("no limits")?;
     for end in 0..LOGIN.len() {
-        let mut desk = LoneDesk::new(alloc, alice()?, limits)?;
+        let mut desk = new_desk(alloc)?;
         let mut reader = Failing { at: 0, end };
         let mut writer = Slow {
             taken: Vec::new(alloc),
@@ -92,8 +74,7 @@ fn a_failed_read_ends_the_session(rt: HostRuntime) -> Result<(), Fail> {
 #[test]
 fn a_slow_writer_gets_all(rt: HostRuntime) -> Result<(), Fail> {
     let alloc = rt.alloc();
-    let limits = Limits::new(9, 1_000, 9).ok_or("no limits")?;
-    let mut desk = LoneDesk::new(alloc, alice()?, limits)?;
+    let mut desk = new_desk(alloc)?;
     let mut reader = Failing {
         at: 0,
         end: LOGIN.len(),

@@ -20,4 +20,6 @@ mod mail_tests;
 #[cfg(test)]
 mod serve_tests;
 #[cfg(test)]
+mod served;
+#[cfg(test)]
 mod tests;

@@ -1,38 +1,16 @@
 //! Sessions that are served over an office: what is written, and the transcript.
 
-use crate::LoneDesk;
-use apop::{Accounts, stamp};
+use crate::served::{alice, new_desk, served};
 use ballot::Items;
-use maildrop::{Limits, Name, Op, Outcome, Text};
-use session::{End, OpenGate, Transcript, serve};
-use std::alloc::Global;
-use std::io::{Read, Write};
+use maildrop::{Op, Outcome, Text};
+use session::End;
+use std::io::Read;
 use std::test::Fail;
 
 const LOGIN: &str = "USER alice\r\nPASS s\r\nSTAT\r\nQUIT\r\n";
 
 const LOGGED_IN: &str =
     "+OK POP3 server ready <1.1@localhost>\r\n+OK send PASS\r\n+OK maildrop has 0 messages (0 octets)\r\n+OK 0 0\r\n+OK signing off\r\n";
-
-fn alice() -> Result<Name, Fail> {
-    Ok(Name::new(b"alice").ok_or("no name")?)
-}
-
-fn new_desk(alloc: Global) -> Result<LoneDesk, Fail> {
-    let limits = Limits::new(9, 1_000, 9).ok_or("no limits")?;
-    Ok(LoneDesk::new(alloc, alice()?, limits)?)
-}
-
-fn served<R: Read, W: Write>(
-    alloc: Global,
-    reader: &mut R,
-    writer: &mut W,
-    desk: &mut LoneDesk,
-) -> Result<Transcript, Fail> {
-    let accounts = Accounts::read(alloc, b"alice pass s\n")?;
-    let stamp = stamp(b"1.1", b"localhost").ok_or("no stamp")?;
-    Ok(serve(alloc, reader, writer, &accounts, stamp, desk, &mut OpenGate))
-}
 
 /// A session to its end: every line and every operation is kept.
 #[test]
