@@ -1,4 +1,5 @@
 pub mod UniqueIds
 pub mod Consistent
 pub mod Isolation
-pub mod Places
+pub mod Users
+pub mod FewKeys

@@ -2,6 +2,7 @@
 #![tactic(auto)]
 
 mod command;
+mod key;
 mod laws;
 mod limits;
 mod maildrop;
@@ -14,12 +15,12 @@ mod taken;
 mod text;
 mod ticket;
 mod uids;
-mod user;
+mod visible;
 
 pub use command::Command;
-pub use laws::maildrops_are_isolated;
+pub use key::Key;
+pub use laws::{keys_stay_few, maildrops_are_isolated};
 pub use limits::Limits;
-pub use maildrop::Maildrop;
 pub use message::Message;
 pub use name::Name;
 pub use office::Office;
@@ -29,7 +30,3 @@ pub use taken::Taken;
 pub use text::Text;
 pub use ticket::Ticket;
 pub use uids::Uids;
-pub use user::User;
-
-#[cfg(test)]
-mod tests;
