@@ -3,3 +3,5 @@ pub mod Consistent
 pub mod Isolation
 pub mod Users
 pub mod FewKeys
+pub mod TextLemmas
+pub mod FileLemmas
