@@ -1,4 +1,3 @@
-pub mod LineLemmas
 pub mod TableLemmas
 pub mod ReadingLemmas
 pub mod SeenLemmas

@@ -22,8 +22,12 @@ pub record Account : Type 0 where
 abbrev pub is_secret_byte : ℕ → Bool
 is_secret_byte b = (nat_le 0x20 b && nat_le b 0x7E) || nat_le 0x80 b
 
+-- the most bytes of a secret
+abbrev pub longest_secret : ℕ
+longest_secret = 255
+
 abbrev pub is_secret : List ℕ → Bool
-is_secret bytes = nat_le 1 (length bytes) && nat_le (length bytes) 255 && list_all is_secret_byte bytes
+is_secret bytes = nat_le 1 (length bytes) && nat_le (length bytes) longest_secret && list_all is_secret_byte bytes
 
 abbrev pub method_of : List ℕ → Option Method
 method_of word =

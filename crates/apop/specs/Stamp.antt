@@ -27,11 +27,18 @@ goes_on hyphens before (b ∷ bs) = may_follow hyphens before b && goes_on hyphe
 abbrev pub are_runs : Bool → List ℕ → Bool
 are_runs hyphens text = goes_on hyphens 46 text
 
+-- the most characters of a nonce and of a host
+abbrev pub longest_nonce : ℕ
+longest_nonce = 60
+
+abbrev pub longest_host : ℕ
+longest_host = 100
+
 abbrev pub IsNonce : List ℕ → Type 0
-IsNonce text = (length text ≤ 60) × IsTrue (are_runs false text)
+IsNonce text = (length text ≤ longest_nonce) × IsTrue (are_runs false text)
 
 abbrev pub IsHost : List ℕ → Type 0
-IsHost text = (length text ≤ 100) × IsTrue (are_runs true text)
+IsHost text = (length text ≤ longest_host) × IsTrue (are_runs true text)
 
 -- the text of a timestamp, angle brackets included
 abbrev pub timestamp : Stamp → List ℕ

@@ -19,8 +19,13 @@ pub enum AccountsError {
 }
 
 impl From<Memory> for AccountsError {
+    ghost use Rattle.std.specs.Prelude.{◌≡◌};
+    ghost use Rattle.apop.specs.declared.error.AccountsError.TheVariants as error;
+
+    ghost from_gives = { λ _ e. e ≡ error.Memory };
+
     fn from(_error: Memory) -> AccountsError {
-        AccountsError::Memory
+        Self::Memory
     }
 }
 

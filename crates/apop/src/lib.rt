@@ -5,19 +5,15 @@ mod accounts;
 mod credential;
 mod digest;
 mod error;
-mod line;
+mod from_parts;
 mod method;
 mod reading;
 mod row;
 mod single;
-mod stamping;
 mod timestamp;
 
 pub use accounts::Accounts;
 pub use error::AccountsError;
+pub use from_parts::stamp;
 pub use method::Method;
-pub use stamping::stamp;
 pub use timestamp::Stamp;
-
-#[cfg(test)]
-mod tests;

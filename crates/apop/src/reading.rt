@@ -6,9 +6,8 @@ ghost use Rattle.apop.specs.Seen.{AreNamesOf};
 
 use crate::accounts::Accounts;
 use crate::error::AccountsError;
-use crate::line::next_line;
 use crate::row::row_of;
-use maildrop::Name;
+use maildrop::{Name, next_line};
 use std::alloc::Allocator;
 use std::collections::BTreeSet;
 

@@ -7,6 +7,9 @@ ghost use Rattle.apop.specs.Accounts as spec;
 use crate::method::Method;
 use maildrop::Name;
 
+/// The most bytes that a secret has.
+const LONGEST_SECRET: usize = 255;
+
 /// The parts of a row `name method secret`.
 #[derive(Drop)]
 pub(crate) struct Row<'a> {
@@ -30,18 +33,6 @@ fn cut_at_space(bytes: &[u8]) -> Option<(&[u8], &[u8])>
     }
 }
 
-fn method_of(word: &[u8]) -> Option<Method>
-    ensures { result ≡ spec.method_of word.now }
-{
-    if word == b"pass".as_slice() {
-        Some(Method::Pass)
-    } else if word == b"apop".as_slice() {
-        Some(Method::Apop)
-    } else {
-        None
-    }
-}
-
 fn is_secret_byte(byte: u8) -> bool
     ensures { result ≡ spec.is_secret_byte byte }
 {
@@ -57,7 +48,7 @@ fn are_secret_bytes(bytes: &[u8]) -> bool
 pub(crate) fn is_secret(bytes: &[u8]) -> bool
     ensures { result ≡ spec.is_secret bytes.now }
 {
-    1 <= bytes.len() && bytes.len() <= 255 && are_secret_bytes(bytes)
+    !bytes.is_empty() && bytes.len() <= LONGEST_SECRET && are_secret_bytes(bytes)
 }
 
 /// The parts of a line, if it is a row.
@@ -67,7 +58,7 @@ pub(crate) fn row_of(line: &[u8]) -> Option<Row<'_>>
 {
     let (name, rest) = cut_at_space(line)?;
     let (word, secret) = cut_at_space(rest)?;
-    let method = method_of(word)?;
+    let method = Method::from_word(word)?;
     let name = Name::new(name)?;
     if is_secret(secret) {
         Some(Row {

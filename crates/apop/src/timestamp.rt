@@ -5,11 +5,17 @@ ghost use Rattle.apop.specs.Stamp.{IsNonce, IsHost, are_runs as runs_of, is_lett
 use arrayvec::ArrayVec;
 use std::marker::Model;
 
+/// The most characters of a nonce.
+const LONGEST_NONCE: usize = 60;
+
+/// The most characters of a host.
+const LONGEST_HOST: usize = 100;
+
 /// A timestamp `<nonce@host>` (RFC 1939 section 7, APOP). It is kept in its own place, so a copy takes no memory.
 #[derive(Drop)]
 pub struct Stamp {
-    nonce: ArrayVec<u8, 60>,
-    host: ArrayVec<u8, 100>,
+    nonce: ArrayVec<u8, { LONGEST_NONCE }>,
+    host: ArrayVec<u8, { LONGEST_HOST }>,
 }
 
 impl Model for Stamp {
@@ -63,8 +69,8 @@ impl Stamp {
         ensures valid { IsSome result ↔ (IsNonce nonce.now × IsHost host.now) }
         ensures value { IfSome result (λ stamp. stamp ≡ record { nonce = nonce.now; host = host.now }) }
     {
-        if nonce.len() > 60
-            || host.len() > 100
+        if nonce.len() > LONGEST_NONCE
+            || host.len() > LONGEST_HOST
             || !are_runs(false, nonce)
             || !are_runs(true, host)
         {

@@ -1,4 +1,4 @@
-//! Makes timestamps.
+//! A timestamp of its parts.
 ghost use Rattle.std.specs.Prelude.{◌≡◌, ◌↔◌, IsSome, IfSome};
 ghost use Rattle.apop.specs.Stamp.{IsNonce, IsHost};
 
