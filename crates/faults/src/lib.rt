@@ -9,8 +9,6 @@ mod accounts_tests;
 #[cfg(test)]
 mod leader_tests;
 #[cfg(test)]
-mod login_tests;
-#[cfg(test)]
 mod mailbox_tests;
 #[cfg(test)]
 mod maildrop_tests;
@@ -22,11 +20,5 @@ mod sample;
 mod scenario;
 #[cfg(test)]
 mod scout_tests;
-#[cfg(test)]
-mod serve_tests;
-#[cfg(test)]
-mod session_tests;
-#[cfg(test)]
-mod sessions;
 #[cfg(test)]
 mod wire_tests;

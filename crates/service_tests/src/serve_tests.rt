@@ -1,12 +1,11 @@
 //! Whole sessions through `serve`.
 
-use crate::sample::{alice, desk_of_two, lone_stamp};
-use crate::scenario::{Heap, Scenario, assert_requests};
+use crate::desks::{desk_of_two, lone_stamp};
 use apop::Accounts;
 use maildrop::{Op, Outcome};
 use refusing::Refusal;
+use samples::{Heap, Scenario, alice, check, requests};
 use session::{End, OpenGate, Transcript, serve};
-use std::process::Abort;
 use std::test::Fail;
 
 /// A session over two messages, from its greeting to its end.
@@ -16,8 +15,31 @@ struct Served {
     replies: &'static str,
 }
 
+/// Whether a session ended rightly: with all replies, or for want of memory.
+fn is_end(heap: Heap, end: End, is_whole: bool) -> bool {
+    match end {
+        // A list that is collected asks for less where its first request is refused.
+        End::Closed => is_whole,
+        End::Memory | End::DeskStopped => heap.has_refused(),
+        _ => false,
+    }
+}
+
+/// How many operations took the lock, and how many gave it back.
+fn locks_of(transcript: &Transcript<Heap>) -> (usize, usize) {
+    let (mut got, mut given) = (0usize, 0usize);
+    for asked in transcript.asked.get() {
+        match (asked.ticket, &asked.op) {
+            (Some(_), Op::Take) => got = got.saturating_add(1),
+            (Some(_), Op::Commit { .. } | Op::Free { .. }) => given = given.saturating_add(1),
+            _ => {}
+        }
+    }
+    (got, given)
+}
+
 impl Scenario for Served {
-    fn run<R: Abort>(&self, rt: &R, heap: Heap, refusal: Refusal) -> Result<(), Fail> {
+    fn run(&self, heap: Heap, refusal: Refusal) -> Result<(), Fail> {
         let accounts = Accounts::read(heap, b"alice pass s\n")?;
         let mut desk = desk_of_two(heap)?;
         let mut room = [0u8; 300];
@@ -35,34 +57,20 @@ impl Scenario for Served {
         heap.grant_all();
         let count = usize::try_from(transcript.count).ok().ok_or("too many")?;
         let (written, rest) = room.split_at_checked(count).ok_or("too many")?;
-        assert!(rt; self.replies.as_bytes().starts_with(written));
-        assert!(rt; rest.iter().all(|byte| *byte == 0));
-        match transcript.end {
-            // A list that is collected asks for less where its first request is refused.
-            End::Closed => assert_eq!(rt; count, self.replies.len()),
-            End::Memory | End::DeskStopped => assert!(rt; heap.has_refused()),
-            _ => return Err("another end")?,
-        }
+        let is_front = self.replies.as_bytes().starts_with(written)
+            && rest.iter().all(|byte| *byte == 0)
+            && is_end(heap, transcript.end, count == self.replies.len());
         let (got, given) = locks_of(&transcript);
-        assert!(rt; got == given || matches!(refusal, Refusal::All { .. }));
+        let is_given = got == given || matches!(refusal, Refusal::All { .. });
         let (_, outcome) = desk.perform(alice()?, Op::Take).ok_or("no ticket")?;
-        assert_eq!(rt; matches!(&outcome, Outcome::Taken(_)), got == given);
+        let is_free = matches!(&outcome, Outcome::Taken(_)) == (got == given);
         drop(outcome);
-        Ok(())
+        check(is_front, "other replies, or another end")?;
+        check(
+            is_given && is_free,
+            "a lock is kept that memory was there to give back",
+        )
     }
-}
-
-/// How many operations took the lock, and how many gave it back.
-fn locks_of(transcript: &Transcript<Heap>) -> (usize, usize) {
-    let (mut got, mut given) = (0usize, 0usize);
-    for asked in transcript.asked.get() {
-        match (asked.ticket, &asked.op) {
-            (Some(_), Op::Take) => got = got.saturating_add(1),
-            (Some(_), Op::Commit { .. } | Op::Free { .. }) => given = given.saturating_add(1),
-            _ => {}
-        }
-    }
-    (got, given)
 }
 
 #[test]
@@ -79,8 +87,8 @@ fn a_refused_session_ends_and_gives_its_lock_back(rt: HostRuntime) -> Result<(),
             18,
         ),
     ] {
-        let requests = assert_requests(&rt, rt.alloc(), &Served { lines, replies }, most)?;
-        println!(rt; "serve, {lines:?}: {requests}")?;
+        let count = requests(rt.alloc(), &Served { lines, replies }, most)?;
+        println!(rt; "serve, {lines:?}: {count}")?;
     }
     Ok(())
 }

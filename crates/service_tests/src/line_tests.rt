@@ -1,10 +1,8 @@
 //! Each line of a session that holds its lock.
 
-use crate::scenario::{Heap, Scenario, assert_requests};
-use crate::sessions::{Done, accounts, assert_done, assert_spent, logged_in, whole};
+use crate::sessions::{Done, accounts, check_step, logged_in, whole};
 use refusing::Refusal;
-use session::SessionError;
-use std::process::Abort;
+use samples::{Heap, Scenario, requests};
 use std::test::Fail;
 
 /// A line of a session that holds its lock, and the reply.
@@ -15,21 +13,21 @@ struct Heard {
 }
 
 impl Scenario for Heard {
-    fn run<R: Abort>(&self, rt: &R, heap: Heap, refusal: Refusal) -> Result<(), Fail> {
+    fn run(&self, heap: Heap, refusal: Refusal) -> Result<(), Fail> {
         let accounts = accounts(heap)?;
         let (mut session, lock) = logged_in(heap, &accounts)?;
         let line = whole(self.line)?;
         heap.refuse(refusal);
         let answer = session.line(&accounts, &line);
         heap.grant_all();
-        assert_eq!(rt;
-            matches!(&answer, Err(SessionError::Memory)),
-            heap.has_refused()
-        );
-        match answer {
-            Ok(step) => assert_done(rt, Done::Says(self.reply), step),
-            Err(_) => assert_spent(rt, session, &accounts, Some(lock)),
-        }
+        check_step(
+            heap,
+            session,
+            &accounts,
+            answer,
+            Done::Says(self.reply),
+            Some(lock),
+        )
     }
 }
 
@@ -58,9 +56,8 @@ fn a_refused_line_closes_the_session(rt: HostRuntime) -> Result<(), Fail> {
         ("TOP 2", "-ERR bad arguments\r\n", 1),
         ("nonsense", "-ERR unknown command\r\n", 1),
     ] {
-        let heard = Heard { line, reply };
-        let requests = assert_requests(&rt, rt.alloc(), &heard, most)?;
-        println!(rt; "Session::line, {line}: {requests}")?;
+        let count = requests(rt.alloc(), &Heard { line, reply }, most)?;
+        println!(rt; "Session::line, {line}: {count}")?;
     }
     Ok(())
 }

@@ -1,0 +1,190 @@
+//! Plays a case by `lone_run`: with a client that awaits each reply, with one that doesn't, in pieces, and with faults of
+//! its reader and writer.
+
+use crate::case::Case;
+use crate::client::{Hasty, Patient};
+use crate::run::{AT_ONCE, BYTE_BY_BYTE, Run, Taking, Wanted, serve_lone};
+use std::alloc::{AllocError, Global};
+use std::cell::RefCell;
+use std::io::Read;
+
+/// Up to so many bytes, a case is cut and broken at each place.
+const SHORT: usize = 2_500;
+
+/// Up to so many bytes, a case is played byte by byte.
+const LONG: usize = 250_000;
+
+/// How many bytes a case holds.
+fn size_of(case: &Case) -> usize {
+    let mbox = match &case.settings.mbox {
+        None => 0,
+        Some(mbox) => mbox.len(),
+    };
+    let dialogue = case.sent.len().saturating_add(case.wanted.len());
+    dialogue.saturating_add(mbox)
+}
+
+fn wanted_of(case: &Case) -> Wanted<'_> {
+    Wanted {
+        status: case.status,
+        told: case.told.as_slice(),
+        replies: case.wanted.as_slice(),
+        is_front: false,
+    }
+}
+
+/// A client that sends all at once, or so many bytes a call.
+fn hasty(case: &Case, most: usize) -> Hasty<'_> {
+    Hasty {
+        rest: case.sent.as_slice(),
+        most,
+        fails: false,
+    }
+}
+
+/// How a run is not as wanted, with the way in which it was played.
+fn played<R: Read>(
+    alloc: Global,
+    how: &str,
+    case: &Case,
+    reader: &mut R,
+    taking: Taking,
+    wanted: &Wanted<'_>,
+) -> Result<Option<String>, AllocError> {
+    let taken = RefCell::new(Vec::new(alloc));
+    let run: Run<'_> = serve_lone(alloc, case, reader, &taken, taking);
+    match run.difference(alloc, wanted)? {
+        None => Ok(None),
+        Some(difference) => Ok(Some(format!(in alloc; "{how}: {difference}")?)),
+    }
+}
+
+fn patiently(alloc: Global, case: &Case) -> Result<Option<String>, AllocError> {
+    let taken = RefCell::new(Vec::new(alloc));
+    let mut reader = Patient {
+        case,
+        sent: 0,
+        turns: case.turns.as_slice(),
+        taken: &taken,
+        desk: None,
+    };
+    let run = serve_lone(alloc, case, &mut reader, &taken, AT_ONCE);
+    match run.difference(alloc, &wanted_of(case))? {
+        None => Ok(None),
+        Some(difference) => Ok(Some(format!(in alloc;
+            "with a client that awaits each reply: {difference}"
+        )?)),
+    }
+}
+
+/// The first difference of the runs that cut or break what is sent at a place.
+fn cut(alloc: Global, case: &Case, at: usize) -> Result<Option<String>, AllocError> {
+    let Some((front, back)) = case.sent.as_slice().split_at_checked(at) else {
+        return Ok(None);
+    };
+    let whole = wanted_of(case);
+    let found = played(
+        alloc,
+        "in two pieces",
+        case,
+        &mut front.chain(back),
+        AT_ONCE,
+        &whole,
+    )?;
+    if found.is_some() {
+        return Ok(found);
+    }
+    // Only what was sent before the fault counts, and all of that.
+    let before = case.turns.iter().filter(|turn| turn.sent <= at).last();
+    let replies = before.map_or(0, |turn| turn.wanted);
+    let mut reader = Hasty {
+        rest: front,
+        most: 1,
+        fails: true,
+    };
+    let broken = Wanted {
+        status: 1,
+        told: b"maildropd: read failed",
+        replies: case.wanted.as_slice(),
+        is_front: true,
+    };
+    let taken = RefCell::new(Vec::new(alloc));
+    let run = serve_lone(alloc, case, &mut reader, &taken, BYTE_BY_BYTE);
+    // A session that has closed reads no further.
+    let is_closed = run.status == 0;
+    let found = run.difference(alloc, if is_closed { &whole } else { &broken })?;
+    match found {
+        Some(difference) => Ok(Some(format!(in alloc; "with a read that fails: {difference}")?)),
+        None if run.taken.try_borrow().map_or(0, |taken| taken.len()) < replies => {
+            Ok(Some("a reply before a read that fails is missing".to_string(alloc)?))
+        }
+        None => Ok(None),
+    }
+}
+
+/// The first difference of the runs whose writer takes less than all.
+fn cramped(alloc: Global, case: &Case, room: usize) -> Result<Option<String>, AllocError> {
+    let Some(front) = case.wanted.get(..room) else {
+        return Ok(None);
+    };
+    let wanted = Wanted {
+        status: 1,
+        told: b"maildropd: write failed",
+        replies: front,
+        is_front: false,
+    };
+    for fails in [false, true] {
+        let taking = Taking {
+            most: usize::MAX,
+            room,
+            fails,
+        };
+        let reader = &mut hasty(case, usize::MAX);
+        let found = played(alloc, "with a full writer", case, reader, taking, &wanted)?;
+        if found.is_some() {
+            return Ok(found);
+        }
+    }
+    Ok(None)
+}
+
+/// The first difference of the runs that cut, break or cramp the session at each place.
+fn torn(alloc: Global, case: &Case) -> Result<Option<String>, AllocError> {
+    for at in 0..case.sent.len() {
+        if let Some(found) = cut(alloc, case, at)? {
+            return Ok(Some(found));
+        }
+    }
+    for room in 0..case.wanted.len() {
+        if let Some(found) = cramped(alloc, case, room)? {
+            return Ok(Some(found));
+        }
+    }
+    Ok(None)
+}
+
+/// What the runs of a case first do that is not wanted.
+pub fn difference(alloc: Global, case: &Case) -> Result<Option<String>, AllocError> {
+    let wanted = wanted_of(case);
+    let whole = &mut hasty(case, usize::MAX);
+    if let Some(found) = played(alloc, "whole", case, whole, AT_ONCE, &wanted)? {
+        return Ok(Some(found));
+    }
+    if case.status != 0 {
+        return Ok(None);
+    }
+    if let Some(found) = patiently(alloc, case)? {
+        return Ok(Some(found));
+    }
+    if size_of(case) > LONG {
+        return Ok(None);
+    }
+    let bytes = &mut hasty(case, 1);
+    if let Some(found) = played(alloc, "byte by byte", case, bytes, BYTE_BY_BYTE, &wanted)? {
+        return Ok(Some(found));
+    }
+    if size_of(case) > SHORT {
+        return Ok(None);
+    }
+    torn(alloc, case)
+}

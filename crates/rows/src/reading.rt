@@ -1,0 +1,116 @@
+//! The cases of a file: lines of a key, a colon and a value. A key may say how often its value stands there, as in
+//! `C x 3: NOOP`. Empty lines, and lines that begin with `#`, say nothing.
+
+use crate::case::{Case, Turn};
+use crate::escapes::bytes_of;
+use crate::meanwhile::operation_of;
+use maildrop::Op;
+use std::alloc::{AllocError, Global};
+use std::test::Fail;
+
+/// The key of a line, how often its value stands there, and the value.
+fn parts_of(line: &str) -> Result<(&str, u32, &str), Fail> {
+    let (head, rest) = line.split_once(':').ok_or("a line without a colon")?;
+    let value = rest.strip_prefix(' ').unwrap_or(rest);
+    match head.split_once(" x ") {
+        None => Ok((head, 1, value)),
+        Some((key, count)) => Ok((key, count.parse::<u32>()?, value)),
+    }
+}
+
+fn extend(bytes: &mut Vec<u8>, count: u32, more: &[u8], end: &[u8]) -> Result<(), AllocError> {
+    for _ in 0..count {
+        bytes.extend_from_slice(more)?;
+        bytes.extend_from_slice(end)?;
+    }
+    Ok(())
+}
+
+/// The client awaits the replies so far, before it sends what follows.
+fn wait(case: &mut Case, meanwhile: Option<Op>) -> Result<(), Fail> {
+    case.turns.push(Turn {
+        sent: case.sent.len(),
+        wanted: case.wanted.len(),
+        meanwhile,
+    })?;
+    Ok(())
+}
+
+/// Adds a line that says what is sent or what is wanted, if it is one.
+fn add_bytes(case: &mut Case, key: &str, count: u32, bytes: &[u8]) -> Result<bool, Fail> {
+    match key {
+        "C" => {
+            wait(case, None)?;
+            extend(&mut case.sent, count, bytes, b"\r\n")?;
+        }
+        "raw" => extend(&mut case.sent, count, bytes, b"")?,
+        "S" => extend(&mut case.wanted, count, bytes, b"\r\n")?,
+        _ => return Ok(false),
+    }
+    Ok(true)
+}
+
+/// Adds to the mailbox file.
+fn add_mbox(case: &mut Case, alloc: Global, count: u32, bytes: &[u8]) -> Result<(), Fail> {
+    let mut mbox = case.settings.mbox.take().unwrap_or(Vec::new(alloc));
+    extend(&mut mbox, count, bytes, b"")?;
+    case.settings.mbox = Some(mbox);
+    Ok(())
+}
+
+/// Adds a line that says what the session is served with, if it is one.
+fn set(case: &mut Case, key: &str, bytes: Vec<u8>) -> bool {
+    match key {
+        "user" => case.settings.user = bytes,
+        "method" => case.settings.method = bytes,
+        "secret" => case.settings.secret = bytes,
+        "nonce" => case.settings.nonce = bytes,
+        "host" => case.settings.host = bytes,
+        "told" => case.told = bytes,
+        _ => return false,
+    }
+    true
+}
+
+/// Adds a line of text.
+fn add_words(case: &mut Case, alloc: Global, key: &str, words: &str) -> Result<(), Fail> {
+    match key {
+        "status" => case.status = words.parse::<u8>()?,
+        "left" => case.left = Some(words.to_string(alloc)?),
+        "meanwhile" => wait(case, Some(operation_of(alloc, words)?))?,
+        _ => Err("an unknown key")?,
+    }
+    Ok(())
+}
+
+/// Adds a line.
+fn add(case: &mut Case, alloc: Global, line: &str) -> Result<(), Fail> {
+    let (key, count, value) = parts_of(line)?;
+    let bytes = bytes_of(alloc, value)?;
+    if key == "mbox" {
+        return add_mbox(case, alloc, count, bytes.as_slice());
+    }
+    if add_bytes(case, key, count, bytes.as_slice())? || set(case, key, bytes) {
+        return Ok(());
+    }
+    add_words(case, alloc, key, value)
+}
+
+/// The cases of a file, each from a line `case: NAME` on.
+pub fn cases_of(alloc: Global, text: &str) -> Result<Vec<Case>, Fail> {
+    let mut cases: Vec<Case> = Vec::new(alloc);
+    for line in text.lines() {
+        if line.is_empty() || line.starts_with('#') {
+            continue;
+        }
+        match line.strip_prefix("case: ") {
+            Some(name) => cases.push(Case::new(alloc, name)?)?,
+            None => add(
+                cases.last_mut().ok_or("a line before the first case")?,
+                alloc,
+                line,
+            )?,
+        }
+    }
+    Ok(cases)
+}

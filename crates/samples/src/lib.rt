@@ -1,0 +1,13 @@
+//! What tests share: samples of the values that many of them need, and scenarios whose requests for memory are refused
+//! in turn. No product crate stands on it.
+#![tactic(auto)]
+
+mod mail;
+mod paxos;
+mod scenario;
+
+pub use mail::{alice, limits, name, node_ticket, text, ticket, widest_limits};
+pub use paxos::{
+    Accepted, Number, are, ballot, cluster, new_number, node, promise, pvalue, slot, three,
+};
+pub use scenario::{Heap, Scenario, check, refuse, requests};

@@ -1,0 +1,83 @@
+//! What a gate, a writer and a transcript see of a session.
+
+use crate::desks::{desk_of_two, lone_stamp};
+use apop::Accounts;
+use maildrop::Op;
+use session::{End, Gate, serve};
+use std::cell::RefCell;
+use std::io;
+use std::io::Write;
+use std::test::Fail;
+
+/// What happened, a letter each: `(` a line is entered, `)` it is left, `w` a reply is written.
+type Events = RefCell<String>;
+
+fn tell(events: &Events, letter: char) {
+    if let Ok(mut events) = events.try_borrow_mut() {
+        let _ = events.push(letter);
+    }
+}
+
+#[derive(Drop)]
+struct Watched<'a> {
+    events: &'a Events,
+}
+
+impl Gate for Watched<'_> {
+    fn enter(&mut self) {
+        tell(self.events, '(');
+    }
+
+    fn leave(&mut self) {
+        tell(self.events, ')');
+    }
+}
+
+/// A writer that takes whole replies.
+#[derive(Drop)]
+struct Replies<'a> {
+    events: &'a Events,
+}
+
+impl Write for Replies<'_> {
+    fn write(&mut self, buf: &[u8]) -> io::Result<usize> {
+        tell(self.events, 'w');
+        Ok(buf.len())
+    }
+
+    fn flush(&mut self) -> io::Result<()> {
+        Ok(())
+    }
+}
+
+/// A reply is written between the entering of its line and its leaving. The greeting is no line's.
+#[test]
+fn a_gate_holds_each_line_and_its_reply(rt: HostRuntime) -> Result<(), Fail> {
+    let alloc = rt.alloc();
+    let accounts = Accounts::read(alloc, b"alice pass s\n")?;
+    let mut desk = desk_of_two(alloc)?;
+    let events = RefCell::new(String::new(alloc));
+    let mut writer = Replies { events: &events };
+    let mut gate = Watched { events: &events };
+    let mut lines: &[u8] = b"USER alice\r\nPASS s\r\nDELE 1\r\n";
+    let stamp = lone_stamp()?;
+    let transcript = serve(
+        alloc,
+        &mut lines,
+        &mut writer,
+        &accounts,
+        stamp,
+        &mut desk,
+        &mut gate,
+    );
+    drop(gate);
+    drop(writer);
+    assert_eq!(rt; events.into_inner().as_str(), "w(w)(w)(w)");
+    assert_eq!(rt; transcript.end, End::HungUp);
+    assert_eq!(rt; transcript.lines.len(), 3);
+    let entries = transcript.asked.get();
+    assert_eq!(rt; entries.len(), 2);
+    assert!(rt; entries[0].line == Some(1) && matches!(&entries[0].op, Op::Take));
+    assert!(rt; entries[1].line.is_none() && matches!(&entries[1].op, Op::Free { .. }));
+    Ok(())
+}
