@@ -5,13 +5,7 @@
 #[cfg(test)]
 mod acceptor_tests;
 #[cfg(test)]
-mod accounts_tests;
-#[cfg(test)]
 mod leader_tests;
-#[cfg(test)]
-mod mailbox_tests;
-#[cfg(test)]
-mod maildrop_tests;
 #[cfg(test)]
 mod paxos;
 #[cfg(test)]
@@ -20,5 +14,3 @@ mod sample;
 mod scenario;
 #[cfg(test)]
 mod scout_tests;
-#[cfg(test)]
-mod wire_tests;

@@ -2,11 +2,11 @@
 //! in turn. No product crate stands on it.
 #![tactic(auto)]
 
-mod mail;
+mod maildrops;
 mod paxos;
 mod scenario;
 
-pub use mail::{alice, limits, name, node_ticket, text, ticket, widest_limits};
+pub use maildrops::{alice, limits, mail, name, node_ticket, text, ticket, widest_limits};
 pub use paxos::{
     Accepted, Number, are, ballot, cluster, new_number, node, promise, pvalue, slot, three,
 };

@@ -1,7 +1,7 @@
 //! Names, tickets, limits and texts.
 
 use ballot::{Items, NodeId};
-use maildrop::{Limits, Name, Text, Ticket};
+use maildrop::{Limits, Name, Op, Text, Ticket};
 use std::alloc::Allocator;
 use std::test::Fail;
 
@@ -38,5 +38,11 @@ pub fn text<A: Allocator + Copy>(alloc: A, lines: &[&str]) -> Result<Text<A>, Fa
     for line in lines {
         all.push(Items::from_bytes(alloc, line.as_bytes())?)?;
     }
-    Ok(Text::new(alloc, all)?.ok_or("a line feed stands in a line")?)
+    Ok(Text::new(alloc, &all)?.ok_or("a line feed stands in a line")?)
+}
+
+/// A message of these lines that comes in without a key.
+pub fn mail<A: Allocator + Copy>(alloc: A, lines: &[&str]) -> Result<Op<A>, Fail> {
+    let text = text(alloc, lines)?;
+    Ok(Op::Mail { text, key: None })
 }
