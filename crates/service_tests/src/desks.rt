@@ -1,8 +1,7 @@
 //! The desk of a lone session with two messages.
 
 use apop::{Stamp, stamp};
-use maildrop::Op;
-use samples::{alice, limits, text};
+use samples::{alice, limits, mail};
 use server::LoneDesk;
 use std::alloc::Allocator;
 use std::test::Fail;
@@ -16,7 +15,7 @@ pub fn lone_stamp() -> Result<Stamp, Fail> {
 pub fn desk_of_two<A: Allocator + Copy>(alloc: A) -> Result<LoneDesk<A>, Fail> {
     let mut desk = LoneDesk::new(alloc, alice()?, limits()?)?;
     for lines in [["Subject: a1xx", "one"], ["Subject: a2xx", ".six"]] {
-        drop(desk.perform(alice()?, Op::Mail(text(alloc, &lines)?)));
+        drop(desk.perform(alice()?, mail(alloc, &lines)?));
     }
     Ok(desk)
 }

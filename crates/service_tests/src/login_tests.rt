@@ -105,7 +105,7 @@ impl Scenario for Locked {
 #[test]
 fn a_refused_answer_keeps_the_lock_due(rt: HostRuntime) -> Result<(), Fail> {
     let opened = Done::Says("+OK maildrop has 2 messages (41 octets)\r\n");
-    let refused = Done::SaysAndCloses("-ERR maildrop already locked\r\n");
+    let refused = Done::SaysAndCloses("-ERR [IN-USE] maildrop already locked\r\n");
     for (is_free, done, most) in [(true, opened, 2), (false, refused, 1)] {
         let count = requests(rt.alloc(), &Locked { is_free, done }, most)?;
         println!(rt; "Session::answer, Take, free {is_free}: {count}")?;
