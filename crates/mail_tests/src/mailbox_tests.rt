@@ -24,7 +24,11 @@ struct Read {
 }
 
 /// Whether the texts have these lines.
-fn are_texts(heap: Heap, found: &[Text<Heap>], texts: &[&[&str]]) -> Result<bool, Fail> {
+fn are_texts<'h>(
+    heap: Heap<'h>,
+    found: &[Text<Heap<'h>>],
+    texts: &[&[&str]],
+) -> Result<bool, Fail> {
     if found.len() != texts.len() {
         return Ok(false);
     }

@@ -129,7 +129,7 @@ fn command<A: Allocator + Copy>(alloc: A, act: Act, place: usize) -> Result<Comm
     };
     Ok(Command {
         user,
-        ticket: ticket(place as u64 + 1)?,
+        ticket: ticket((place as u64).saturating_add(1))?,
         op: op(alloc, act)?,
     })
 }
