@@ -359,7 +359,7 @@ fn fixed_replies(rt: HostRuntime) -> Result<(), Fail> {
     for (reply, expected) in [
         (Reply::SendPass, "+OK send PASS"),
         (Reply::InvalidLogin, "-ERR invalid login"),
-        (Reply::Locked, "-ERR maildrop already locked"),
+        (Reply::Locked, "-ERR [IN-USE] maildrop already locked"),
         (Reply::LineTooLong, "-ERR line too long"),
         (Reply::UnknownCommand, "-ERR unknown command"),
         (Reply::WrongState, "-ERR not in this state"),
