@@ -10,3 +10,5 @@ pub mod Served
 pub mod Closing
 pub mod Longer
 pub mod Calls
+pub mod KeptLines
+pub mod Users

@@ -293,7 +293,7 @@ fn a_locked_maildrop_is_refused(rt: HostRuntime) -> Result<(), Fail> {
     let _ = desk.hear(b"USER alice")?;
     assert_eq!(rt;
         desk.hear(b"PASS s")?.get(),
-        b"-ERR maildrop already locked\r\n".as_slice()
+        b"-ERR [IN-USE] maildrop already locked\r\n".as_slice()
     );
     assert!(rt; matches!(&desk.perform(Op::Free { lock })?.1, Outcome::Done));
     Ok(())
