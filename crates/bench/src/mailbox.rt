@@ -9,7 +9,7 @@ use std::alloc::Global;
 fn text_value(text: &Text) -> u64 {
     let mut total = 0u64;
     for line in text.get() {
-        total = total.wrapping_add(line_value(line.get()));
+        total = total.wrapping_add(line_value(line));
     }
     total
 }

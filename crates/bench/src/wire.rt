@@ -39,7 +39,7 @@ fn text_of(alloc: Global, bytes: &[u8]) -> Result<Option<Text>, Memory> {
     for line in bytes.chunks(60) {
         lines.push(Items::from_bytes(alloc, line)?)?;
     }
-    Text::new(alloc, lines)
+    Text::new(alloc, &lines)
 }
 
 fn stuffed_octets(alloc: Global, bytes: &[u8], rounds: u32) -> Result<u64, Memory> {

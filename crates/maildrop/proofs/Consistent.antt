@@ -1,5 +1,5 @@
 -- What an operation leaves consistent.
-use Rattle.std.proofs.Common.{◌≡◌, ℕ, ◌+◌, ◌<◌, ◌≤◌, true, false, not, Bool, List, [], ◌∷◌, ◌++◌, length, get_or, Option, arith, inl, inr, sym, ap, refl, subst, ◌∙◌, cond}
+use Rattle.std.proofs.Common.{◌≡◌, ℕ, ◌+◌, ◌<◌, ◌≤◌, true, false, not, Bool, List, [], ◌∷◌, ◌++◌, length, get_or, Option, Some, None, arith, inl, inr, sym, ap, refl, subst, ◌∙◌, cond}
 use Rattle.std.specs.Prelude.{◌==◌, map, filter, sum_by}
 use Rattle.std.specs.List.{list_any, All}
 use Rattle.std.specs.List.Sorted.{IsStrictlyIncreasing}
@@ -8,11 +8,13 @@ use Rattle.std.proofs.lemmas.List.Elements.{All-filter, All-map}
 use Rattle.std.proofs.lemmas.List.Kept.{IsStrictlyIncreasing-filter}
 use Rattle.std.proofs.lemmas.List.Filters.{length-filter_both, sum_by-filter_both}
 use Rattle.std.proofs.lemmas.Grind.{common_steps}
+use Rattle.std.proofs.lemmas.Bool.Decides.{nat_tests}
 use Rattle.maildrop.specs.Text.{octets_of}
+use Rattle.maildrop.specs.Key.{with_key}
 use Rattle.maildrop.specs.Limits.{Limits, AreLimits}
 use Rattle.maildrop.specs.Ticket.{Ticket}
 use Rattle.maildrop.specs.Taken.{message_octets, unique_ids, AreTaken}
-use Rattle.maildrop.specs.Maildrop.{Maildrop, IsConsistent, without, with_message}
+use Rattle.maildrop.specs.Maildrop.{Maildrop, IsConsistent, without, with_message, refusal_of}
 use Rattle.maildrop.specs.declared.message.Message.{Message}
 use Rattle.maildrop.proofs.UniqueIds.{ascending-push}
 
@@ -20,22 +22,43 @@ use Rattle.maildrop.proofs.UniqueIds.{ascending-push}
 abbrev is_kept : List ℕ → ℕ → Bool
 is_kept uids u = not (list_any (λ uid. uid == u) uids)
 
+-- a delivery adds one key at most
+pub length-with_key : (key : Option (List ℕ)) (uid : ℕ) (keys : List (List ℕ × ℕ)) → length (with_key key uid keys) ≤ length keys + 1
+length-with_key None uid keys = omega arith
+length-with_key (Some k) uid keys = grind (arith, common_steps)
+
 module _ {A : Type 0} where
   pub message_octets-push : (messages : List (Message A)) (m : Message A) → message_octets (messages ++ m ∷ []) ≡ message_octets messages + octets_of m.text
   message_octets-push messages m = grind (arith, common_steps)
 
+  -- a text that is not refused has room
+  pub record HasRoom (maildrop : Maildrop A) (text : List (List ℕ)) : Type 0 where
+    pub size : octets_of text ≤ maildrop.limits.octets
+    pub place : length maildrop.messages < maildrop.limits.messages
+    pub octets : message_octets maildrop.messages + octets_of text ≤ maildrop.limits.octets
+    pub id : maildrop.next_uid ≤ maildrop.limits.ids
+
+  pub room-from_no_refusal : (maildrop : Maildrop A) (text : List (List ℕ)) → refusal_of maildrop text ≡ None → HasRoom maildrop text
+  room-from_no_refusal maildrop text none = record {
+    size = grind (arith, nat_tests, none);
+    place = grind (arith, nat_tests, none);
+    octets = grind (arith, nat_tests, none);
+    id = grind (arith, nat_tests, none);
+  }
+
   -- a maildrop with one message more, for which there is room
-  pub consistent_with_message : (maildrop : Maildrop A) (text : List (List ℕ)) → IsConsistent maildrop
-      → length maildrop.messages < maildrop.limits.messages → message_octets maildrop.messages + octets_of text ≤ maildrop.limits.octets
-      → IsConsistent (with_message maildrop text)
-  consistent_with_message maildrop text old room small =
+  pub consistent_with_message : (maildrop : Maildrop A) (text : List (List ℕ)) (key : Option (List ℕ)) → IsConsistent maildrop → HasRoom maildrop text
+      → IsConsistent (with_message maildrop text key)
+  consistent_with_message maildrop text key old room =
       let m : Message A = record { uid = maildrop.next_uid; text = text } in
       let more = message_octets-push maildrop.messages m in
       record {
-        few = grind (arith, common_steps, room);
-        small = rw more small;
+        few = grind (arith, common_steps, room.place);
+        small = rw more room.octets;
         ascending = rw (map-append (λ (n : Message A). n.uid) maildrop.messages (m ∷ [])) (ascending-push (unique_ids maildrop.messages) maildrop.next_uid old.ascending (All-map (λ u. u < maildrop.next_uid) (λ (n : Message A). n.uid) maildrop.messages old.given));
         given = grind (arith, common_steps, old.given);
+        keyed = omega (arith, length-with_key key maildrop.next_uid maildrop.keys, old.keyed);
+        issued = omega (arith, room.id);
       }
 
   -- the unique ids of the messages that stay
@@ -59,6 +82,8 @@ module _ {A : Type 0} where
     small = omega (arith, message_octets-without uids maildrop.messages, old.small);
     ascending = rw (unique_ids-without uids maildrop.messages) (IsStrictlyIncreasing-filter (is_kept uids) (unique_ids maildrop.messages) old.ascending);
     given = All-filter (λ (m : Message A). is_kept uids m.uid) (λ m. m.uid < maildrop.next_uid) maildrop.messages old.given;
+    keyed = old.keyed;
+    issued = old.issued;
   }
 
   -- a maildrop's messages within the widest limits

@@ -1,4 +1,7 @@
 pub mod UniqueIds
 pub mod Consistent
 pub mod Isolation
-pub mod Places
+pub mod Users
+pub mod FewKeys
+pub mod TextLemmas
+pub mod FileLemmas

@@ -1,6 +1,7 @@
 -- Worked examples of the definitions.
-use Rattle.std.specs.Prelude.{◌≡◌, ℕ, List, [], ◌∷◌, replicate, refl, codes, true, false, Some}
+use Rattle.std.specs.Prelude.{◌≡◌, ℕ, List, [], ◌∷◌, replicate, refl, codes, true, false, Some, None}
 use Rattle.maildrop.specs.Name.{is_name}
+use Rattle.maildrop.specs.Key.{is_key}
 use Rattle.maildrop.specs.Text.{octets_of}
 use Rattle.maildrop.specs.Limits.{Limits}
 use Rattle.maildrop.specs.Ticket.{Ticket}
@@ -26,6 +27,16 @@ longest = refl
 
 too_long : is_name (replicate 41 97) ≡ false
 too_long = refl
+
+-- keys
+longest_key : is_key (replicate 64 97) ≡ true
+longest_key = refl
+
+too_long_key : is_key (replicate 65 97) ≡ false
+too_long_key = refl
+
+empty_key : is_key [] ≡ false
+empty_key = refl
 
 -- a text of 30 octets, and one of 61
 abbrev small : List (List ℕ)
@@ -58,19 +69,32 @@ narrow = record { messages = 2; octets = 60; ids = 3 }
 
 one_maildrop : {A : Type 0} →
     outcomes_at {A = A} (Some (empty_maildrop narrow)) (
-    by alice 1 (Mail small) ∷ by alice 2 (Mail small) ∷ by alice 3 (Mail small) ∷ by alice 4 (Mail large)
+    by alice 1 (Mail small None) ∷ by alice 2 (Mail small None) ∷ by alice 3 (Mail small None) ∷ by alice 4 (Mail large None)
     ∷ by alice 5 Take ∷ by alice 6 Take
     ∷ by alice 7 (Commit (ticket 5) (1 ∷ 2 ∷ [])) ∷ by alice 8 (Commit (ticket 5) (1 ∷ 2 ∷ []))
-    ∷ by alice 9 (Mail small) ∷ by alice 10 (Mail small) ∷ by alice 11 (Free (ticket 5)) ∷ by alice 12 Break ∷ [])
+    ∷ by alice 9 (Mail small None) ∷ by alice 10 (Mail small None) ∷ by alice 11 (Free (ticket 5)) ∷ by alice 12 Break ∷ [])
     ≡ Stored 1 ∷ Stored 2 ∷ Full ∷ TooLarge
     ∷ Taken (record { uid = 1; text = small } ∷ record { uid = 2; text = small } ∷ []) ∷ InUse
     ∷ Done ∷ NotHolder ∷ Stored 3 ∷ IdsUsed ∷ NotHolder ∷ Done ∷ []
 one_maildrop = refl
 
+-- keys: a delivery that is tried again is stored once, also after its message was removed
+keyed_mail : {A : Type 0} →
+    outcomes_at {A = A} (Some (empty_maildrop narrow)) (
+    by alice 1 (Mail small (Some (codes "k1"))) ∷ by alice 2 (Mail small (Some (codes "k1"))) ∷ by alice 3 (Mail small None)
+    ∷ by alice 4 (Mail small (Some (codes "k1"))) ∷ by alice 5 (Mail large (Some (codes "k1"))) ∷ by alice 6 (Mail small (Some (codes "k2")))
+    ∷ by alice 7 Take ∷ by alice 8 (Commit (ticket 7) (1 ∷ 2 ∷ [])) ∷ by alice 9 (Mail small (Some (codes "k1")))
+    ∷ by alice 10 (Mail small (Some (codes "k2"))) ∷ by alice 11 (Mail small (Some (codes "k3"))) ∷ by alice 12 (Mail small (Some (codes "k2"))) ∷ [])
+    ≡ Stored 1 ∷ Stored 1 ∷ Stored 2
+    ∷ Stored 1 ∷ Stored 1 ∷ Full
+    ∷ Taken (record { uid = 1; text = small } ∷ record { uid = 2; text = small } ∷ []) ∷ Done ∷ Stored 1
+    ∷ Stored 3 ∷ IdsUsed ∷ Stored 3 ∷ []
+keyed_mail = refl
+
 -- two users, each with room for one message
 two_users : {A : Type 0} →
     outcomes_in {A = A} (new_user (record { messages = 1; octets = 100; ids = 9 }) alice ∷ new_user (record { messages = 1; octets = 100; ids = 9 }) bob ∷ []) (
-    by alice 1 (Mail small) ∷ by bob 1 (Mail small) ∷ by alice 2 (Mail small)
+    by alice 1 (Mail small None) ∷ by bob 1 (Mail small None) ∷ by alice 2 (Mail small None)
     ∷ by bob 2 Take ∷ by alice 3 Break ∷ by bob 3 Take ∷ by (codes "zoe") 1 Take ∷ [])
     ≡ Stored 1 ∷ Stored 1 ∷ Full
     ∷ Taken (record { uid = 1; text = small } ∷ []) ∷ Done ∷ InUse ∷ NoSuchUser ∷ []

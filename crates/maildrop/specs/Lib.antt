@@ -1,4 +1,5 @@
 pub mod Name
+pub mod Key
 pub mod Text
 pub mod Ticket
 pub mod Limits

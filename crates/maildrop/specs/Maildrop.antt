@@ -1,8 +1,9 @@
 -- A user's maildrop alone: what each operation answers, and what it leaves.
-use Rattle.std.specs.Prelude.{ℕ, ◌+◌, ◌<◌, ◌≤◌, Bool, false, not, ◌||◌, ◌==◌, nat_lt, List, [], ◌∷◌, ◌++◌, length, filter, Option, Some, None, if◌then◌else◌}
+use Rattle.std.specs.Prelude.{ℕ, ◌+◌, ◌<◌, ◌≤◌, Bool, false, not, ◌||◌, ◌&&◌, ◌==◌, nat_lt, List, [], ◌∷◌, ◌++◌, length, filter, Option, Some, None, is_none, if◌then◌else◌}
 use Rattle.std.specs.List.{list_any, All}
 use Rattle.std.specs.List.Sorted.{IsStrictlyIncreasing}
 use Rattle.maildrop.specs.Text.{octets_of}
+use Rattle.maildrop.specs.Key.{uid_of, with_key}
 use Rattle.maildrop.specs.Ticket.{Ticket, same_ticket}
 use Rattle.maildrop.specs.Limits.{Limits}
 use Rattle.maildrop.specs.Taken.{message_octets, unique_ids}
@@ -18,6 +19,8 @@ pub record Maildrop (A : Type 0) : Type 0 where
   -- the ticket of the Take that holds the lock
   pub holder : Option Ticket
   pub limits : Limits
+  -- the key of each delivery that had one, with the unique id of its message: they stay when the message goes
+  pub keys : List (List ℕ × ℕ)
 
 -- an operation's outcome, and the maildrop after it
 pub record Effect (A : Type 0) : Type 0 where
@@ -35,19 +38,23 @@ module _ {A : Type 0} where
     pub small : message_octets maildrop.messages ≤ maildrop.limits.octets
     pub ascending : IsStrictlyIncreasing (unique_ids maildrop.messages)
     pub given : All (λ m. m.uid < maildrop.next_uid) maildrop.messages
+    -- each key used up a unique id, so there are never more of them than `ids`
+    pub keyed : length maildrop.keys < maildrop.next_uid
+    pub issued : maildrop.next_uid ≤ maildrop.limits.ids + 1
 
   -- a new maildrop
   abbrev pub empty_maildrop : Limits → Maildrop A
-  empty_maildrop limits = record { messages = []; next_uid = 1; holder = None; limits = limits }
+  empty_maildrop limits = record { messages = []; next_uid = 1; holder = None; limits = limits; keys = [] }
 
   -- an operation that changes nothing
   abbrev pub no_effect : Maildrop A → Outcome A → Effect A
   no_effect maildrop outcome = record { outcome = outcome; after = maildrop }
 
-  abbrev pub with_message : Maildrop A → List (List ℕ) → Maildrop A
-  with_message maildrop text = record maildrop {
+  abbrev pub with_message : Maildrop A → List (List ℕ) → Option (List ℕ) → Maildrop A
+  with_message maildrop text key = record maildrop {
     messages = maildrop.messages ++ record { uid = maildrop.next_uid; text = text } ∷ [];
     next_uid = maildrop.next_uid + 1;
+    keys = with_key key maildrop.next_uid maildrop.keys;
   }
 
   -- one message more would be too many, or too many octets
@@ -56,12 +63,22 @@ module _ {A : Type 0} where
       nat_lt maildrop.limits.messages (length maildrop.messages + 1)
       || nat_lt maildrop.limits.octets (message_octets maildrop.messages + octets_of text)
 
-  abbrev pub effect_of_mail : Maildrop A → List (List ℕ) → Effect A
-  effect_of_mail maildrop text =
-      if nat_lt maildrop.limits.octets (octets_of text) then no_effect maildrop TooLarge
-      else if is_full_for maildrop text then no_effect maildrop Full
-      else if nat_lt maildrop.limits.ids maildrop.next_uid then no_effect maildrop IdsUsed
-      else record { outcome = Stored maildrop.next_uid; after = with_message maildrop text }
+  -- why a text is not stored, if it is not
+  abbrev pub refusal_of : Maildrop A → List (List ℕ) → Option (Outcome A)
+  refusal_of maildrop text =
+      if nat_lt maildrop.limits.octets (octets_of text) then Some TooLarge
+      else if is_full_for maildrop text then Some Full
+      else if nat_lt maildrop.limits.ids maildrop.next_uid then Some IdsUsed
+      else None
+
+  -- what a delivery does, by the unique id that its key has already and by why its text is refused
+  abbrev pub delivered : Maildrop A → List (List ℕ) → Option (List ℕ) → Option ℕ → Option (Outcome A) → Effect A
+  delivered maildrop text key (Some uid) refusal = no_effect maildrop (Stored uid)
+  delivered maildrop text key None (Some refusal) = no_effect maildrop refusal
+  delivered maildrop text key None None = record { outcome = Stored maildrop.next_uid; after = with_message maildrop text key }
+
+  abbrev pub effect_of_mail : Maildrop A → List (List ℕ) → Option (List ℕ) → Effect A
+  effect_of_mail maildrop text key = delivered maildrop text key (uid_of key maildrop.keys) (refusal_of maildrop text)
 
   abbrev pub effect_of_take : Maildrop A → Ticket → Option Ticket → Effect A
   effect_of_take maildrop ticket None = record { outcome = Taken maildrop.messages; after = record maildrop { holder = Some ticket } }
@@ -85,8 +102,16 @@ module _ {A : Type 0} where
 
   -- the table of the operations; `ticket` is the command's own
   abbrev pub effect_of : Maildrop A → Ticket → Op A → Effect A
-  effect_of maildrop ticket (Mail text) = effect_of_mail maildrop text
+  effect_of maildrop ticket (Mail text key) = effect_of_mail maildrop text key
   effect_of maildrop ticket Take = effect_of_take maildrop ticket maildrop.holder
   effect_of maildrop ticket (Commit lock uids) = effect_of_commit maildrop lock uids
   effect_of maildrop ticket (Free lock) = effect_of_free maildrop lock
   effect_of maildrop ticket Break = record { outcome = Done; after = record maildrop { holder = None } }
+
+  -- whether an operation takes memory: a Mail that stores does, and a Take that takes
+  abbrev pub takes_memory : Maildrop A → Op A → Bool
+  takes_memory maildrop (Mail text key) = is_none (uid_of key maildrop.keys) && is_none (refusal_of maildrop text)
+  takes_memory maildrop Take = is_none maildrop.holder
+  takes_memory maildrop (Commit lock uids) = false
+  takes_memory maildrop (Free lock) = false
+  takes_memory maildrop Break = false

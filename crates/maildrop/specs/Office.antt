@@ -1,14 +1,25 @@
 -- The maildrops of all users in one table, and each user's outcomes.
-use Rattle.std.specs.Prelude.{ℕ, ◌+◌, Bool, List, [], ◌∷◌, filter, Option, Some, None, if◌then◌else◌}
+use Rattle.std.specs.Prelude.{ℕ, Bool, false, List, [], ◌∷◌, map, filter, Option, Some, None, if◌then◌else◌}
 use Rattle.std.specs.Str.{bytes_eq}
 use Rattle.maildrop.specs.Limits.{Limits}
-use Rattle.maildrop.specs.Maildrop.{Maildrop, empty_maildrop, effect_of}
-use Rattle.maildrop.specs.declared.user.User.{User}
+use Rattle.maildrop.specs.Maildrop.{Maildrop, empty_maildrop, effect_of, takes_memory}
 use Rattle.maildrop.specs.declared.command.Command.{Command}
 use Rattle.maildrop.specs.declared.outcome.Outcome.{Outcome}
 use Rattle.maildrop.specs.declared.outcome.Outcome.TheVariants.{NoSuchUser}
 
+-- a user with a maildrop
+pub record User (A : Type 0) : Type 0 where
+  pub name : List ℕ
+  pub maildrop : Maildrop A
+
 module _ {A : Type 0} where
+  -- the users of a table of maildrops by name
+  abbrev pub users_of : List (List ℕ × Maildrop A) → List (User A)
+  users_of entries = map (λ e. record { name = e.0; maildrop = e.1 }) entries
+
+  abbrev pub names_of : List (User A) → List (List ℕ)
+  names_of users = map (λ u. u.name) users
+
   abbrev pub new_user : Limits → List ℕ → User A
   new_user limits name = record { name = name; maildrop = empty_maildrop limits }
 
@@ -38,6 +49,14 @@ module _ {A : Type 0} where
       then record u { maildrop = (effect_of u.maildrop c.ticket c.op).after } ∷ us
       else u ∷ users_after us c
 
+  -- whether a command takes memory
+  abbrev pub takes_memory_at : Option (Maildrop A) → Command A → Bool
+  takes_memory_at None c = false
+  takes_memory_at (Some maildrop) c = takes_memory maildrop c.op
+
+  abbrev pub takes_memory_in : List (User A) → Command A → Bool
+  takes_memory_in users c = takes_memory_at (maildrop_of c.user users) c
+
   -- the outcomes of commands in a table, one after another
   abbrev pub outcomes_in : List (User A) → List (Command A) → List (Outcome A)
   outcomes_in users [] = []
@@ -47,6 +66,11 @@ module _ {A : Type 0} where
   abbrev pub outcomes_at : Option (Maildrop A) → List (Command A) → List (Outcome A)
   outcomes_at maildrop [] = []
   outcomes_at maildrop (c ∷ cs) = outcome_at maildrop c ∷ outcomes_at (maildrop_after maildrop c) cs
+
+  -- the maildrop after commands, one after another
+  abbrev pub maildrop_after_all : Option (Maildrop A) → List (Command A) → Option (Maildrop A)
+  maildrop_after_all maildrop [] = maildrop
+  maildrop_after_all maildrop (c ∷ cs) = maildrop_after_all (maildrop_after maildrop c) cs
 
   abbrev pub names_user : List ℕ → Command A → Bool
   names_user name c = bytes_eq c.user name

@@ -2,8 +2,11 @@
 #![tactic(auto)]
 
 mod command;
+mod file_lines;
+mod key;
 mod laws;
 mod limits;
+mod lines;
 mod maildrop;
 mod message;
 mod name;
@@ -12,14 +15,17 @@ mod op;
 mod outcome;
 mod taken;
 mod text;
+mod text_builder;
 mod ticket;
 mod uids;
-mod user;
+mod visible;
 
 pub use command::Command;
-pub use laws::maildrops_are_isolated;
+pub use file_lines::{next_line, without_carriage_return};
+pub use key::Key;
+pub use laws::{keys_stay_few, maildrops_are_isolated};
 pub use limits::Limits;
-pub use maildrop::Maildrop;
+pub use lines::Lines;
 pub use message::Message;
 pub use name::Name;
 pub use office::Office;
@@ -27,9 +33,6 @@ pub use op::Op;
 pub use outcome::Outcome;
 pub use taken::Taken;
 pub use text::Text;
+pub use text_builder::TextBuilder;
 pub use ticket::Ticket;
 pub use uids::Uids;
-pub use user::User;
-
-#[cfg(test)]
-mod tests;

@@ -4,6 +4,15 @@ ghost use Rattle.maildrop.specs.Limits.{AreLimits};
 
 use std::marker::Model;
 
+/// The most messages that a maildrop may be made for.
+const MOST_MESSAGES: u64 = 999_999_999;
+
+/// The most octets that a maildrop may be made for.
+const MOST_OCTETS: u64 = 1 << 40;
+
+/// The highest unique id that a maildrop may be made for.
+const HIGHEST_ID: u64 = 1 << 63;
+
 /// How many messages a maildrop may hold, how many octets these may have together, and the highest unique id that
 /// it may give.
 #[derive(Clone, Copy, Debug, PartialEq, Eq)]
@@ -31,7 +40,7 @@ impl Limits {
         ensures valid { IsSome result ↔ AreLimits (record { messages = messages; octets = octets; ids = ids }) }
         ensures value { IfSome result (λ limits. limits ≡ record { messages = messages; octets = octets; ids = ids }) }
     {
-        if messages <= 999_999_999 && octets <= 1 << 40 && ids <= 1 << 63 {
+        if messages <= MOST_MESSAGES && octets <= MOST_OCTETS && ids <= HIGHEST_ID {
             Some(Limits {
                 messages,
                 octets,

@@ -1,10 +1,12 @@
 //! One user's maildrop.
-ghost use Rattle.std.specs.Prelude.{◌≡◌, ◌==◌, ℕ, ◌≤◌, ◌^◌, List, IfOk, OnOk, OnErr};
+ghost use Rattle.std.specs.Prelude.{◌≡◌, ◌≢◌, ◌==◌, ℕ, ◌≤◌, ◌^◌, List, false, None, IfOk, IsOk, OnOk, OnErr};
 ghost use Rattle.std.specs.List.{list_any};
 ghost use Rattle.std.specs.List.Sorted.{IsStrictlyIncreasing};
 ghost use Rattle.maildrop.specs.Taken.{message_octets};
+ghost use Rattle.maildrop.specs.Key.{uid_of as uid_in, with_key};
 ghost use Rattle.maildrop.specs.Maildrop as spec;
 
+use crate::key::Key;
 use crate::limits::Limits;
 use crate::message::{Message, copies_of};
 use crate::op::Op;
@@ -14,11 +16,17 @@ use crate::text::Text;
 use crate::ticket::Ticket;
 use crate::uids::Uids;
 use ballot::Memory;
+use indexmap::IndexMap;
 use std::alloc::{Allocator, Global};
+use std::hash::{BuildHasherDefault, FoldHasher};
 use std::marker::Model;
 
-/// A user's maildrop: its messages, and the ticket of the Take that holds its lock. The octets of all messages are
-/// kept, so that a message comes in at the same cost however many there are.
+/// The keys of deliveries with the unique ids of their messages, in the order in which they came.
+type Keys<A> = IndexMap<Key, u64, BuildHasherDefault<FoldHasher>, A>;
+
+/// A user's maildrop: its messages, the keys under which messages came, and the ticket of the Take that holds its
+/// lock. The octets of all messages are kept, and a key is found by its hash, so that a message comes in at the same
+/// cost however many messages and keys there are.
 #[derive(Drop)]
 pub struct Maildrop<A: Allocator = Global> {
     messages: Vec<Message<A>, A>,
@@ -26,6 +34,7 @@ pub struct Maildrop<A: Allocator = Global> {
     next_uid: u64,
     holder: Option<Ticket>,
     limits: Limits,
+    keys: Keys<A>,
 }
 
 impl<A: Allocator> Model for Maildrop<A> {
@@ -35,10 +44,10 @@ impl<A: Allocator> Model for Maildrop<A> {
 
     ghost Value = { Maildrop A };
 
-    ghost view = { λ m. record { messages = m.messages.items; next_uid = m.next_uid; holder = m.holder; limits = m.limits } };
+    ghost view = { λ m. record { messages = m.messages.items; next_uid = m.next_uid; holder = m.holder; limits = m.limits; keys = m.keys.entries } };
 
     ghost invariant = { λ m. (m.octets ≡ message_octets m.messages.items)
-        × IsConsistent (record { messages = m.messages.items; next_uid = m.next_uid; holder = m.holder; limits = m.limits }) };
+        × IsConsistent (record { messages = m.messages.items; next_uid = m.next_uid; holder = m.holder; limits = m.limits; keys = m.keys.entries }) };
 }
 
 impl<A: Allocator + Copy> Maildrop<A> {
@@ -52,6 +61,7 @@ impl<A: Allocator + Copy> Maildrop<A> {
             next_uid: 1,
             holder: None,
             limits,
+            keys: IndexMap::new(alloc),
         }
     }
 
@@ -60,9 +70,10 @@ impl<A: Allocator + Copy> Maildrop<A> {
         ensures outcome { IfOk result (λ outcome. outcome ≡ (spec.effect_of self.old ticket op.now).outcome) }
         ensures after { OnOk result (self.new ≡ (spec.effect_of self.old ticket op.now).after) }
         ensures err { OnErr result (self.new ≡ self.old) }
+        ensures sure { spec.takes_memory self.old op.now ≡ false → IsOk result }
     {
         match op {
-            Op::Mail(text) => self.mail(text),
+            Op::Mail { text, key } => self.mail(text, key),
             Op::Take => self.take(ticket),
             Op::Commit { lock, uids } => Ok(self.commit(*lock, uids)),
             Op::Free { lock } => Ok(self.free(*lock)),
@@ -73,27 +84,53 @@ impl<A: Allocator + Copy> Maildrop<A> {
         }
     }
 
-    fn mail(&mut self, text: &Text<A>) -> Result<Outcome<A>, Memory>
-        ensures outcome { IfOk result (λ outcome. outcome ≡ (spec.effect_of_mail self.old text.now).outcome) }
-        ensures after { OnOk result (self.new ≡ (spec.effect_of_mail self.old text.now).after) }
+    fn mail(&mut self, text: &Text<A>, key: &Option<Key>) -> Result<Outcome<A>, Memory>
+        ensures outcome { IfOk result (λ outcome. outcome ≡ (spec.effect_of_mail self.old text.now key.now).outcome) }
+        ensures after { OnOk result (self.new ≡ (spec.effect_of_mail self.old text.now key.now).after) }
         ensures err { OnErr result (self.new ≡ self.old) }
+        ensures known { uid_in key.now self.old.keys ≢ None → IsOk result }
+        ensures refused { spec.refusal_of self.old text.now ≢ None → IsOk result }
+    {
+        if let Some(uid) = uid_of(&self.keys, key) {
+            return Ok(Outcome::Stored(uid));
+        }
+        if let Some(refusal) = self.refusal(text) {
+            return Ok(refusal);
+        }
+        self.store(text, key)
+    }
+
+    fn refusal(&self, text: &Text<A>) -> Option<Outcome<A>>
+        ensures { result ≡ spec.refusal_of self.now text.now }
     {
         let (messages, octets, ids) = self.limits.get();
         let size = text.octets();
         if size > octets as u128 {
-            return Ok(Outcome::TooLarge);
+            return Some(Outcome::TooLarge);
         }
-        let size = size as u64;
-        if self.messages.len() as u64 >= messages || self.octets + size > octets {
-            return Ok(Outcome::Full);
+        if self.messages.len() as u64 >= messages || self.octets + size as u64 > octets {
+            return Some(Outcome::Full);
         }
+        if self.next_uid > ids {
+            return Some(Outcome::IdsUsed);
+        }
+        None
+    }
+
+    fn store(&mut self, text: &Text<A>, key: &Option<Key>) -> Result<Outcome<A>, Memory>
+        requires fits { spec.refusal_of self.old text.now ≡ None }
+        requires new { uid_in key.now self.old.keys ≡ None }
+        ensures outcome { IfOk result (λ outcome. outcome ≡ Outcome.Stored self.old.next_uid) }
+        ensures after { OnOk result (self.new ≡ spec.with_message self.old text.now key.now) }
+        ensures err { OnErr result (self.new ≡ self.old) }
+    {
         let uid = self.next_uid;
-        if uid > ids {
-            return Ok(Outcome::IdsUsed);
-        }
+        let octets = text.octets() as u64;
         let text = text.copy()?;
-        self.messages.push(Message { uid, text })?;
-        self.octets += size;
+        self.messages.reserve(1)?;
+        keep(&mut self.keys, key, uid)?;
+        self.messages.push_reserved(Message { uid, text });
+        self.octets += octets;
         self.next_uid += 1;
         Ok(Outcome::Stored(uid))
     }
@@ -102,6 +139,7 @@ impl<A: Allocator + Copy> Maildrop<A> {
         ensures outcome { IfOk result (λ outcome. outcome ≡ (spec.effect_of_take self.old ticket self.old.holder).outcome) }
         ensures after { OnOk result (self.new ≡ (spec.effect_of_take self.old ticket self.old.holder).after) }
         ensures err { OnErr result (self.new ≡ self.old) }
+        ensures in_use { self.old.holder ≢ None → IsOk result }
     {
         if self.holder.is_some() {
             return Ok(Outcome::InUse);
@@ -134,6 +172,26 @@ impl<A: Allocator + Copy> Maildrop<A> {
         self.holder = None;
         Outcome::Done
     }
+}
+
+fn uid_of<A: Allocator + Copy>(keys: &Keys<A>, key: &Option<Key>) -> Option<u64>
+    ensures { result ≡ uid_in key.now keys.now.entries }
+{
+    match key {
+        None => None,
+        Some(key) => keys.get(key).copied(),
+    }
+}
+
+fn keep<A: Allocator + Copy>(keys: &mut Keys<A>, key: &Option<Key>, uid: u64) -> Result<(), Memory>
+    requires { uid_in key.now keys.old.entries ≡ None }
+    ensures ok { OnOk result (keys.new.entries ≡ with_key key.now uid keys.old.entries) }
+    ensures err { OnErr result (keys.new.entries ≡ keys.old.entries) }
+{
+    if let Some(key) = key {
+        keys.insert(*key, uid)?;
+    }
+    Ok(())
 }
 
 fn is_held_by(holder: &Option<Ticket>, lock: Ticket) -> bool

@@ -1,21 +1,26 @@
 //! The names of users.
-ghost use Rattle.std.specs.Prelude.{◌≡◌, ◌↔◌, ℕ, ◌++◌, ◌-◌, ◌≤◌, List, length, take, replicate, IsTrue, IsSome, IfSome};
-ghost use Rattle.std.specs.List.{list_all};
+ghost use Rattle.std.specs.Prelude.{◌≡◌, ◌↔◌, ℕ, ◌++◌, ◌-◌, ◌≤◌, List, length, take, replicate, IsSome, IfSome};
 ghost use Rattle.std.specs.Str.{bytes_eq};
 ghost use Rattle.std.specs.Cmp.{partial_order_from_own_ties};
-ghost use Rattle.std.specs.Cmp.Rules.{comparing};
+ghost use Rattle.std.specs.Cmp.Rules.{comparing, hashing};
+ghost use Rattle.std.specs.Hash as fed;
 ghost use Rattle.std.specs.Cmp.Lexicographic.{slice_cmp};
 ghost use Rattle.std.specs.Ordering.{nat_cmp, as_partial_cmp};
 ghost use Rattle.std.proofs.Common.{rules};
-ghost use Rattle.maildrop.specs.Name.{is_visible as visible, IsName};
+ghost use Rattle.maildrop.specs.Name.{IsName};
 
+use crate::visible::are_visible;
 use std::cmp::Ordering;
+use std::hash::{Hash, Hasher};
 use std::marker::Model;
 
+/// The most bytes that a name has.
+const LONGEST: usize = 40;
+
 /// The name of a user: 1 to 40 bytes of 0x21 to 0x7E. It is kept in its own place, so a copy takes no memory.
-#[derive(Clone, Copy)]
+#[derive(Clone, Copy, Debug)]
 pub struct Name {
-    bytes: [u8; 40],
+    bytes: [u8; LONGEST],
     len: usize,
 }
 
@@ -31,18 +36,6 @@ impl Model for Name {
     ghost inverse = { λ n. record { bytes = n ++ replicate (40 - length n) 0; len = length n } };
 }
 
-fn is_visible(byte: u8) -> bool
-    ensures { result ≡ visible byte }
-{
-    0x21 <= byte && byte <= 0x7E
-}
-
-fn are_visible(bytes: &[u8]) -> bool
-    ensures { result ≡ list_all visible bytes.now }
-{
-    bytes.iter().all(|byte| is_visible(*byte))
-}
-
 impl Name {
     /// The name of these bytes, if they are a name.
     pub fn new(bytes: &[u8]) -> Option<Self>
@@ -50,10 +43,10 @@ impl Name {
         ensures value { IfSome result (λ name. name ≡ bytes.now) }
     {
         let len = bytes.len();
-        if len < 1 || len > 40 || !are_visible(bytes) {
+        if len < 1 || len > LONGEST || !are_visible(bytes) {
             return None;
         }
-        let mut own = [0; 40];
+        let mut own = [0; LONGEST];
         for (i, byte) in bytes.iter().enumerate() {
             own[i] = *byte;
         }
@@ -104,5 +97,16 @@ impl PartialOrd for Name {
 
     fn partial_cmp(&self, other: &Name) -> Option<Ordering> {
         Some(self.cmp(other))
+    }
+}
+
+impl Hash for Name {
+    ghost hash_input = { fed.str };
+
+    ghost respects_eq = { Prim.search (hashing, rules) };
+
+    fn hash<H: Hasher>(&self, state: &mut H) {
+        state.write(self.get());
+        state.write_u8(0xFF);
     }
 }

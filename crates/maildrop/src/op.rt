@@ -1,6 +1,7 @@
 //! The operations on a maildrop.
 ghost use Rattle.std.specs.Prelude.{◌≡◌, ◌↔◌, IsTrue, IfOk};
 
+use crate::key::Key;
 use crate::text::Text;
 use crate::ticket::Ticket;
 use crate::uids::Uids;
@@ -10,8 +11,8 @@ use std::alloc::{Allocator, Global};
 /// An operation on a maildrop.
 #[derive(Drop)]
 pub enum Op<A: Allocator = Global> {
-    /// A message is added.
-    Mail(Text<A>),
+    /// A message is added, unless one was added under this key before.
+    Mail { text: Text<A>, key: Option<Key> },
     /// The lock is asked for. The command's ticket is then the lock's.
     Take,
     /// The listed messages are removed and the lock is given back, if `lock` still holds it.
@@ -28,7 +29,10 @@ impl<A: Allocator + Copy> Op<A> {
         ensures { IfOk result (λ op. op ≡ self.now) }
     {
         match self {
-            Op::Mail(text) => Ok(Op::Mail(text.copy()?)),
+            Op::Mail { text, key } => Ok(Op::Mail {
+                text: text.copy()?,
+                key: *key,
+            }),
             Op::Take => Ok(Op::Take),
             Op::Commit { lock, uids } => Ok(Op::Commit {
                 lock: *lock,
@@ -44,7 +48,13 @@ impl<A: Allocator + Copy> Op<A> {
         ensures { IsTrue result ↔ (self.now ≡ other.now) }
     {
         match (self, other) {
-            (Op::Mail(text), Op::Mail(other)) => text.same(other),
+            (
+                Op::Mail { text, key },
+                Op::Mail {
+                    text: text2,
+                    key: key2,
+                },
+            ) => text.same(text2) && key == key2,
             (
                 Op::Commit { lock, uids },
                 Op::Commit {

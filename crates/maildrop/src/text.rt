@@ -1,63 +1,86 @@
 //! The texts of messages.
-ghost use Rattle.std.specs.Prelude.{◌≡◌, ◌↔◌, ℕ, List, All, IsTrue, IsSome, IsOk, IfSome, IfOk};
-ghost use Rattle.std.specs.Str.{bytes_eq};
-ghost use Rattle.std.specs.Cmp.Lexicographic.{pointwise};
-ghost use Rattle.maildrop.specs.Text.{IsLine, octets_of as octets_in};
+ghost use Rattle.std.specs.Prelude.{◌≡◌, ◌↔◌, ◌<◌, ◌^◌, length, All, IsTrue, IsSome, IsOk, IfSome, IfOk};
+ghost use Rattle.maildrop.specs.Text.{IsLine, IsText, block_of, lines_of, octets_of};
 
+use crate::lines::Lines;
+use crate::text_builder::{TextBuilder, is_line};
 use ballot::{Items, Memory};
 use std::alloc::{Allocator, Global};
 use std::marker::Model;
 use std::sync::Arc;
 
-/// The text of a message: a list of lines, none of which has a line feed. Copies share their lines.
+/// The text of a message: a list of lines, none of which has a line feed. All lines stand in one block of memory, each
+/// with a line feed behind it, and copies share the block.
 #[derive(Drop)]
 pub struct Text<A: Allocator = Global> {
-    lines: Arc<Vec<Items<u8, A>, A>, A>,
+    block: Arc<Vec<u8, A>, A>,
+    octets: u64,
 }
 
 impl<A: Allocator> Model for Text<A> {
+    ghost use Rattle.std.specs.Prelude.{ℕ, List};
+    ghost use Rattle.maildrop.specs.Text.{IsText, lines_of};
+
     ghost Value = { List (List ℕ) };
 
-    ghost view = { λ t. t.lines.value.items };
+    ghost view = { λ t. lines_of t.block.value.items };
 
-    ghost invariant = { λ t. All IsLine t.lines.value.items };
+    ghost invariant = { λ t. IsText t.block.value.items t.octets };
 }
 
 impl<A: Allocator + Copy> Text<A> {
-    /// A text of these lines, if none of them has a line feed.
-    pub fn new(alloc: A, lines: Vec<Items<u8, A>, A>) -> Result<Option<Self>, Memory>
-        ensures valid { IfOk result (λ text. IsSome text ↔ All IsLine lines.items) }
-        ensures value { IfOk result (λ text. IfSome text (λ t. t ≡ lines.items)) }
-        ensures refused { (¬ All IsLine lines.items) → IsOk result }
+    pub(crate) fn from_block(alloc: A, block: Vec<u8, A>, octets: u64) -> Result<Self, Memory>
+        requires { IsText block.items octets }
+        ensures { IfOk result (λ text. text ≡ lines_of block.items) }
     {
-        if !are_lines(&lines) {
-            return Ok(None);
-        }
-        let lines = Arc::new(alloc, lines)?;
-        Ok(Some(Text { lines }))
+        Ok(Text {
+            block: Arc::new(alloc, block)?,
+            octets,
+        })
     }
 
-    /// The lines that the text was made of.
-    pub fn get(&self) -> &[Items<u8, A>]
-        ensures value { result.now ≡ self.now }
-        ensures lines { All IsLine self.now }
+    /// A text of these lines, if none of them has a line feed. `TextBuilder` makes one line by line.
+    pub fn new(alloc: A, lines: &[Items<u8, A>]) -> Result<Option<Self>, Memory>
+        ensures valid { IfOk result (λ text. IsSome text ↔ All IsLine lines.now) }
+        ensures value { IfOk result (λ text. IfSome text (λ t. t ≡ lines.now)) }
+        ensures refused { (¬ All IsLine lines.now) → IsOk result }
     {
-        &self.lines
+        if !are_lines(lines) {
+            return Ok(None);
+        }
+        Ok(Some(text_of(alloc, lines)?))
+    }
+
+    /// The lines that the text was made of, one after another.
+    pub fn get(&self) -> Lines<'_>
+        ensures value { result ≡ self.now }
+        ensures lines { All IsLine self.now }
+        ensures few { length self.now < 2 ^ 63 }
+    {
+        Lines::new(&self.block)
+    }
+
+    /// The lines in one block, each with a line feed behind it.
+    pub fn block(&self) -> &[u8]
+        ensures { result.now ≡ block_of self.now }
+    {
+        &self.block
     }
 
     /// The size of the text, each line with its CR and LF (RFC 1939 section 11).
     pub fn octets(&self) -> u128
-        ensures { result ≡ octets_in self.now }
+        ensures { result ≡ octets_of self.now }
     {
-        octets_of(&self.lines)
+        self.octets as u128
     }
 
-    /// The same text, which shares these lines.
+    /// The same text, which shares this block.
     pub fn copy(&self) -> Result<Self, Memory>
         ensures { IfOk result (λ text. text ≡ self.now) }
     {
         Ok(Text {
-            lines: self.lines.clone()?,
+            block: self.block.clone()?,
+            octets: self.octets,
         })
     }
 
@@ -65,42 +88,29 @@ impl<A: Allocator + Copy> Text<A> {
     pub fn same(&self, other: &Self) -> bool
         ensures { IsTrue result ↔ (self.now ≡ other.now) }
     {
-        are_same(&self.lines, &other.lines)
+        are_same(&self.block, &other.block)
     }
 }
 
-fn is_line<A: Allocator>(line: &Items<u8, A>) -> bool
-    ensures { IsTrue result ↔ IsLine line.now }
+fn are_same(block: &[u8], other: &[u8]) -> bool
+    ensures { IsTrue result ↔ (block.now ≡ other.now) }
 {
-    line.get().iter().all(|byte| *byte != b'\n')
+    block == other
 }
 
 fn are_lines<A: Allocator>(lines: &[Items<u8, A>]) -> bool
     ensures { IsTrue result ↔ All IsLine lines.now }
 {
-    lines.iter().all(|line| is_line(line))
+    lines.iter().all(|line| is_line(line.get()))
 }
 
-fn octets_of<A: Allocator>(lines: &[Items<u8, A>]) -> u128
-    ensures { result ≡ octets_in lines.now }
+fn text_of<A: Allocator + Copy>(alloc: A, lines: &[Items<u8, A>]) -> Result<Text<A>, Memory>
+    requires { All IsLine lines.now }
+    ensures { IfOk result (λ text. text ≡ lines.now) }
 {
-    let mut octets: u128 = 0;
+    let mut text = TextBuilder::new(alloc);
     for line in lines {
-        octets += line.len() as u128 + 2;
+        text.push_line(line.get())?;
     }
-    octets
-}
-
-fn are_same<A: Allocator>(lines: &[Items<u8, A>], others: &[Items<u8, A>]) -> bool
-    ensures { result ≡ pointwise bytes_eq lines.now others.now }
-{
-    if lines.len() != others.len() {
-        return false;
-    }
-    for i in 0..lines.len() {
-        if lines[i].get() != others[i].get() {
-            return false;
-        }
-    }
-    true
+    text.finish()
 }

@@ -12,7 +12,8 @@ use Rattle.std.proofs.lemmas.List.Splits.{slice_split_at, slice_split_none, slic
 use Rattle.maildrop.specs.Text.{IsLine}
 use Rattle.mboxrd.specs.Mailbox.{begins_message, is_from_line, is_quotable, quoted, unquoted, text_of, texts_of, are_messages, read_of, file_of, message_of, written_of, EndsInNoReturn}
 use Rattle.mboxrd.specs.declared.error.MboxError.TheVariants.{NoFromLine}
-use Rattle.mboxrd.proofs.LineLemmas.{lines-more, tests-from_IsLine, IsLine-from_tests}
+use Rattle.maildrop.proofs.TextLemmas.{tests-from_IsLine}
+use Rattle.maildrop.proofs.FileLemmas.{lines-more, IsLine-from_tests}
 use Rattle.mboxrd.proofs.ReadingLemmas.{without_last_empty-push_empty}
 
 -- what a line that begins a message starts with

@@ -16,6 +16,11 @@ pub enum MboxError {
 }
 
 impl From<Memory> for MboxError {
+    ghost use Rattle.std.specs.Prelude.{◌≡◌};
+    ghost use Rattle.mboxrd.specs.declared.error.MboxError.TheVariants as error;
+
+    ghost from_gives = { λ _ e. e ≡ error.Memory };
+
     fn from(_error: Memory) -> MboxError {
         MboxError::Memory
     }

@@ -3,7 +3,6 @@
 
 mod error;
 mod laws;
-mod line;
 mod quoting;
 mod reading;
 mod writing;
@@ -12,6 +11,3 @@ pub use error::MboxError;
 pub use laws::written_texts_are_read_back;
 pub use reading::read;
 pub use writing::write;
-
-#[cfg(test)]
-mod tests;

@@ -6,10 +6,9 @@ ghost use Rattle.maildrop.specs.Text.{IsLine};
 ghost use Rattle.mboxrd.specs.Mailbox as spec;
 
 use crate::error::MboxError;
-use crate::line::next_line;
 use crate::quoting::{begins_message, unquoted};
 use ballot::{Items, Memory};
-use maildrop::Text;
+use maildrop::{Text, next_line};
 use std::alloc::Allocator;
 use std::mem;
 
@@ -34,7 +33,7 @@ fn text_of<A: Allocator + Copy>(
     ensures { IfOk result (λ text. text ≡ spec.without_last_empty lines.items) }
 {
     drop_last_empty(&mut lines);
-    Ok(Text::new(alloc, lines)?.unwrap())
+    Ok(Text::new(alloc, &lines)?.unwrap())
 }
 
 /// The texts of what stands behind a line that begins a message. Goes once over the bytes, and makes one allocation a

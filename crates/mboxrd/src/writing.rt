@@ -36,7 +36,7 @@ fn write_message<A: Allocator + Copy>(
 {
     write_line(bytes, from_line)?;
     for line in text.get() {
-        write_quoted(bytes, line.get())?;
+        write_quoted(bytes, line)?;
     }
     write_line(bytes, b"")
 }

@@ -1,15 +1,16 @@
 -- Bytes that begin with a wire form.
-use Rattle.std.proofs.Common.{◌≡◌, ◌≢◌, ◌≤◌, ◌+◌, ◌-◌, ℕ, true, false, ◌==◌, List, [], ◌∷◌, ◌++◌, length, take, drop, ap, refl, sym, arith, ◌∙◌, inl, inr, append_assoc, append-nil, None, Some, codes}
+use Rattle.std.proofs.Common.{◌≡◌, ◌≢◌, ◌≤◌, ◌<◌, ◌+◌, ◌-◌, ℕ, true, false, ◌==◌, List, [], ◌∷◌, ◌++◌, length, take, drop, ap, refl, sym, arith, ◌∙◌, inl, inr, append_assoc, append-nil, length-append, None, Some, codes}
 use Rattle.std.specs.List.{All, list_any, flat_map}
 use Rattle.std.proofs.lemmas.Bool.{cases_Bool, or_parts, or_from}
 use Rattle.std.proofs.lemmas.List.{same_from_push, take_rest, flat_map_more}
-use Rattle.std.proofs.lemmas.List.Elements.{All-nil, All-cons, All-head, All-tail}
+use Rattle.std.proofs.lemmas.List.Elements.{All-nil, All-cons, All-head, All-tail, All-push}
 use Rattle.std.proofs.lemmas.List.Folds.{list_any-append}
 use Rattle.std.proofs.Math.Bool.{or-true}
+use Rattle.std.proofs.Math.Seq.{take-append_seam}
 use Rattle.memchr.specs.Find.{NoneBefore, Nowhere, Passes, is_byte}
 use Rattle.maildrop.specs.Text.{IsLine}
 use Rattle.pop3_wire.specs.Lines.{is_lf}
-use Rattle.pop3_wire.specs.Stuffing.{begins_with_dot, stuffed_line, unstuffed_line, wire_line, wire_form}
+use Rattle.pop3_wire.specs.Stuffing.{begins_with_dot, stuffed_line, unstuffed_line, wire_line, wire_form, AreStuffed, BeginsWithNone, BeginsWithOne}
 use Rattle.pop3_wire.proofs.Feeding.{no_lf, lf_at, both_none}
 
 IsLine-none : (xs : List ℕ) → list_any is_lf xs ≡ false → IsLine xs
@@ -212,3 +213,79 @@ cut_line bytes line k first here parts =
     let cut = lf_at bytes k first here in
     let none : list_any is_lf (line ++ 13 ∷ []) ≡ false = rw (← parts) cut.0 in
     (IsLine-none line (front_none line (13 ∷ []) none), rw (take_rest bytes (k + 1)) (cut.1 ∙ ap (λ xs. xs ++ 10 ∷ drop (k + 1) bytes) parts ∙ append_assoc line (13 ∷ []) (10 ∷ drop (k + 1) bytes)))
+
+-- these lines are read of the bytes, and each text that they begin with has them in front
+pub record IsReadTo (lines : List (List ℕ)) (bytes left : List ℕ) : Type 0 where
+  pub are_lines : All IsLine lines
+  pub read : bytes ≡ flat_map wire_line lines ++ left
+  pub remains : (text : List (List ℕ)) (rest : List ℕ) → All IsLine text → bytes ≡ wire_form text ++ rest → Remains lines left text rest
+
+pub read_nothing : (bytes : List ℕ) → IsReadTo [] bytes bytes
+read_nothing bytes = record { are_lines = All-nil IsLine; read = refl; remains = λ text rest lines whole. remains-start bytes text rest lines whole }
+
+pub read_more : (lines : List (List ℕ)) (bytes left cut behind line : List ℕ) → IsLine cut → left ≡ cut ++ 13 ∷ 10 ∷ behind → unstuffed_line cut ≡ Some line → IsReadTo lines bytes left → IsReadTo (lines ++ line ∷ []) bytes behind
+read_more lines bytes left cut behind line is_line parts read is = record {
+  are_lines = All-push IsLine lines line is.are_lines (unstuffed-line cut line is_line read);
+  read = wire-next lines bytes left cut behind line is.read parts read;
+  remains = λ text rest all whole. remains-next lines left text rest cut behind line is_line parts read (is.remains text rest all whole);
+}
+
+pub read_all : (lines : List (List ℕ)) (bytes left cut behind : List ℕ) → IsLine cut → left ≡ cut ++ 13 ∷ 10 ∷ behind → unstuffed_line cut ≡ None → length cut ≤ 1 → IsReadTo lines bytes left → BeginsWithOne bytes (take (length bytes - length left) bytes) behind
+read_all lines bytes left cut behind is_line parts none short is =
+    let front : take (length bytes - length left) bytes ≡ flat_map wire_line lines = taken (flat_map wire_line lines) left bytes is.read in
+    rw front (record {
+      are_stuffed = (lines, (is.are_lines, refl));
+      ends = wire-end lines bytes left cut behind is.read parts none short;
+      alone = λ text rest all whole. let ended = remains-end lines left text rest cut behind is_line parts none (is.remains text rest all whole) in (ap (flat_map wire_line) ended.0, ended.2);
+    })
+  where
+    taken : (front rest bytes : List ℕ) → bytes ≡ front ++ rest → take (length bytes - length rest) bytes ≡ front
+    taken front rest bytes e =
+        let n : length bytes - length rest ≡ length front = omega (arith, ap length e, length-append front rest) in
+        rw (n, e) (take-append_seam front rest)
+
+-- no wire form goes on with what is no stuffed line
+pub read_wrong : (lines : List (List ℕ)) (bytes left cut behind : List ℕ) → IsLine cut → left ≡ cut ++ 13 ∷ 10 ∷ behind → unstuffed_line cut ≡ None → 1 < length cut → IsReadTo lines bytes left → BeginsWithNone bytes
+read_wrong lines bytes left cut behind is_line parts none long is text rest all whole =
+    let ended = remains-end lines left text rest cut behind is_line parts none (is.remains text rest all whole) in
+    omega (arith, long, ap length ended.1)
+
+-- and none ends where no line is left
+pub read_open : (lines : List (List ℕ)) (bytes left : List ℕ) → ((line behind : List ℕ) → IsLine line → left ≡ line ++ 13 ∷ 10 ∷ behind → ⊥) → IsReadTo lines bytes left → BeginsWithNone bytes
+read_open lines bytes left ends is text rest all whole = remains-open lines left text rest ends (is.remains text rest all whole)
+
+-- the stuffed lines of a text begin with its first
+stuffed_lines-cons : (line : List ℕ) (text : List (List ℕ)) → flat_map wire_line (line ∷ text) ≡ stuffed_line line ++ 13 ∷ 10 ∷ flat_map wire_line text
+stuffed_lines-cons line text = append_assoc (stuffed_line line) (codes "\r\n") (flat_map wire_line text)
+
+-- a line that is cut off stuffed lines is one of them, and leaves the others
+pub stuffed_next : (left cut behind : List ℕ) → IsLine cut → left ≡ cut ++ 13 ∷ 10 ∷ behind → AreStuffed left → (line : List ℕ) × ((unstuffed_line cut ≡ Some line) × IsLine line × AreStuffed behind)
+stuffed_next left cut behind is_line parts are = by are.0 (are.1).0 (are.1).1
+  where
+    by : (text : List (List ℕ)) → All IsLine text → left ≡ flat_map wire_line text → (line : List ℕ) × ((unstuffed_line cut ≡ Some line) × IsLine line × AreStuffed behind)
+    by [] lines e = absurd (omega (arith, length-append cut (13 ∷ 10 ∷ behind), ap length (sym parts ∙ e)))
+    by (first ∷ more) lines e =
+        let is_first = All-head IsLine first more lines in
+        let same = same_line (stuffed_line first) cut (flat_map wire_line more) behind (stuffed-none first (none-IsLine first is_first)) (none-IsLine cut is_line) (sym (stuffed_lines-cons first more) ∙ sym e ∙ parts) in
+        (first, (ap unstuffed_line (sym same.0) ∙ unstuffed-stuffed first, is_first, (more, (All-tail IsLine first more lines, sym same.1))))
+
+-- where no line can be cut off them, there are none
+pub stuffed_end : (left : List ℕ) → ((line behind : List ℕ) → IsLine line → left ≡ line ++ 13 ∷ 10 ∷ behind → ⊥) → AreStuffed left → left ≡ []
+stuffed_end left ends are = by are.0 (are.1).0 (are.1).1
+  where
+    by : (text : List (List ℕ)) → All IsLine text → left ≡ flat_map wire_line text → left ≡ []
+    by [] lines e = e
+    by (first ∷ more) lines e =
+        absurd (ends (stuffed_line first) (flat_map wire_line more) (IsLine-none _ (stuffed-none first (none-IsLine first (All-head IsLine first more lines)))) (e ∙ stuffed_lines-cons first more))
+
+-- no two texts have the same stuffed lines
+pub same_texts : (text others : List (List ℕ)) → All IsLine text → All IsLine others → flat_map wire_line text ≡ flat_map wire_line others → text ≡ others
+same_texts [] [] lines are e = refl
+same_texts [] (o ∷ others) lines are e = absurd (omega (arith, length-append (stuffed_line o) (13 ∷ 10 ∷ flat_map wire_line others), ap length (e ∙ stuffed_lines-cons o others)))
+same_texts (t ∷ text) [] lines are e = absurd (omega (arith, length-append (stuffed_line t) (13 ∷ 10 ∷ flat_map wire_line text), ap length (sym e ∙ stuffed_lines-cons t text)))
+same_texts (t ∷ text) (o ∷ others) lines are e =
+    let same = same_line (stuffed_line t) (stuffed_line o) (flat_map wire_line text) (flat_map wire_line others) (stuffed-none t (none-IsLine t (All-head IsLine t text lines))) (stuffed-none o (none-IsLine o (All-head IsLine o others are))) (sym (stuffed_lines-cons t text) ∙ e ∙ stuffed_lines-cons o others) in
+    let first : Some t ≡ Some o = sym (unstuffed-stuffed t) ∙ ap unstuffed_line same.0 ∙ unstuffed-stuffed o in
+    let heads : t ≡ o = cc in
+    let rest = same_texts text others (All-tail IsLine t text lines) (All-tail IsLine o others are) same.1 in
+    cc

@@ -1,6 +1,7 @@
 -- Texts on the wire (RFC 1939 section 3, multi-line responses).
-use Rattle.std.specs.Prelude.{ℕ, ◌==◌, Bool, false, List, [], ◌∷◌, ◌++◌, codes, take, Option, None, Some, if◌then◌else◌}
-use Rattle.std.specs.List.{flat_map}
+use Rattle.std.specs.Prelude.{◌≡◌, ℕ, ◌==◌, Bool, false, List, [], ◌∷◌, ◌++◌, codes, take, Option, None, Some, if◌then◌else◌}
+use Rattle.std.specs.List.{All, flat_map}
+use Rattle.maildrop.specs.Text.{IsLine}
 
 abbrev pub begins_with_dot : List ℕ → Bool
 begins_with_dot [] = false
@@ -28,3 +29,17 @@ abbrev pub top_lines : ℕ → List (List ℕ) → List (List ℕ)
 top_lines lines [] = []
 top_lines lines ([] ∷ text) = [] ∷ take lines text
 top_lines lines ((b ∷ bytes) ∷ text) = (b ∷ bytes) ∷ top_lines lines text
+
+-- the lines of a text as they stand on the wire, without the dot that ends them
+abbrev pub AreStuffed : List ℕ → Type 0
+AreStuffed bytes = (text : List (List ℕ)) × (All IsLine text × (bytes ≡ flat_map wire_line text))
+
+-- no front of the bytes is a wire form
+abbrev pub BeginsWithNone : List ℕ → Type 0
+BeginsWithNone bytes = (text : List (List ℕ)) (rest : List ℕ) → All IsLine text → ¬ (bytes ≡ wire_form text ++ rest)
+
+-- the bytes begin with the stuffed lines of a text and the dot that ends them, and with no other wire form
+pub record BeginsWithOne (bytes stuffed behind : List ℕ) : Type 0 where
+  pub are_stuffed : AreStuffed stuffed
+  pub ends : bytes ≡ stuffed ++ codes ".\r\n" ++ behind
+  pub alone : (text : List (List ℕ)) (rest : List ℕ) → All IsLine text → bytes ≡ wire_form text ++ rest → (stuffed ≡ flat_map wire_line text) × (behind ≡ rest)

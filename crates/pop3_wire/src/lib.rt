@@ -23,6 +23,3 @@ pub use reply::Reply;
 pub use stuffing::stuffed;
 pub use unstuffing::unstuffed;
 pub use verb::{Keyword, LineFault, Verb};
-
-#[cfg(test)]
-mod tests;

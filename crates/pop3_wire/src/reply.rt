@@ -89,8 +89,8 @@ impl<A: Allocator + Copy> Reply<'_, A> {
             Reply::List(message) => two_numbers(alloc, message.number, message.octets),
             Reply::UniqueIds(messages) => unique_id_listings(alloc, messages),
             Reply::UniqueId(message) => two_numbers(alloc, message.number, message.uid),
-            Reply::Message { octets, text } => message_text(alloc, *octets, text.get()),
-            Reply::Top { text, lines } => message_top(alloc, text.get(), *lines),
+            Reply::Message { octets, text } => message_text(alloc, *octets, text),
+            Reply::Top { text, lines } => message_top(alloc, text, *lines),
             Reply::Deleted { number } => message_deleted(alloc, *number),
             Reply::Capabilities => fixed(
                 alloc,

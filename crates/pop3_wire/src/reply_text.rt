@@ -4,9 +4,10 @@ ghost use Rattle.std.specs.List.{flat_map};
 ghost use Rattle.pop3_wire.specs.Reply as spec;
 
 use crate::listed::{Identified, Listed};
-use crate::stuffing::{put_wire, top_of, wire_octets};
+use crate::stuffing::{put_top, put_wire, wire_room};
 use crate::writing::{put, put_number, with_room};
-use ballot::{Items, Memory};
+use ballot::Memory;
+use maildrop::Text;
 use std::alloc::Allocator;
 
 /// At least as many octets as any first line has but the greeting.
@@ -14,6 +15,9 @@ const FIRST_LINE: u128 = 80;
 
 /// At least as many octets as the line of a message has in a listing, for the numbers that a maildrop can have.
 const LISTED_LINE: u128 = 32;
+
+/// Room for the headers of most messages and a few lines more.
+const TOP_ROOM: u128 = 4096;
 
 /// A reply that tells nothing.
 pub(crate) fn fixed<A: Allocator>(alloc: A, words: &[u8]) -> Result<Vec<u8, A>, Memory>
@@ -140,16 +144,16 @@ pub(crate) fn unique_id_listings<A: Allocator>(
     Ok(text)
 }
 
-pub(crate) fn message_text<A: Allocator>(
+pub(crate) fn message_text<A: Allocator + Copy>(
     alloc: A,
     octets: u64,
-    text: &[Items<u8, A>],
+    text: &Text<A>,
 ) -> Result<Vec<u8, A>, Memory>
     ensures value { IfOk result (λ reply. reply.items ≡ spec.message_text octets text.now) }
     ensures code { IfOk result (λ reply. spec.has_response_code reply.items ≡ false) }
     ensures short { IfOk result (λ reply. spec.HasShortFirstLine reply.items) }
 {
-    let mut reply = with_room(alloc, wire_octets(text).saturating_add(FIRST_LINE))?;
+    let mut reply = with_room(alloc, wire_room(text).saturating_add(FIRST_LINE))?;
     put(&mut reply, b"+OK ")?;
     put_number(&mut reply, octets)?;
     put(&mut reply, b" octets\r\n")?;
@@ -157,18 +161,17 @@ pub(crate) fn message_text<A: Allocator>(
     Ok(reply)
 }
 
-pub(crate) fn message_top<A: Allocator>(
+pub(crate) fn message_top<A: Allocator + Copy>(
     alloc: A,
-    text: &[Items<u8, A>],
+    text: &Text<A>,
     lines: u32,
 ) -> Result<Vec<u8, A>, Memory>
     ensures value { IfOk result (λ reply. reply.items ≡ spec.message_top text.now lines) }
     ensures short { IfOk result (λ reply. spec.HasShortFirstLine reply.items) }
 {
-    let top = top_of(text, lines);
-    let mut reply = with_room(alloc, wire_octets(top).saturating_add(FIRST_LINE))?;
+    let mut reply = with_room(alloc, wire_room(text).min(TOP_ROOM))?;
     put(&mut reply, b"+OK\r\n")?;
-    put_wire(&mut reply, top)?;
+    put_top(&mut reply, text, lines)?;
     Ok(reply)
 }
 

@@ -1,11 +1,15 @@
 //! Texts on the wire (RFC 1939 section 3, multi-line responses).
-ghost use Rattle.std.specs.Prelude.{◌≡◌, ◌++◌, ◌+◌, length, IfOk, OnOk, if◌then◌else◌};
+ghost use Rattle.std.specs.Prelude.{◌≡◌, ◌++◌, take, IfOk, OnOk};
+ghost use Rattle.std.specs.List.{flat_map};
 ghost use Rattle.pop3_wire.specs.Stuffing.{begins_with_dot as starts_with_dot, stuffed_line, wire_line, wire_form, top_lines};
 
 use crate::writing::{put, with_room};
-use ballot::{Items, Memory};
-use maildrop::Text;
+use ballot::Memory;
+use maildrop::{Lines, Text};
 use std::alloc::Allocator;
+
+/// Room for a dot is taken with this many octets of a text.
+const DOTS_PER_OCTETS: u128 = 64;
 
 pub(crate) fn begins_with_dot(line: &[u8]) -> bool
     ensures { result ≡ starts_with_dot line.now }
@@ -16,70 +20,97 @@ pub(crate) fn begins_with_dot(line: &[u8]) -> bool
     }
 }
 
-/// How many octets the wire form of these lines has.
-pub(crate) fn wire_octets<A: Allocator>(lines: &[Items<u8, A>]) -> u128
-    ensures { result ≡ length (wire_form lines.now) }
-{
-    let mut octets = 3;
-    for line in lines {
-        octets += line.len() as u128 + 2;
-        if begins_with_dot(line.get()) {
-            octets += 1;
-        }
-    }
+/// About how many octets the wire form of a text has: its own, and some for dots. A guess too low costs a growth.
+pub(crate) fn wire_room<A: Allocator + Copy>(text: &Text<A>) -> u128 {
+    let octets = text.octets();
     octets
+        .saturating_add(octets / DOTS_PER_OCTETS)
+        .saturating_add(3)
 }
 
-fn put_stuffed<A: Allocator>(text: &mut Vec<u8, A>, line: &[u8]) -> Result<(), Memory>
-    ensures { OnOk result (text.new.items ≡ text.old.items ++ stuffed_line line.now) }
+fn put_stuffed<A: Allocator>(bytes: &mut Vec<u8, A>, line: &[u8]) -> Result<(), Memory>
+    ensures { OnOk result (bytes.new.items ≡ bytes.old.items ++ stuffed_line line.now) }
 {
     if !begins_with_dot(line) {
-        return put(text, line);
+        return put(bytes, line);
     }
-    put(text, b".")?;
-    put(text, line)
+    put(bytes, b".")?;
+    put(bytes, line)
 }
 
-fn put_line<A: Allocator>(text: &mut Vec<u8, A>, line: &[u8]) -> Result<(), Memory>
-    ensures { OnOk result (text.new.items ≡ text.old.items ++ wire_line line.now) }
+fn put_line<A: Allocator>(bytes: &mut Vec<u8, A>, line: &[u8]) -> Result<(), Memory>
+    ensures { OnOk result (bytes.new.items ≡ bytes.old.items ++ wire_line line.now) }
 {
-    put_stuffed(text, line)?;
-    put(text, b"\r\n")
+    put_stuffed(bytes, line)?;
+    put(bytes, b"\r\n")
 }
 
-/// Adds the wire form of these lines.
-pub(crate) fn put_wire<A: Allocator>(
-    text: &mut Vec<u8, A>,
-    lines: &[Items<u8, A>],
+/// Adds the wire form of a text. Goes once over its block.
+pub(crate) fn put_wire<A: Allocator + Copy>(
+    bytes: &mut Vec<u8, A>,
+    text: &Text<A>,
 ) -> Result<(), Memory>
-    ensures { OnOk result (text.new.items ≡ text.old.items ++ wire_form lines.now) }
+    ensures { OnOk result (bytes.new.items ≡ bytes.old.items ++ wire_form text.now) }
 {
-    for line in lines {
-        put_line(text, line.get())?;
+    for line in text.get() {
+        put_line(bytes, line)?;
     }
-    put(text, b".\r\n")
+    put(bytes, b".\r\n")
 }
 
 /// The wire form of a text: each line that begins with a dot gets one more, and a dot alone ends it.
 pub fn stuffed<A: Allocator + Copy>(alloc: A, text: &Text<A>) -> Result<Vec<u8, A>, Memory>
     ensures { IfOk result (λ bytes. bytes.items ≡ wire_form text.now) }
 {
-    let lines = text.get();
-    let mut bytes = with_room(alloc, wire_octets(lines))?;
-    put_wire(&mut bytes, lines)?;
+    let mut bytes = with_room(alloc, wire_room(text))?;
+    put_wire(&mut bytes, text)?;
     Ok(bytes)
 }
 
-/// The lines up to and including the first empty one, and so many more.
-pub(crate) fn top_of<A: Allocator>(text: &[Items<u8, A>], lines: u32) -> &[Items<u8, A>]
-    ensures { result.now ≡ top_lines lines text.now }
+/// Adds the first lines, as many as this.
+fn put_first<A: Allocator>(
+    bytes: &mut Vec<u8, A>,
+    mut lines: Lines,
+    count: u32,
+) -> Result<(), Memory>
+    ensures { OnOk result (bytes.new.items ≡ bytes.old.items ++ flat_map wire_line (take count lines.entry)) }
 {
-    for (i, line) in text.iter().enumerate() {
+    let mut left = count;
+    while left > 0 {
+        let Some(line) = lines.next_line() else {
+            return Ok(());
+        };
+        put_line(bytes, line)?;
+        left -= 1;
+    }
+    Ok(())
+}
+
+/// Adds the lines up to and including the first empty one, and so many more. Reads no line behind them.
+fn put_top_lines<A: Allocator>(
+    bytes: &mut Vec<u8, A>,
+    mut lines: Lines,
+    count: u32,
+) -> Result<(), Memory>
+    ensures { OnOk result (bytes.new.items ≡ bytes.old.items ++ flat_map wire_line (top_lines count lines.entry)) }
+{
+    while let Some(line) = lines.next_line() {
+        put_line(bytes, line)?;
         if line.is_empty() {
-            let body = &text[i + 1..];
-            let shown = body.len().min(lines as usize);
-            return &text[..i + 1 + shown];
+            return put_first(bytes, lines, count);
         }
     }
-    text
+    Ok(())
+}
+
+/// Adds the wire form of the lines up to and including the first empty one, and of so many more.
+pub(crate) fn put_top<A: Allocator + Copy>(
+    bytes: &mut Vec<u8, A>,
+    text: &Text<A>,
+    count: u32,
+) -> Result<(), Memory>
+    ensures { OnOk result (bytes.new.items ≡ bytes.old.items ++ wire_form (top_lines count text.now)) }
+{
+    put_top_lines(bytes, text.get(), count)?;
+    put(bytes, b".\r\n")
 }

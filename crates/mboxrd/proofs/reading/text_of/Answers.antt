@@ -5,5 +5,5 @@ use Rattle.mboxrd.proofs.reading.text_of.Goals as goal
 
 pub unwrap-requires : goal.unwrap-requires
 unwrap-requires g c =
-    let lines : All IsLine c.drop_last_empty.new.lines.items = rw c.drop_last_empty.ensures (All-without_last_empty IsLine c.args.lines.items c.requires) in
+    let lines : All IsLine c.deref.result.now = rw (c.deref.ensures.value, c.drop_last_empty.ensures) (All-without_last_empty IsLine c.args.lines.items c.requires) in
     c.in_ok-new.ensures.valid.1 lines

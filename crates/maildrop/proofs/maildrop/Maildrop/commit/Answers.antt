@@ -11,5 +11,5 @@ octets_of-self-inside-requires g c =
 
 pub invariant_of-self : goal.invariant_of-self
 invariant_of-self g c =
-    let old : Maildrop g.row.A.Denot = record { messages = c.self.inside.messages.items; next_uid = c.self.inside.next_uid; holder = c.self.inside.holder; limits = c.self.inside.limits } in
+    let old : Maildrop g.row.A.Denot = record { messages = c.self.inside.messages.items; next_uid = c.self.inside.next_uid; holder = c.self.inside.holder; limits = c.self.inside.limits; keys = c.self.inside.keys.entries } in
     (c.octets_of-self-inside.ensures ∙ ap message_octets c.deref.ensures.value, rw c.remove_listed.ensures (consistent_without old c.args.uids.now None c.self.invariant.1))

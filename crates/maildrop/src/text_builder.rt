@@ -1,0 +1,83 @@
+//! Texts under construction.
+ghost use Rattle.std.specs.Prelude.{◌≡◌, ◌++◌, ◌∷◌, [], ◌↔◌, IsTrue, IfOk, OnOk, OnErr};
+ghost use Rattle.maildrop.specs.Text.{IsLine};
+
+use crate::text::Text;
+use ballot::Memory;
+use memchr::memchr;
+use std::alloc::{Allocator, Global};
+use std::marker::Model;
+
+/// Adds a line and its line feed. After `Memory` the block is as it was.
+fn put_line<A: Allocator>(block: &mut Vec<u8, A>, line: &[u8]) -> Result<(), Memory>
+    ensures ok { OnOk result (block.new.items ≡ block.old.items ++ (line.now ++ 10 ∷ [])) }
+    ensures err { OnErr result (block.new.items ≡ block.old.items) }
+{
+    let len = block.len();
+    block.extend_from_slice(line)?;
+    if block.push(b'\n').is_err() {
+        block.truncate(len);
+        return Err(Memory);
+    }
+    Ok(())
+}
+
+/// Whether no line feed stands in the bytes.
+pub(crate) fn is_line(bytes: &[u8]) -> bool
+    ensures { IsTrue result ↔ IsLine bytes.now }
+{
+    memchr(b'\n', bytes).is_none()
+}
+
+/// A text to which lines are added. Each line is copied once, to the end of the block that becomes the text's.
+#[derive(Drop)]
+pub struct TextBuilder<A: Allocator = Global> {
+    block: Vec<u8, A>,
+    octets: u64,
+}
+
+impl<A: Allocator> Model for TextBuilder<A> {
+    ghost use Rattle.std.specs.Prelude.{ℕ, List};
+    ghost use Rattle.maildrop.specs.Text.{IsText, lines_of};
+
+    ghost Value = { List (List ℕ) };
+
+    ghost view = { λ t. lines_of t.block.items };
+
+    ghost invariant = { λ t. IsText t.block.items t.octets };
+}
+
+impl<A: Allocator> TextBuilder<A> {
+    /// The text without lines. Takes no memory.
+    pub fn new(alloc: A) -> Self
+        ensures { result ≡ [] }
+    {
+        TextBuilder {
+            block: Vec::new(alloc),
+            octets: 0,
+        }
+    }
+
+    /// Adds a line at the end. After `Memory` the text is as it was.
+    pub fn push_line(&mut self, line: &[u8]) -> Result<(), Memory>
+        requires { IsLine line.now }
+        ensures ok { OnOk result (self.new ≡ self.old ++ line.now ∷ []) }
+        ensures err { OnErr result (self.new ≡ self.old) }
+    {
+        put_line(&mut self.block, line)?;
+        self.octets += line.len() as u64 + 2;
+        Ok(())
+    }
+}
+
+impl<A: Allocator + Copy> TextBuilder<A> {
+    /// The text of the lines that were added. Gives back what memory they don't need.
+    pub fn finish(self) -> Result<Text<A>, Memory>
+        ensures { IfOk result (λ text. text ≡ self) }
+    {
+        let alloc = *self.block.allocator();
+        let mut block = self.block;
+        block.shrink_to_fit();
+        Text::from_block(alloc, block, self.octets)
+    }
+}
