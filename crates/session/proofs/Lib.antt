@@ -12,3 +12,4 @@ pub mod Longer
 pub mod Calls
 pub mod KeptLines
 pub mod Users
+pub mod LineFronts

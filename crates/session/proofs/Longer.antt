@@ -19,7 +19,7 @@ use Rattle.session.specs.declared.state.Step.{Step}
 use Rattle.session.specs.declared.state.Step.TheVariants.{Say, Ask, SayAndClose}
 use Rattle.session.specs.declared.state.Turn.{Turn}
 
-prefix_cons : {T : Type 0} (x : T) (xs ys : List T) → IsPrefix xs ys → IsPrefix (x ∷ xs) (x ∷ ys)
+pub prefix_cons : {T : Type 0} (x : T) (xs ys : List T) → IsPrefix xs ys → IsPrefix (x ∷ xs) (x ∷ ys)
 prefix_cons x xs ys front = (front.0, ap (λ zs. x ∷ zs) front.1)
 
 -- the replies of the second way to go on begin with those of the first, whatever answers come behind

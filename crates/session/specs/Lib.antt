@@ -12,3 +12,4 @@ pub mod Dialogue
 pub mod Asking
 pub mod Alone
 pub mod Calls
+pub mod Examples
