@@ -9,6 +9,9 @@ use std::process::ExitCode;
 use std::rt::Files;
 use std::{fs, io};
 
+/// What `--version` tells behind the program's name.
+const VERSION: &str = "0.1.0";
+
 /// An option with a value of the user's, which may begin with a hyphen.
 fn option<'a>(alloc: Global, name: &'a str, value: &'a str, help: &'a str) -> Arg<'a> {
     Arg::new(alloc, name)
@@ -42,7 +45,7 @@ fn lone<'a>(alloc: Global) -> Result<Command<'a>, Error> {
         alloc,
         "mbox",
         "FILE",
-        "A mailbox file (mboxrd), whose messages the maildrop holds; the file itself is only read",
+        "A mailbox file (mboxrd), whose messages the maildrop holds; the file itself is only read. The maildrop holds at most 10,000 messages of 50,000,000 octets together, under unique ids up to 1,000,000,000",
     );
     let nonce = option(
         alloc,
@@ -70,6 +73,7 @@ fn lone<'a>(alloc: Global) -> Result<Command<'a>, Error> {
 fn command<'a>(alloc: Global) -> Result<Command<'a>, Error> {
     let maildropd = Command::new(alloc, "maildropd")
         .about("A POP3 server (RFC 1939) in which every function is proved")
+        .version(VERSION)
         .subcommand_required(true)
         .subcommand(lone(alloc)?)?;
     Ok(maildropd)

@@ -5,5 +5,6 @@ pub mod Tops
 pub mod Streams
 pub mod Feeding
 pub mod FirstLines
+pub mod ResponseCodes
 pub mod WireForms
 pub mod Rows

@@ -120,3 +120,9 @@ lone_dot = refl
 
 two_dots : unstuffed_line (codes "..x") ≡ Some (codes ".x")
 two_dots = refl
+
+capabilities_asked : verb_of (codes "CAPA") ≡ Ok verb.Capa
+capabilities_asked = refl
+
+capabilities_with_argument : verb_of (codes "capa x") ≡ Err (Arguments keyword.Capa)
+capabilities_with_argument = refl

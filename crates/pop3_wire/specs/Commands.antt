@@ -33,6 +33,7 @@ keyword_of bytes =
     else if is_word bytes (codes "rset") then Some keyword.Rset
     else if is_word bytes (codes "top") then Some keyword.Top
     else if is_word bytes (codes "uidl") then Some keyword.Uidl
+    else if is_word bytes (codes "capa") then Some keyword.Capa
     else if is_word bytes (codes "quit") then Some keyword.Quit
     else None
 
@@ -125,6 +126,7 @@ verb_with keyword.Noop arguments = if is_nothing arguments then Some verb.Noop e
 verb_with keyword.Rset arguments = if is_nothing arguments then Some verb.Rset else None
 verb_with keyword.Top arguments = option_map (λ n. verb.Top n.0 n.1) (numbers_in arguments)
 verb_with keyword.Uidl arguments = if is_nothing arguments then Some (verb.Uidl None) else option_map (λ n. verb.Uidl (Some n)) (number_in arguments)
+verb_with keyword.Capa arguments = if is_nothing arguments then Some verb.Capa else None
 verb_with keyword.Quit arguments = if is_nothing arguments then Some verb.Quit else None
 verb_with keyword.Pass arguments = None
 

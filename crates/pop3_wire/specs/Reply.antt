@@ -1,7 +1,7 @@
 -- The replies of the server: each occasion's bytes, and the table over them.
-use Rattle.std.specs.Prelude.{ℕ, ◌≤◌, List, ◌++◌, length, codes, decimal}
+use Rattle.std.specs.Prelude.{ℕ, ◌≤◌, nat_eq, Bool, true, false, ◌||◌, List, ◌++◌, length, codes, decimal}
 use Rattle.std.specs.Io.BufRead.{take_through}
-use Rattle.std.specs.List.{flat_map}
+use Rattle.std.specs.List.{flat_map, starts_with}
 use Rattle.pop3_wire.specs.Stuffing.{wire_form, top_lines}
 use Rattle.pop3_wire.specs.declared.listed.Listed.{Listed}
 use Rattle.pop3_wire.specs.declared.listed.Identified.{Identified}
@@ -22,7 +22,7 @@ abbrev pub invalid_login : List ℕ
 invalid_login = codes "-ERR invalid login\r\n"
 
 abbrev pub already_locked : List ℕ
-already_locked = codes "-ERR maildrop already locked\r\n"
+already_locked = codes "-ERR [IN-USE] maildrop already locked\r\n"
 
 abbrev pub line_too_long : List ℕ
 line_too_long = codes "-ERR line too long\r\n"
@@ -79,6 +79,10 @@ message_top text lines = codes "+OK\r\n" ++ wire_form (top_lines lines text)
 abbrev pub message_deleted : ℕ → List ℕ
 message_deleted number = codes "+OK message " ++ decimal number ++ codes " deleted\r\n"
 
+-- the capabilities, one a line (RFC 2449 section 6)
+abbrev pub capabilities : List ℕ
+capabilities = codes "+OK\r\nTOP\r\nUSER\r\nUIDL\r\nRESP-CODES\r\n.\r\n"
+
 abbrev pub nothing_done : List ℕ
 nothing_done = codes "+OK\r\n"
 
@@ -87,6 +91,10 @@ signing_off = codes "+OK signing off\r\n"
 
 abbrev pub not_removed : List ℕ
 not_removed = codes "-ERR some deleted messages not removed\r\n"
+
+-- behind its status the reply has a response code (RFC 2449 section 8)
+abbrev pub has_response_code : List ℕ → Bool
+has_response_code bytes = starts_with nat_eq bytes (codes "+OK [") || starts_with nat_eq bytes (codes "-ERR [")
 
 -- the bytes up to and including the first LF are at most 512 (RFC 1939 section 3)
 abbrev pub HasShortFirstLine : List ℕ → Type 0
@@ -97,6 +105,10 @@ module _ {A : Type 0} where
   abbrev pub HasShortParts : Reply A → Type 0
   HasShortParts (reply.Greeting nonce host) = (length nonce.now ≤ 60) × (length host.now ≤ 100)
   HasShortParts other = Unit {0}
+
+  abbrev pub is_lock_refusal : Reply A → Bool
+  is_lock_refusal reply.Locked = true
+  is_lock_refusal other = false
 
   abbrev pub reply_text : Reply A → List ℕ
   reply_text (reply.Greeting nonce host) = greeting nonce.now host.now
@@ -117,6 +129,7 @@ module _ {A : Type 0} where
   reply_text (reply.Message octets text) = message_text octets text.now
   reply_text (reply.Top text lines) = message_top text.now lines
   reply_text (reply.Deleted number) = message_deleted number
+  reply_text reply.Capabilities = capabilities
   reply_text reply.Noop = nothing_done
   reply_text (reply.Reset messages octets) = maildrop_has messages octets
   reply_text reply.SigningOff = signing_off

@@ -42,6 +42,8 @@ fn keyword_of(bytes: &[u8]) -> Option<Keyword>
         Some(Keyword::Top)
     } else if is_word(bytes, b"uidl") {
         Some(Keyword::Uidl)
+    } else if is_word(bytes, b"capa") {
+        Some(Keyword::Capa)
     } else if is_word(bytes, b"quit") {
         Some(Keyword::Quit)
     } else {
@@ -226,6 +228,7 @@ fn verb_with(keyword: Keyword, rest: &[u8]) -> Option<Verb>
         Keyword::Top => numbers_in(rest).map(|(number, lines)| Verb::Top { number, lines }),
         Keyword::Uidl if is_nothing(rest) => Some(Verb::Uidl(None)),
         Keyword::Uidl => number_in(rest).map(|number| Verb::Uidl(Some(number))),
+        Keyword::Capa => bare(Verb::Capa, rest),
         Keyword::Quit => bare(Verb::Quit, rest),
     }
 }

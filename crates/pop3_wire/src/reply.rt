@@ -22,7 +22,7 @@ pub enum Reply<'a, A: Allocator = Global> {
     LoggedIn { messages: u64, octets: u64 },
     /// To a login that was refused.
     InvalidLogin,
-    /// To a login that found the maildrop locked.
+    /// To a login that found the maildrop locked, with the response code of RFC 2449 section 8.1.1.
     Locked,
     /// To a line of more than 512 octets.
     LineTooLong,
@@ -50,6 +50,8 @@ pub enum Reply<'a, A: Allocator = Global> {
     Top { text: &'a Text<A>, lines: u32 },
     /// To DELE: the number of the message.
     Deleted { number: u64 },
+    /// To CAPA: what the server can do beyond RFC 1939's minimum (RFC 2449 section 6).
+    Capabilities,
     /// To NOOP.
     Noop,
     /// To RSET: how many messages there are, and their octets together.
@@ -61,11 +63,14 @@ pub enum Reply<'a, A: Allocator = Global> {
 }
 
 impl<A: Allocator + Copy> Reply<'_, A> {
-    ghost use Rattle.pop3_wire.specs.Reply.{reply_text, HasShortParts, HasShortFirstLine};
+    ghost use Rattle.pop3_wire.specs.Reply.{reply_text, has_response_code, is_lock_refusal, HasShortParts, HasShortFirstLine};
 
     /// The bytes of the reply, CR and LF included.
     pub fn text(&self, alloc: A) -> Result<Vec<u8, A>, Memory>
         ensures value { IfOk result (λ text. text.items ≡ reply_text self.now) }
+
+        // No other reply has a text that looks like a response code (RFC 2449 section 8).
+        ensures code { IfOk result (λ text. has_response_code text.items ≡ is_lock_refusal self.now) }
         ensures short { HasShortParts self.now → IfOk result (λ text. HasShortFirstLine text.items) }
     {
         match self {
@@ -73,7 +78,7 @@ impl<A: Allocator + Copy> Reply<'_, A> {
             Reply::SendPass => fixed(alloc, b"+OK send PASS\r\n"),
             Reply::LoggedIn { messages, octets } => maildrop_has(alloc, *messages, *octets),
             Reply::InvalidLogin => fixed(alloc, b"-ERR invalid login\r\n"),
-            Reply::Locked => fixed(alloc, b"-ERR maildrop already locked\r\n"),
+            Reply::Locked => fixed(alloc, b"-ERR [IN-USE] maildrop already locked\r\n"),
             Reply::LineTooLong => fixed(alloc, b"-ERR line too long\r\n"),
             Reply::UnknownCommand => fixed(alloc, b"-ERR unknown command\r\n"),
             Reply::WrongState => fixed(alloc, b"-ERR not in this state\r\n"),
@@ -87,6 +92,10 @@ impl<A: Allocator + Copy> Reply<'_, A> {
             Reply::Message { octets, text } => message_text(alloc, *octets, text),
             Reply::Top { text, lines } => message_top(alloc, text, *lines),
             Reply::Deleted { number } => message_deleted(alloc, *number),
+            Reply::Capabilities => fixed(
+                alloc,
+                b"+OK\r\nTOP\r\nUSER\r\nUIDL\r\nRESP-CODES\r\n.\r\n",
+            ),
             Reply::Noop => fixed(alloc, b"+OK\r\n"),
             Reply::Reset { messages, octets } => maildrop_has(alloc, *messages, *octets),
             Reply::SigningOff => fixed(alloc, b"+OK signing off\r\n"),

@@ -1,5 +1,5 @@
 //! The bytes of replies, one function for each occasion that tells something.
-ghost use Rattle.std.specs.Prelude.{◌≡◌, ◌≤◌, ◌++◌, length, codes, IfOk, OnOk};
+ghost use Rattle.std.specs.Prelude.{◌≡◌, ◌≤◌, ◌++◌, false, length, codes, IfOk, OnOk};
 ghost use Rattle.std.specs.List.{flat_map};
 ghost use Rattle.pop3_wire.specs.Reply as spec;
 
@@ -80,6 +80,7 @@ pub(crate) fn two_numbers<A: Allocator>(
     second: u64,
 ) -> Result<Vec<u8, A>, Memory>
     ensures value { IfOk result (λ text. text.items ≡ codes "+OK " ++ spec.number_line first second) }
+    ensures code { IfOk result (λ text. spec.has_response_code text.items ≡ false) }
     ensures short { IfOk result (λ text. spec.HasShortFirstLine text.items) }
 {
     let mut text = with_room(alloc, FIRST_LINE)?;
@@ -115,6 +116,7 @@ pub(crate) fn scan_listings<A: Allocator>(
     messages: &[Listed],
 ) -> Result<Vec<u8, A>, Memory>
     ensures value { IfOk result (λ text. text.items ≡ spec.scan_listings octets messages.now) }
+    ensures code { IfOk result (λ text. spec.has_response_code text.items ≡ false) }
     ensures short { IfOk result (λ text. spec.HasShortFirstLine text.items) }
 {
     let mut text = with_room(alloc, FIRST_LINE + LISTED_LINE * messages.len() as u128)?;
@@ -148,6 +150,7 @@ pub(crate) fn message_text<A: Allocator + Copy>(
     text: &Text<A>,
 ) -> Result<Vec<u8, A>, Memory>
     ensures value { IfOk result (λ reply. reply.items ≡ spec.message_text octets text.now) }
+    ensures code { IfOk result (λ reply. spec.has_response_code reply.items ≡ false) }
     ensures short { IfOk result (λ reply. spec.HasShortFirstLine reply.items) }
 {
     let mut reply = with_room(alloc, wire_room(text).saturating_add(FIRST_LINE))?;

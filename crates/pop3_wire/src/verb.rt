@@ -6,7 +6,7 @@ use crate::line_bytes::LineBytes;
 use maildrop::Name;
 use thiserror::Error;
 
-/// The words that begin a command.
+/// The words that begin a command (RFC 1939 sections 4 to 7; CAPA: RFC 2449 section 5).
 #[derive(Clone, Copy, Debug, PartialEq, Eq)]
 pub enum Keyword {
     User,
@@ -20,10 +20,11 @@ pub enum Keyword {
     Rset,
     Top,
     Uidl,
+    Capa,
     Quit,
 }
 
-/// A command with its arguments (RFC 1939 sections 4 to 7).
+/// A command with its arguments (RFC 1939 sections 4 to 7, RFC 2449 section 5).
 #[derive(Drop)]
 pub enum Verb {
     User(Name),
@@ -42,6 +43,7 @@ pub enum Verb {
     Top { number: u32, lines: u32 },
     /// One message, or all.
     Uidl(Option<u32>),
+    Capa,
     Quit,
 }
 

@@ -1,11 +1,10 @@
 -- A session that was served over the desk of a lone session is one that the user's maildrop answers.
-use Rattle.std.proofs.Common.{◌≡◌, ◌⊎◌, ℕ, ◌+◌, List, [], ◌∷◌, ◌++◌, Option, Some, None, refl, ap, sym, ◌∙◌, append-nil, inl, inr, subst}
-use Rattle.std.specs.Prelude.{IfSome}
+use Rattle.std.proofs.Common.{◌≡◌, ◌⊎◌, ℕ, ◌+◌, List, [], ◌∷◌, ◌++◌, Option, Some, None, refl, ap, sym, ◌∙◌, append-nil, inl, inr, subst, rules}
+use Rattle.std.specs.Prelude.{IfSome, OnOk, IsOk, Result, Ok, Err, ◌↔◌}
 use Rattle.std.specs.List.{concat}
-use Rattle.std.specs.Io.KnownBytes.{Appends, Consumes, IsAtEnd}
+use Rattle.std.specs.Io.KnownBytes.{Appends}
 use Rattle.maildrop.specs.Ticket.{Ticket}
 use Rattle.maildrop.specs.Office.{outcome_in, users_after}
-use Rattle.maildrop.specs.declared.user.User.{User}
 use Rattle.maildrop.specs.declared.outcome.Outcome.{Outcome}
 use Rattle.maildrop.specs.declared.command.Command.{Command}
 use Rattle.apop.specs.Stamp.{Stamp}
@@ -16,17 +15,36 @@ use Rattle.pop3_wire.specs.declared.line.Line.{Line}
 use Rattle.session.specs.Session.{opening, free_of, lock_due}
 use Rattle.session.specs.Conversation.{Answer, Conversation, with_reply, conversation, conversation_from}
 use Rattle.session.specs.Transcript.{answers_of, requests_of, given_of, IsAnsweredEntry, AreAnswered, IsHistory}
-use Rattle.session.specs.Serve.{IsServed, told}
+use Rattle.session.specs.Prefix.{IsPrefix}
+use Rattle.session.specs.Serve.{IsTranscript, IsReadAndWritten, IsLeftBy, IsWrittenBy, AreAnsweredAt, told}
+use Rattle.session.specs.declared.state.State.{State}
+use Rattle.session.specs.declared.state.State.TheVariants.{Closed}
+use Rattle.session.specs.declared.transcript.End.{End}
 use Rattle.session.specs.declared.transcript.Asked.{Asked}
 use Rattle.session.specs.declared.transcript.Transcript.{Transcript}
 use Rattle.session.specs.declared.transcript.End.TheVariants as end
 use Rattle.session.proofs.Parts.{answers_append, history_front}
 use Rattle.session.proofs.Served.{unanswered}
 use Rattle.session.proofs.Closing.{closed_ends}
+use Rattle.session.proofs.LineFronts.{lines_front, heard_front}
 use Rattle.server.specs.Tickets.{ticket_of}
 use Rattle.server.specs.LoneDesks.{Gives, GivesTicket}
-use Rattle.server.specs.Lone.{answers_in, commands_from, IsSessionOf}
+use Rattle.server.specs.Lone.{commands_from}
+use Rattle.server.specs.Served.{answers_in, IsSessionOf}
 use Rattle.server.specs.declared.lone_desk.LoneDesk.{LoneDesk}
+
+-- a session that ended by itself or with the input
+abbrev IsOver : End → Type 0
+IsOver ended = (ended ≡ end.Closed) ⊎ (ended ≡ end.HungUp)
+
+all-written : (ended : End) (said written : List ℕ) → IsOver ended → IsWrittenBy ended said written → written ≡ said
+all-written ended said written (inl closed) some = subst (λ e. IsWrittenBy e said written) closed some
+all-written ended said written (inr hung_up) some = subst (λ e. IsWrittenBy e said written) hung_up some
+
+-- what a result that is no fault leads to
+pub over_ok : {T E Q P : Type 0} (result : Result T E) → (IsOk result ↔ Q) → (Q → P) → OnOk result P
+over_ok (Ok value) over leads = leads (over.0 (search rules))
+over_ok (Err fault) over leads = tt
 
 module _ {A : Type 0} where
   -- what entries asked, under the tickets from a number on
@@ -65,59 +83,47 @@ module _ {A : Type 0} where
       rw (one.ticketed, one.answered)
       (answer-first first next entry one.ticket one.outcome (answers_of entries) (commands_by (first.next + 1) entries) one.ticketed one.answered history.1 (rest ∙ ap (λ n. answers_in next.office (commands_by n entries)) given.2))
 
-  -- a session that ended by itself or with the input
-  abbrev pub IsOver : Transcript A → List ℕ → Type 0
-  IsOver transcript rest = (transcript.end ≡ end.Closed) ⊎ ((transcript.end ≡ end.HungUp) × (rest ≡ []))
+  all-answered : (ended : End) (state : State A) (entries : List (Asked A)) → IsOver ended → AreAnsweredAt ended state entries → AreAnswered entries
+  all-answered ended state entries (inl closed) answered = subst (λ e. AreAnsweredAt e state entries) closed answered
+  all-answered ended state entries (inr hung_up) answered = subst (λ e. AreAnsweredAt e state entries) hung_up answered
 
-  over-end : (transcript : Transcript A) (rest : List ℕ) → IsOver transcript rest → (transcript.end ≡ end.Closed) ⊎ (transcript.end ≡ end.HungUp)
-  over-end transcript rest (inl closed) = inl closed
-  over-end transcript rest (inr hung_up) = inr hung_up.0
-
-  all-answered : (transcript : Transcript A) (rest : List ℕ) (entries : List (Asked A)) → IsOver transcript rest → (transcript.end ≡ end.DeskStopped) ⊎ AreAnswered entries → AreAnswered entries
-  all-answered transcript rest entries over (inr answered) = answered
-  all-answered transcript rest entries (inl closed) (inl stopped) = absurd (cc)
-  all-answered transcript rest entries (inr hung_up) (inl stopped) = let same = hung_up.0 in absurd (cc)
-
-  pub session_served : (accounts : List Account) (stamp : Stamp) (desk last : LoneDesk A) (read rest input written : List ℕ) (transcript : Transcript A)
-      → IsServed Gives accounts stamp desk last read written transcript → input ≡ read ++ rest → IsOver transcript rest → IsSessionOf accounts stamp desk.next desk.office input written
-  session_served accounts stamp desk last read rest input written transcript served is over =
-      let entries = served.entries in
-      let answered = all-answered transcript rest entries over served.answered in
-      let history = history_front Gives entries served.hangup desk last (subst (λ asked. IsHistory Gives desk asked last) served.in_order served.given) in
+  pub session_served : (accounts : List Account) (stamp : Stamp) (desk last : LoneDesk A) (input rest : List ℕ) (contents contents2 : Option (List ℕ)) (transcript : Transcript A)
+      → IsTranscript accounts stamp transcript → (bytes : IsReadAndWritten accounts stamp transcript (Some input) (Some rest) contents contents2) → IsHistory Gives desk transcript.asked last → IsOver transcript.end
+      → IsSessionOf accounts stamp desk.next desk.office input bytes.written
+  session_served accounts stamp desk last input rest contents contents2 transcript talk bytes given over =
+      let entries = talk.entries in
+      let is : input ≡ bytes.read ++ rest = bytes.consumed in
+      let answered = all-answered transcript.end (told accounts stamp transcript).state entries over talk.answered in
+      let history = history_front Gives entries talk.hangup desk last (subst (λ asked. IsHistory Gives desk asked last) talk.in_order given) in
       let own = commands_by desk.next entries in
-      let hung : answers_of served.hangup ≡ [] = elim served.freed [
-        | inl freed ↦ unanswered (free_of (lock_due (told accounts stamp transcript).state)) served.hangup freed
-        | inr full ↦ rw full.0 refl
-      ] in
+      let hung : answers_of talk.hangup ≡ [] = unanswered (free_of (lock_due (told accounts stamp transcript).state)) talk.hangup talk.freed in
       let answers : answers_of transcript.asked ≡ answers_in desk.office own =
-      ap answers_of served.in_order ∙ answers_append entries served.hangup ∙ ap (λ more. answers_of entries ++ more) hung ∙ append-nil (answers_of entries)
+      ap answers_of talk.in_order ∙ answers_append entries talk.hangup ∙ ap (λ more. answers_of entries ++ more) hung ∙ append-nil (answers_of entries)
       ∙ history-answers entries desk history.0 answered history.1 in
       let lines : conversation accounts stamp (lines_of input) (answers_of transcript.asked) ≡ told accounts stamp transcript = elim over [
         | inl closed ↦
-            let behind = served.heard rest in
-            rw (is, ← behind.1) (ap (with_reply (greeting stamp.nonce stamp.host)) (closed_ends accounts stamp 0 transcript.lines behind.0 opening (answers_of transcript.asked) (served.closed closed)))
+            let state : (told accounts stamp transcript).state ≡ Closed = subst (λ e. IsLeftBy e (told accounts stamp transcript).state) closed talk.left in
+            let behind : IsPrefix transcript.lines (lines_of (bytes.read ++ rest)) = heard_front transcript.lines (lines_of bytes.read) (lines_of (bytes.read ++ rest)) bytes.heard (lines_front bytes.read rest) in
+            rw (is, ← behind.1) (ap (with_reply (greeting stamp.nonce stamp.host)) (closed_ends accounts stamp 0 transcript.lines behind.0 opening (answers_of transcript.asked) state))
         | inr hung_up ↦
-            let whole : transcript.lines ≡ lines_of input = served.heard_all hung_up.0 ∙ ap lines_of (sym (is ∙ ap (λ more. read ++ more) hung_up.1 ∙ append-nil read)) in
+            let heard = bytes.heard_all hung_up in
+            let none : rest ≡ [] = heard.1 in
+            let whole : transcript.lines ≡ lines_of input = heard.0 ∙ ap lines_of (sym (is ∙ ap (λ more. bytes.read ++ more) none ∙ append-nil bytes.read)) in
             ap (λ lines. conversation accounts stamp lines (answers_of transcript.asked)) (sym whole)
       ] in
       let same : conversation accounts stamp (lines_of input) (answers_in desk.office own) ≡ told accounts stamp transcript =
       ap (λ answers. conversation accounts stamp (lines_of input) answers) (sym answers) ∙ lines in
       record {
         own = own;
-        asked = sym (commands_asked desk.next entries answered) ∙ ap (λ asked. commands_from desk.next asked) served.asked ∙ ap (λ (c : Conversation A). commands_from desk.next c.asked) (sym same);
-        replied = served.said_all (over-end transcript rest over) ∙ ap (λ (c : Conversation A). concat c.replies) (sym same);
+        asked = sym (commands_asked desk.next entries answered) ∙ ap (λ asked. commands_from desk.next asked) talk.asked ∙ ap (λ (c : Conversation A). commands_from desk.next c.asked) (sym same);
+        replied = all-written transcript.end (concat (told accounts stamp transcript).replies) bytes.written over bytes.said ∙ ap (λ (c : Conversation A). concat c.replies) (sym same);
       }
 
   -- where the input is known, all of it was answered
   pub written_session : (accounts : List Account) (stamp : Stamp) (desk last : LoneDesk A) (remaining remaining2 contents contents2 : Option (List ℕ)) (transcript : Transcript A)
-      → (read : List ℕ) × (written : List ℕ) × Consumes remaining remaining2 read × Appends contents contents2 written × IsServed Gives accounts stamp desk last read written transcript
-      → (transcript.end ≡ end.HungUp → IsAtEnd remaining2) → (transcript.end ≡ end.Closed) ⊎ (transcript.end ≡ end.HungUp)
+      → IsTranscript accounts stamp transcript → IsReadAndWritten accounts stamp transcript remaining remaining2 contents contents2 → IsHistory Gives desk transcript.asked last → IsOver transcript.end
       → IfSome remaining (λ input. (written : List ℕ) × IsSessionOf accounts stamp desk.next desk.office input written × Appends contents contents2 written)
-  written_session accounts stamp desk last None remaining2 contents contents2 transcript served at_end over = tt
-  written_session accounts stamp desk last (Some input) None contents contents2 transcript served at_end over = absurd served.2
-  written_session accounts stamp desk last (Some input) (Some rest) contents contents2 transcript served at_end over =
-      let ended : IsOver transcript rest = elim over [
-        | inl closed ↦ inl closed
-        | inr hung_up ↦ inr (hung_up, at_end hung_up)
-      ] in
-      (served.1, session_served accounts stamp desk last served.0 rest input served.1 transcript served.4 served.2 ended, served.3)
+  written_session accounts stamp desk last None remaining2 contents contents2 transcript talk bytes given over = tt
+  written_session accounts stamp desk last (Some input) None contents contents2 transcript talk bytes given over = absurd bytes.consumed
+  written_session accounts stamp desk last (Some input) (Some rest) contents contents2 transcript talk bytes given over =
+      (bytes.written, session_served accounts stamp desk last input rest contents contents2 transcript talk bytes given over, bytes.appended)

@@ -2,4 +2,5 @@ pub mod Options
 pub mod Tickets
 pub mod LoneDesks
 pub mod Lone
-pub mod Mailed
+pub mod Served
+pub mod Examples

@@ -1,5 +1,6 @@
 //! Why a run of the program ends before its end.
-ghost use Rattle.std.specs.Prelude.{◌≡◌, ◌≤◌, ◌↔◌, ◌⊎◌};
+ghost use Rattle.std.specs.Prelude.{◌≡◌};
+ghost use Rattle.server.specs.Lone.{status_at};
 
 use thiserror::Error;
 
@@ -30,9 +31,7 @@ impl Fault {
     /// The exit status: 2 for a fault of the options, 3 for mail that is refused, 1 for a fault of memory, reading or
     /// writing.
     pub fn status(self) -> u8
-        ensures options { (result ≡ 2) ↔ ((self ≡ Fault.Account) ⊎ (self ≡ Fault.Value) ⊎ (self ≡ Fault.Mailbox)) }
-        ensures mail { (result ≡ 3) ↔ (self ≡ Fault.Mail) }
-        ensures range { (1 ≤ result) × (result ≤ 3) }
+        ensures { result ≡ status_at self }
     {
         match self {
             Fault::Account | Fault::Value | Fault::Mailbox => 2,

@@ -1,9 +1,9 @@
 //! The program `maildropd`, as calls over any reader and writer.
 #![tactic(auto)]
 
-mod asking;
 mod fault;
 mod lone;
+mod lone_asks;
 mod lone_desk;
 mod mail;
 mod options;
@@ -11,7 +11,7 @@ mod options;
 pub use fault::Fault;
 pub use lone::lone_run;
 pub use lone_desk::LoneDesk;
-pub use options::LoneOptions;
+pub use options::{LONE_IDS, LONE_MESSAGES, LONE_OCTETS, LoneOptions};
 
 #[cfg(test)]
 mod fault_tests;

@@ -1,17 +1,17 @@
 //! One session over one user's maildrop, from a reader to a writer.
-ghost use Rattle.std.specs.Prelude.{◌≡◌, ◌≢◌, ℕ, List, ◌+◌, ◌-◌, ◌<◌, ◌≤◌, ◌^◌, ◌++◌, ◌∷◌, [], length, vec_len, IfOk, IfSome, OnOk, OnErr, IfErr, IsErrOf, ◌↔◌, ◌⊎◌};
+ghost use Rattle.std.specs.Prelude.{◌≡◌, ◌≢◌, ℕ, false, List, ◌∷◌, [], Ok, Err, IsOk, IfOk, IfSome, OnOk, IfErr, IsErrOf, ◌↔◌, ◌⊎◌};
 ghost use Rattle.std.specs.declared.alloc.Global.{Global};
 ghost use Rattle.std.specs.Io.KnownBytes.{Appends};
 ghost use Rattle.apop.specs.Accounts.{method_of as method_in};
 ghost use Rattle.mboxrd.specs.declared.error.MboxError.TheVariants.{NoFromLine};
-ghost use Rattle.server.specs.Lone.{IsSessionOf, IsLoneSession};
-ghost use Rattle.server.specs.Mailed.{IsMailed, IsRefused};
+ghost use Rattle.server.specs.Lone.{AreStored, AreGood, IsFirstFault, IsStatusOf, IsLoneSession};
+ghost use Rattle.server.specs.Served.{IsSessionOf, IsMailed, IsOfRun};
 ghost use Rattle.server.specs.Options as spec;
 
 use crate::fault::Fault;
 use crate::lone_desk::LoneDesk;
 use crate::mail::{deliver, texts_of};
-use crate::options::LoneOptions;
+use crate::options::{LONE_IDS, LONE_MESSAGES, LONE_OCTETS, LoneOptions};
 use apop::{Accounts, Method, Stamp, stamp};
 use maildrop::{Limits, Name};
 use session::{End, OpenGate, serve};
@@ -49,6 +49,22 @@ fn account_of(alloc: Global, options: &LoneOptions<'_>) -> Result<(Name, Account
     }
 }
 
+/// What the end of a session means for the run.
+fn ended(end: End) -> Result<(), Fault>
+    ensures over { IsOk result ↔ ((end ≡ End.Closed) ⊎ (end ≡ End.HungUp)) }
+    ensures read { IsErrOf result Fault.Read ↔ (end ≡ End.ReadFault) }
+    ensures write { IsErrOf result Fault.Write ↔ (end ≡ End.WriteFault) }
+    ensures fault { IfErr result (λ fault. IsOfRun fault) }
+{
+    match end {
+        End::Closed | End::HungUp => Ok(()),
+        End::ReadFault => Err(Fault::Read),
+        End::WriteFault => Err(Fault::Write),
+        // The desk of a lone session stops for want of memory alone.
+        End::DeskStopped | End::Memory => Err(Fault::Memory),
+    }
+}
+
 /// Serves a session over a desk.
 fn serve_desk<R: Read, W: Write>(
     alloc: Global,
@@ -61,27 +77,22 @@ fn serve_desk<R: Read, W: Write>(
     ensures written { OnOk result (IfSome (R.remaining reader.old) (λ input. (written : List ℕ)
         × IsSessionOf {A = Global} accounts.now stamp desk.old.next desk.old.office input written
         × Appends (W.contents writer.old) (W.contents writer.new) written)) }
-    ensures fault { IfErr result (λ fault. (fault ≡ Fault.Read) ⊎ (fault ≡ Fault.Write) ⊎ (fault ≡ Fault.Memory)) }
+    ensures fault { IfErr result (λ fault. IsOfRun fault) }
 {
     let transcript = serve(alloc, reader, writer, accounts, stamp, desk, &mut OpenGate);
-    match transcript.end {
-        End::Closed | End::HungUp => Ok(()),
-        End::ReadFault => Err(Fault::Read),
-        End::WriteFault => Err(Fault::Write),
-        // The desk of a lone session stops for want of memory alone.
-        End::DeskStopped | End::Memory => Err(Fault::Memory),
-    }
+    ended(transcript.end)
 }
 
 /// The desk of the options' user, whose maildrop holds the messages of the mailbox file.
 fn desk_of(alloc: Global, user: Name, options: &LoneOptions<'_>) -> Result<LoneDesk, Fault>
+    requires { user ≡ options.now.user.now }
     ensures desk { IfOk result (λ desk. IsMailed user options.now desk) }
-    ensures mailbox { IsErrOf result Fault.Mailbox ↔ (spec.texts_of options.now ≡ Err NoFromLine) }
-    ensures mail { IsErrOf result Fault.Mail → IsRefused user options.now }
+    ensures mailbox { IsErrOf result Fault.Mailbox → spec.texts_of options.now ≡ Err NoFromLine }
+    ensures mail { IsErrOf result Fault.Mail → (texts : List (List (List ℕ))) × AreStored Global false options.now texts }
     ensures fault { IfErr result (λ fault. (fault ≡ Fault.Mailbox) ⊎ (fault ≡ Fault.Mail) ⊎ (fault ≡ Fault.Memory)) }
 {
     let texts = texts_of(alloc, options)?;
-    let limits = Limits::new(10_000, 50_000_000, 1_000_000_000).unwrap();
+    let limits = Limits::new(LONE_MESSAGES, LONE_OCTETS, LONE_IDS).unwrap();
     let Ok(mut desk) = LoneDesk::new(alloc, user, limits) else {
         return Err(Fault::Memory);
     };
@@ -99,11 +110,9 @@ fn run<R: Read, W: Write>(
     ensures written { OnOk result (IfSome (R.remaining reader.old) (λ input. (written : List ℕ)
         × IsLoneSession Global options.now input written
         × Appends (W.contents writer.old) (W.contents writer.new) written)) }
-    ensures valid { OnOk result (spec.IsAccount options.now × spec.IsStamp options.now) }
+    ensures good { OnOk result (AreGood Global options.now) }
     ensures account { IsErrOf result Fault.Account ↔ ¬ spec.IsAccount options.now }
-    ensures value { IsErrOf result Fault.Value → ¬ spec.IsStamp options.now }
-    ensures mailbox { IsErrOf result Fault.Mailbox → spec.texts_of options.now ≡ Err NoFromLine }
-    ensures mail { IsErrOf result Fault.Mail → IsRefused options.now.user.now options.now }
+    ensures fault { IfErr result (λ fault. IsFirstFault Global options.now fault ⊎ (fault ≡ Fault.Memory) ⊎ (AreGood Global options.now × IsOfRun fault)) }
     ensures untouched { IfErr result (λ fault. (fault ≢ Fault.Read) × (fault ≢ Fault.Write) × (fault ≢ Fault.Memory) → writer.new ≡ writer.old) }
 {
     let (user, accounts) = account_of(alloc, options)?;
@@ -127,12 +136,11 @@ pub fn lone_run<H: AllocGlobal + Eprint, R: Read, W: Write>(
     ensures written { result ≡ 0 → IfSome (R.remaining reader.old) (λ input. (written : List ℕ)
         × IsLoneSession Global options.now input written
         × Appends (W.contents writer.old) (W.contents writer.new) written) }
-    ensures valid { result ≡ 0 → spec.IsAccount options.now × spec.IsStamp options.now }
-    ensures invalid { result ≡ 2 → (¬ spec.IsAccount options.now) ⊎ (¬ spec.IsStamp options.now) ⊎ (spec.texts_of options.now ≡ Err NoFromLine) }
+
+    // Only a fault of the run itself has another status than the options bring.
+    ensures status { (result ≡ 1) ⊎ IsStatusOf Global options.now result }
     ensures refused { (¬ spec.IsAccount options.now) → result ≡ 2 }
-    ensures mail { result ≡ 3 → IsRefused options.now.user.now options.now }
     ensures untouched { (result ≡ 2) ⊎ (result ≡ 3) → writer.new ≡ writer.old }
-    ensures statuses { result ≤ 3 }
 {
     match run(rt.alloc(), reader, writer, options) {
         Ok(()) => 0,

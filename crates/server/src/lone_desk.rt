@@ -1,6 +1,7 @@
 //! The desk of a lone session: the office, and the tickets of what is asked.
-ghost use Rattle.std.specs.Prelude.{◌≡◌, ◌+◌, [], ◌∷◌, IfOk, IfSome, OnSome, IfNone};
-ghost use Rattle.maildrop.specs.Office.{new_user, outcome_in, users_after};
+ghost use Rattle.std.specs.Prelude.{◌≡◌, ◌+◌, [], ◌∷◌, Some, IfOk, IfSome, OnSome, IfNone};
+ghost use Rattle.maildrop.specs.Maildrop.{empty_maildrop};
+ghost use Rattle.maildrop.specs.Office.{new_user, outcome_in, users_after, maildrop_of, maildrop_after};
 ghost use Rattle.server.specs.Tickets.{ticket_of};
 
 use ballot::{Memory, NodeId};
@@ -18,6 +19,7 @@ impl<A: Allocator + Copy> LoneDesk<A> {
     /// The desk of one user, whose maildrop is empty.
     pub fn new(alloc: A, user: Name, limits: Limits) -> Result<Self, Memory>
         ensures office { IfOk result (λ desk. desk.office ≡ new_user limits user ∷ []) }
+        ensures maildrop { IfOk result (λ desk. maildrop_of user desk.office ≡ Some (empty_maildrop limits)) }
         ensures next { IfOk result (λ desk. desk.next ≡ 1) }
     {
         let office = Office::new(alloc, [user].as_slice(), limits)?;
@@ -32,6 +34,8 @@ impl<A: Allocator + Copy> LoneDesk<A> {
             ≡ outcome_in self.old.office (record { user = user; ticket = ticket_of self.old.next; op = op })) }
         ensures office { OnSome result (self.new.office
             ≡ users_after self.old.office (record { user = user; ticket = ticket_of self.old.next; op = op })) }
+        ensures own { OnSome result (maildrop_of user self.new.office
+            ≡ maildrop_after (maildrop_of user self.old.office) (record { user = user; ticket = ticket_of self.old.next; op = op })) }
         ensures next { OnSome result (self.new.next ≡ self.old.next + 1) }
         ensures unchanged { IfNone result (self.new ≡ self.old) }
     {

@@ -1,7 +1,11 @@
 //! The messages that are in a maildrop before its session.
-ghost use Rattle.std.specs.Prelude.{◌≡◌, ◌+◌, ◌⊎◌, ◌↔◌, true, false, [], ◌∷◌, length, Ok, Err, IfOk, OnOk, IfErr, IsErrOf};
+ghost use Rattle.std.specs.Prelude.{◌≡◌, ◌+◌, ◌⊎◌, ◌↔◌, true, false, [], ◌∷◌, length, None, Ok, Err, IfOk, OnOk, IfErr, IsErrOf};
 ghost use Rattle.mboxrd.specs.declared.error.MboxError.TheVariants.{NoFromLine};
-ghost use Rattle.server.specs.Lone.{mails_from, users_after_all, is_stored, are_stored};
+ghost use Rattle.maildrop.specs.Office.{maildrop_of, maildrop_after};
+ghost use Rattle.maildrop.specs.declared.op.Op.TheVariants.{Mail};
+ghost use Rattle.server.specs.Lone.{mails_from, is_stored, are_stored};
+ghost use Rattle.server.specs.Served.{users_after_all};
+ghost use Rattle.server.specs.Tickets.{ticket_of};
 ghost use Rattle.server.specs.Options.{texts_of as texts_in_options};
 
 use crate::fault::Fault;
@@ -29,16 +33,24 @@ pub(crate) fn texts_of(alloc: Global, options: &LoneOptions<'_>) -> Result<Vec<T
 
 /// Has a message stored.
 fn store(desk: &mut LoneDesk, user: Name, text: &Text) -> Result<(), Fault>
-    ensures stored { OnOk result (are_stored desk.old.office (mails_from desk.old.next user (text.now ∷ [])) ≡ true) }
+    ensures stored { OnOk result (are_stored (maildrop_of user desk.old.office) (mails_from desk.old.next user (text.now ∷ [])) ≡ true) }
     ensures office { OnOk result (desk.new.office ≡ users_after_all desk.old.office (mails_from desk.old.next user (text.now ∷ []))) }
+    ensures own { OnOk result (maildrop_of user desk.new.office
+        ≡ maildrop_after (maildrop_of user desk.old.office) (record { user = user; ticket = ticket_of desk.old.next; op = Mail text.now None })) }
     ensures next { OnOk result (desk.new.next ≡ desk.old.next + 1) }
-    ensures refused { IsErrOf result Fault.Mail → are_stored desk.old.office (mails_from desk.old.next user (text.now ∷ [])) ≡ false }
+    ensures refused { IsErrOf result Fault.Mail → are_stored (maildrop_of user desk.old.office) (mails_from desk.old.next user (text.now ∷ [])) ≡ false }
     ensures fault { IfErr result (λ fault. (fault ≡ Fault.Mail) ⊎ (fault ≡ Fault.Memory)) }
 {
     let Ok(copy) = text.copy() else {
         return Err(Fault::Memory);
     };
-    match desk.perform(user, Op::Mail(copy)) {
+    match desk.perform(
+        user,
+        Op::Mail {
+            text: copy,
+            key: None,
+        },
+    ) {
         Some((_, outcome)) => outcome_of(&outcome),
         None => Err(Fault::Memory),
     }
@@ -56,10 +68,10 @@ fn outcome_of(outcome: &Outcome) -> Result<(), Fault>
 
 /// Has the texts stored in order, up to the first that isn't.
 pub(crate) fn deliver(desk: &mut LoneDesk, user: Name, texts: &[Text]) -> Result<(), Fault>
-    ensures stored { OnOk result (are_stored desk.old.office (mails_from desk.old.next user texts.now) ≡ true) }
+    ensures stored { OnOk result (are_stored (maildrop_of user desk.old.office) (mails_from desk.old.next user texts.now) ≡ true) }
     ensures office { OnOk result (desk.new.office ≡ users_after_all desk.old.office (mails_from desk.old.next user texts.now)) }
     ensures next { OnOk result (desk.new.next ≡ desk.old.next + length texts.now) }
-    ensures refused { IsErrOf result Fault.Mail → are_stored desk.old.office (mails_from desk.old.next user texts.now) ≡ false }
+    ensures refused { IsErrOf result Fault.Mail → are_stored (maildrop_of user desk.old.office) (mails_from desk.old.next user texts.now) ≡ false }
     ensures fault { IfErr result (λ fault. (fault ≡ Fault.Mail) ⊎ (fault ≡ Fault.Memory)) }
 {
     let mut rest = texts;

@@ -16,7 +16,7 @@ fn mail_that_is_not_stored_is_refused(rt: HostRuntime) -> Result<(), Fail> {
     let mut desk = LoneDesk::new(alloc, alice, limits)?;
     let mut lines = Vec::new(alloc);
     lines.push(Items::from_bytes(alloc, b"Subject: x")?)?;
-    let text = Text::new(alloc, lines)?.ok_or("no text")?;
+    let text = Text::new(alloc, &lines)?.ok_or("no text")?;
     let texts = [text];
     assert_eq!(rt; deliver(&mut desk, alice, texts.as_slice()), Ok(()));
     assert_eq!(rt;

@@ -84,8 +84,8 @@ fn a_message_is_fetched_and_removed(rt: HostRuntime) -> Result<(), Fail> {
     lines.push(Items::from_bytes(alloc, b"Subject: x")?)?;
     lines.push(Items::from_bytes(alloc, b"")?)?;
     lines.push(Items::from_bytes(alloc, b".")?)?;
-    let text = Text::new(alloc, lines)?.ok_or("no text")?;
-    drop(desk.perform(alice()?, Op::Mail(text)));
+    let text = Text::new(alloc, &lines)?.ok_or("no text")?;
+    drop(desk.perform(alice()?, Op::Mail { text, key: None }));
     let mut output = Vec::new(alloc);
     let mut input: &[u8] = b"USER alice\r\nPASS s\r\nRETR 1\r\nDELE 1\r\nQUIT\r\n";
     let transcript = served(alloc, &mut input, &mut output, &mut desk)?;

@@ -6,10 +6,10 @@ use Rattle.apop.specs.Stamp.{Stamp}
 use Rattle.apop.specs.Accounts.{Account}
 use Rattle.pop3_wire.specs.Reply.{greeting}
 use Rattle.pop3_wire.specs.declared.line.Line.{Line}
-use Rattle.session.specs.Calls.{Call, HearLine, HearAnswer, Talk, said_by, asked_by, after_hearing, after_turn, after_call, talk_of, IsConversation}
+use Rattle.session.specs.Calls.{Call, HearLine, HearAnswer, Talk, said_by, asked_by, after_hearing, after_turn, after_call, talk_begun, talk_of, resumed, IsTalk, IsConversation}
 use Rattle.session.specs.Session.{opening, hears, awaits_answer, by_line, by_answer}
-use Rattle.session.specs.Conversation.{Answer, Request, Conversation, silence, with_reply, after_asked, conversation_from, conversation}
-use Rattle.session.specs.Dialogue.{with_front, IsSettled}
+use Rattle.session.specs.Conversation.{Answer, Request, Conversation, silence, with_reply, with_front, after_asked, conversation_from, conversation}
+use Rattle.session.specs.Dialogue.{IsSettled}
 use Rattle.session.specs.declared.state.State.{State}
 use Rattle.session.specs.declared.state.State.TheVariants.{Authorization, Locking, Transaction, Leaving, Closed, Spent}
 use Rattle.session.specs.declared.state.Step.{Step}
@@ -18,19 +18,6 @@ use Rattle.session.specs.declared.state.Turn.{Turn}
 use Rattle.session.proofs.Settled.{line_settles, answer_settles, heard_awaits}
 
 module _ {A : Type 0} where
-  -- how a conversation goes on: with the answer that is awaited, or with the next line
-  abbrev resumed : List Account → Stamp → ℕ → State A → List Line → List (Answer A) → Conversation A
-  resumed accounts stamp number state lines answers =
-      if awaits_answer state
-      then after_asked (conversation_from accounts stamp number lines) state answers
-      else conversation_from accounts stamp number lines state answers
-
-  -- what was said and asked so far, whatever comes
-  abbrev IsTalk : List Account → Stamp → Talk A → Type 0
-  IsTalk accounts stamp talk = (more : List Line) (others : List (Answer A))
-      → with_reply (greeting stamp.nonce stamp.host) (conversation_from accounts stamp 0 (talk.lines ++ more) opening (talk.answers ++ others))
-      ≡ with_front talk.replies talk.asked (resumed accounts stamp (length talk.lines) talk.state more others)
-
   fronted : (replies replies2 : List (List ℕ)) (asked asked2 : List (Request A)) (rest : Conversation A) → with_front replies asked (with_front replies2 asked2 rest) ≡ with_front (replies ++ replies2) (asked ++ asked2) rest
   fronted replies replies2 asked asked2 rest = rw (append_assoc replies replies2 rest.replies, append_assoc asked asked2 rest.asked) refl
 
@@ -81,24 +68,30 @@ module _ {A : Type 0} where
       let joined = is more (answer ∷ others) ∙ ap (with_front talk.replies talk.asked) said ∙ fronted talk.replies (said_by turn.step) talk.asked [] _ in
       rw (append_assoc talk.answers (answer ∷ []) others) (rw (append-nil talk.asked) at joined)
 
-  call-talk : (accounts : List Account) (stamp : Stamp) (talk : Talk A) (call : Call A) → IsTalk accounts stamp talk → IsTalk accounts stamp (after_call accounts stamp talk call)
-  call-talk accounts stamp talk (HearLine line) is = heard-talk accounts stamp talk line (hears talk.state) refl is
-  call-talk accounts stamp talk (HearAnswer answer) is = answered-talk accounts stamp talk answer (by_answer talk.state answer.ticket answer.outcome) refl is
+  -- one line more, or one answer more
+  pub call_talk : (accounts : List Account) (stamp : Stamp) (talk : Talk A) (call : Call A) → IsTalk accounts stamp talk → IsTalk accounts stamp (after_call accounts stamp talk call)
+  call_talk accounts stamp talk (HearLine line) is = heard-talk accounts stamp talk line (hears talk.state) refl is
+  call_talk accounts stamp talk (HearAnswer answer) is = answered-talk accounts stamp talk answer (by_answer talk.state answer.ticket answer.outcome) refl is
 
   calls-talk : (accounts : List Account) (stamp : Stamp) (calls : List (Call A)) (talk : Talk A) → IsTalk accounts stamp talk → IsTalk accounts stamp (fold (after_call accounts stamp) talk calls)
   calls-talk accounts stamp [] talk is = is
-  calls-talk accounts stamp (call ∷ calls) talk is = calls-talk accounts stamp calls (after_call accounts stamp talk call) (call-talk accounts stamp talk call is)
+  calls-talk accounts stamp (call ∷ calls) talk is = calls-talk accounts stamp calls (after_call accounts stamp talk call) (call_talk accounts stamp talk call is)
 
   resumed-silence : (accounts : List Account) (stamp : Stamp) (number : ℕ) (state : State A) (waits : Bool) → awaits_answer state ≡ waits → resumed accounts stamp number state [] [] ≡ silence state
   resumed-silence accounts stamp number state true waits = rw waits refl
   resumed-silence accounts stamp number state false waits = rw waits refl
 
-  pub calls_converse : (accounts : List Account) (stamp : Stamp) (calls : List (Call A)) → IsConversation accounts stamp calls
-  calls_converse accounts stamp calls =
-      let talk = talk_of accounts stamp calls in
-      let start : Talk A = record { state = opening; lines = []; answers = []; replies = greeting stamp.nonce stamp.host ∷ []; asked = [] } in
-      let begun : IsTalk accounts stamp start = λ more others. refl in
-      let whole = calls-talk accounts stamp calls start begun [] [] in
+  -- before any call
+  pub begun_talk : (accounts : List Account) (stamp : Stamp) → IsTalk {A = A} accounts stamp (talk_begun stamp)
+  begun_talk accounts stamp more others = refl
+
+  -- what is true whatever comes is true where nothing comes
+  pub talk_conversation : (accounts : List Account) (stamp : Stamp) (talk : Talk A) → IsTalk accounts stamp talk → conversation accounts stamp talk.lines talk.answers ≡ record { replies = talk.replies; asked = talk.asked; state = talk.state }
+  talk_conversation accounts stamp talk is =
+      let whole = is [] [] in
       let ended : with_front talk.replies talk.asked (resumed accounts stamp (length talk.lines) talk.state [] []) ≡ record { replies = talk.replies; asked = talk.asked; state = talk.state } =
       ap (with_front talk.replies talk.asked) (resumed-silence accounts stamp (length talk.lines) talk.state (awaits_answer talk.state) refl) ∙ rw (append-nil, append-nil) refl in
       (rw (append-nil, append-nil) at whole) ∙ ended
+
+  pub calls_converse : (accounts : List Account) (stamp : Stamp) (calls : List (Call A)) → IsConversation accounts stamp calls
+  calls_converse accounts stamp calls = talk_conversation accounts stamp (talk_of accounts stamp calls) (calls-talk accounts stamp calls (talk_begun stamp) (begun_talk accounts stamp))

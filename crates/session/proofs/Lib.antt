@@ -10,3 +10,6 @@ pub mod Served
 pub mod Closing
 pub mod Longer
 pub mod Calls
+pub mod KeptLines
+pub mod Users
+pub mod LineFronts

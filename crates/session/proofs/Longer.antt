@@ -19,7 +19,7 @@ use Rattle.session.specs.declared.state.Step.{Step}
 use Rattle.session.specs.declared.state.Step.TheVariants.{Say, Ask, SayAndClose}
 use Rattle.session.specs.declared.state.Turn.{Turn}
 
-prefix_cons : {T : Type 0} (x : T) (xs ys : List T) → IsPrefix xs ys → IsPrefix (x ∷ xs) (x ∷ ys)
+pub prefix_cons : {T : Type 0} (x : T) (xs ys : List T) → IsPrefix xs ys → IsPrefix (x ∷ xs) (x ∷ ys)
 prefix_cons x xs ys front = (front.0, ap (λ zs. x ∷ zs) front.1)
 
 -- the replies of the second way to go on begin with those of the first, whatever answers come behind
@@ -63,7 +63,7 @@ module _ {A : Type 0} where
   conversation_longer accounts stamp lines more answers others = prefix_cons (greeting stamp.nonce stamp.host) _ _ (lines-longer accounts stamp 0 lines more others opening answers)
 
   -- an outcome stays when more of the user's commands are decided
-  outcome-stays : (maildrop : Option (Maildrop A)) (ticket : Ticket) (own more : List (Command A)) (outcome : Outcome A) → outcome_of maildrop ticket own ≡ Some outcome → outcome_of maildrop ticket (own ++ more) ≡ Some outcome
+  pub outcome-stays : (maildrop : Option (Maildrop A)) (ticket : Ticket) (own more : List (Command A)) (outcome : Outcome A) → outcome_of maildrop ticket own ≡ Some outcome → outcome_of maildrop ticket (own ++ more) ≡ Some outcome
   outcome-stays maildrop ticket [] more outcome found = absurd (cc)
   outcome-stays maildrop ticket (c ∷ cs) more outcome found = elim (cases_Bool (same_ticket c.ticket ticket)) [
     | inl same ↦ rw same (rw same at found)
@@ -74,7 +74,7 @@ module _ {A : Type 0} where
   answer-stays ticket None later answers answers2 stays front = (_, refl)
   answer-stays ticket (Some outcome) later answers answers2 stays front = rw (stays outcome refl) (prefix_cons (record { ticket = ticket; outcome = outcome }) answers answers2 front)
 
-  answers-longer : (maildrop : Option (Maildrop A)) (own decided : List (Command A)) (tickets others : List Ticket) → IsPrefix (answers_for maildrop own tickets) (answers_for maildrop (own ++ decided) (tickets ++ others))
+  pub answers-longer : (maildrop : Option (Maildrop A)) (own decided : List (Command A)) (tickets others : List Ticket) → IsPrefix (answers_for maildrop own tickets) (answers_for maildrop (own ++ decided) (tickets ++ others))
   answers-longer maildrop own decided [] others = (_, refl)
   answers-longer maildrop own decided (ticket ∷ tickets) others =
       answer-stays ticket (outcome_of maildrop ticket own) (outcome_of maildrop ticket (own ++ decided)) _ _ (λ outcome. outcome-stays maildrop ticket own decided outcome) (answers-longer maildrop own decided tickets others)

@@ -1,6 +1,7 @@
 -- A session that is being served, from one place to another.
-use Rattle.std.proofs.Common.{◌≡◌, ◌≢◌, ◌⊎◌, ℕ, zero, suc, ◌+◌, ◌≤◌, Bool, true, false, List, [], ◌∷◌, ◌++◌, length, take, drop, Option, Some, None, refl, ap, sym, ◌∙◌, append_assoc, append-nil, arith, inl, inr, subst, rules}
+use Rattle.std.proofs.Common.{◌≡◌, ◌⊎◌, ℕ, zero, suc, ◌+◌, ◌<◌, ◌≤◌, Bool, true, false, List, [], ◌∷◌, ◌++◌, length, take, drop, Option, Some, None, refl, ap, sym, ◌∙◌, append_assoc, append-nil, arith, inl, inr, subst, rules}
 use Rattle.std.specs.List.{concat}
+use Rattle.std.proofs.lemmas.Bool.{cases_Bool}
 use Rattle.std.proofs.lemmas.List.{length-append, take-append-drop}
 use Rattle.std.proofs.lemmas.List.Folds.{concat-append}
 use Rattle.apop.specs.Stamp.{Stamp}
@@ -10,14 +11,16 @@ use Rattle.session.specs.Prefix.{IsPrefix}
 use Rattle.session.specs.Desks.{Given}
 use Rattle.session.specs.Session.{hears, awaits_answer, lock_due}
 use Rattle.session.specs.Conversation.{conversation_from}
-use Rattle.session.specs.Transcript.{answers_of, requests_of, IsHistory}
+use Rattle.session.specs.Transcript.{answers_of, requests_of, AreAnswered, IsHistory}
 use Rattle.session.specs.declared.state.State.{State}
 use Rattle.session.specs.declared.state.State.TheVariants as state
+use Rattle.session.specs.declared.dialogue.Saying.{Saying}
 use Rattle.session.specs.declared.transcript.Asked.{Asked}
 use Rattle.session.specs.declared.transcript.End.{End}
 use Rattle.session.specs.declared.transcript.End.TheVariants as end
-use Rattle.session.specs.Dialogue.{Place, IsPart, IsRun, IsStop, IsHeard}
-use Rattle.session.proofs.Parts.{part_join, part_ends, part_then, history_join, answered_join}
+use Rattle.session.specs.Serve.{IsLeftBy, IsWrittenBy, EndsUnanswered, AreAnsweredAt}
+use Rattle.session.specs.Dialogue.{Place, step_of, IsSettled, IsPart, IsRun, IsStop, IsHeard}
+use Rattle.session.proofs.Parts.{part_join, part_ends, part_then, heard_behind, answers_append, history_join, answered_join}
 use Rattle.session.proofs.Settled.{heard_awaits}
 
 pub take_whole : (n : ℕ) (xs : List ℕ) → length xs ≤ n → take n xs ≡ xs
@@ -45,6 +48,19 @@ numbered old middle more grown = ap length grown ∙ length-append old more
 concats : (replies replies2 : List (List ℕ)) (xs ys : List ℕ) → xs ≡ concat replies → ys ≡ concat replies2 → xs ++ ys ≡ concat (replies ++ replies2)
 concats replies replies2 xs ys first second = ap (λ bytes. bytes ++ ys) first ∙ ap (λ bytes. concat replies ++ bytes) second ∙ sym (concat-append replies replies2)
 
+-- what is written behind what was written before
+written_behind : (ended : End) (front said written : List ℕ) → IsWrittenBy ended said written → IsWrittenBy ended (front ++ said) (front ++ written)
+written_behind end.Closed front said written all = ap (λ bytes. front ++ bytes) all
+written_behind end.HungUp front said written all = ap (λ bytes. front ++ bytes) all
+written_behind end.ReadFault front said written all = ap (λ bytes. front ++ bytes) all
+written_behind end.WriteFault front said written less = (prefix_behind front written said less.0, omega (arith, length-append front written, length-append front said, less.1))
+written_behind end.DeskStopped front said written all = ap (λ bytes. front ++ bytes) all
+written_behind end.Memory front said written some = prefix_behind front written said some
+
+pub written_after : (ended : End) (replies replies2 : List (List ℕ)) (written written2 : List ℕ) → written ≡ concat replies → IsWrittenBy ended (concat replies2) written2 → IsWrittenBy ended (concat (replies ++ replies2)) (written ++ written2)
+written_after ended replies replies2 written written2 before behind =
+    rw (before, concat-append replies replies2) (written_behind ended (concat replies) (concat replies2) written2 behind)
+
 module _ {A : Type 0} where
   pub run_join : {D : Type 0} (accounts : List Account) (stamp : Stamp) (gives : D → Given A → D → Type 0) (old middle new : Place A D) (lines lines2 : List Line) (written written2 : List ℕ)
       → IsRun accounts stamp gives old middle lines written → IsRun accounts stamp gives middle new lines2 written2
@@ -60,8 +76,27 @@ module _ {A : Type 0} where
     counted = counts old.count middle.count new.count written written2 run.counted run2.counted;
     given = history_join gives run.entries run2.entries old.desk middle.desk new.desk run.given run2.given;
     answered = answered_join run.entries run2.entries run.answered run2.answered;
+    same_stamp = run2.same_stamp;
     hears = run2.hears;
+    room = run2.room;
   }
+
+  -- what was answered before stands before what is answered or not
+  answered_behind : (ended : End) (last : State A) (front entries : List (Asked A)) → AreAnswered front → AreAnsweredAt ended last entries → AreAnsweredAt ended last (front ++ entries)
+  answered_behind end.Closed last front entries before answered = answered_join front entries before answered
+  answered_behind end.HungUp last front entries before answered = answered_join front entries before answered
+  answered_behind end.ReadFault last front entries before answered = answered_join front entries before answered
+  answered_behind end.WriteFault last front entries before answered = answered_join front entries before answered
+  answered_behind end.DeskStopped last front entries before unanswered = record {
+    front = front ++ unanswered.front;
+    last = unanswered.last;
+    in_order = ap (λ entries. front ++ entries) unanswered.in_order ∙ sym (append_assoc front unanswered.front (unanswered.last ∷ []));
+    answered = answered_join front unanswered.front before unanswered.answered;
+    line = unanswered.line;
+    asked_by = unanswered.asked_by;
+    unfit = unanswered.unfit;
+  }
+  answered_behind end.Memory last front entries before answered = answered_join front entries before answered
 
   pub run_stop : {D : Type 0} (accounts : List Account) (stamp : Stamp) (gives : D → Given A → D → Type 0) (old middle new : Place A D) (lines lines2 : List Line) (ended : End) (written written2 : List ℕ)
       → IsRun accounts stamp gives old middle lines written → IsStop accounts stamp gives middle new lines2 ended written2
@@ -73,55 +108,66 @@ module _ {A : Type 0} where
     last = stop.last;
     talk = part_then accounts stamp (length old.lines) old.state middle.state stop.last lines stop.front run.entries stop.entries run.replies stop.replies run.part
         (subst (λ number. conversation_from accounts stamp number stop.front middle.state (answers_of stop.entries) ≡ record { replies = stop.replies; asked = requests_of stop.entries; state = stop.last }) (numbered old.lines middle.lines lines run.heard) stop.talk);
+    each_heard = λ n few.
+        let behind = subst (λ number. (n : ℕ) → n < length stop.front → hears (conversation_from accounts stamp number (take n stop.front) middle.state (answers_of stop.entries)).state ≡ true) (numbered old.lines middle.lines lines run.heard) stop.each_heard in
+        rw (answers_append run.entries stop.entries) (heard_behind accounts stamp (length old.lines) old.state middle.state lines stop.front run.entries run.replies (answers_of stop.entries) run.part behind n few);
     front_of = prefix_behind lines stop.front lines2 stop.front_of;
     heard = grows old.lines middle.lines new.lines lines stop.front run.heard stop.heard;
     asked = grows old.asked middle.asked new.asked run.entries stop.entries run.asked stop.asked;
-    said =
-        let behind = prefix_behind (concat run.replies) written2 (concat stop.replies) stop.said in
-        subst (λ bytes. IsPrefix bytes (concat (run.replies ++ stop.replies))) (ap (λ bytes. bytes ++ written2) (sym run.said))
-        (subst (λ bytes. IsPrefix (concat run.replies ++ written2) bytes) (sym (concat-append run.replies stop.replies)) behind);
-    said_all = λ closed. concats run.replies stop.replies written written2 run.said (stop.said_all closed);
+    said = written_after ended run.replies stop.replies written written2 run.said stop.said;
     counted = counts old.count middle.count new.count written written2 run.counted stop.counted;
     given = history_join gives run.entries stop.entries old.desk middle.desk new.desk run.given stop.given;
-    answered = elim stop.answered [
-      | inl stopped ↦ inl stopped
-      | inr answered ↦ inr (answered_join run.entries stop.entries run.answered answered)
-    ];
-    closed = stop.closed;
+    answered = answered_behind ended stop.last run.entries stop.entries run.answered stop.answered;
+    left = stop.left;
     due = stop.due;
-    undue = stop.undue;
+    room = stop.room;
   }
 
-  -- a session that would go on, and stops all the same
+  -- a session that would go on, and stops since its input ends or fails
   pub run_ends : {D : Type 0} (accounts : List Account) (stamp : Stamp) (gives : D → Given A → D → Type 0) (old new : Place A D) (lines : List Line) (ended : End) (written : List ℕ)
-      → IsRun accounts stamp gives old new lines written → ended ≢ end.DeskStopped → ended ≢ end.Closed → IsStop accounts stamp gives old new lines ended written
-  run_ends accounts stamp gives old new lines ended written run served unclosed = record {
+      → IsRun accounts stamp gives old new lines written → (ended ≡ end.HungUp) ⊎ (ended ≡ end.ReadFault) → IsStop accounts stamp gives old new lines ended written
+  run_ends accounts stamp gives old new lines ended written run over = record {
     entries = run.entries;
     replies = run.replies;
     front = lines;
     last = new.state;
     talk = part_ends accounts stamp (length old.lines) old.state new.state lines run.entries run.replies run.part;
+    each_heard = λ n few.
+        let heard = run.part.each_heard n [] few in
+        rw (append-nil (answers_of run.entries)) at heard;
     front_of = ([], append-nil lines);
     heard = run.heard;
     asked = run.asked;
-    said = ([], append-nil written ∙ run.said);
-    said_all = λ closed. run.said;
+    said = elim over [
+      | inl hung_up ↦ rw hung_up run.said
+      | inr fault ↦ rw fault run.said
+    ];
     counted = run.counted;
     given = run.given;
-    answered = inr run.answered;
-    closed = λ over. absurd (unclosed over);
-    due = inr (refl, heard_awaits new.state run.hears);
-    undue = λ stopped. absurd (served stopped);
+    answered = elim over [
+      | inl hung_up ↦ rw hung_up run.answered
+      | inr fault ↦ rw fault run.answered
+    ];
+    left = elim over [
+      | inl hung_up ↦ rw hung_up run.hears
+      | inr fault ↦ rw fault run.hears
+    ];
+    due = refl;
+    room = run.room;
   }
 
   -- nothing has happened yet
-  pub run_none : {D : Type 0} (accounts : List Account) (stamp : Stamp) (gives : D → Given A → D → Type 0) (old : Place A D) → hears old.state ≡ true → IsRun accounts stamp gives old old [] []
-  run_none accounts stamp gives old hearing = record {
+  pub run_none : {D : Type 0} (accounts : List Account) (stamp : Stamp) (gives : D → Given A → D → Type 0) (old : Place A D) → hears old.state ≡ true → old.stamp ≡ stamp → 0 < old.room → IsRun accounts stamp gives old old [] []
+  run_none accounts stamp gives old hearing same room = record {
     entries = [];
     replies = [];
     part =
         let counted : length old.lines + 0 ≡ length old.lines = omega arith in
-        record { follows = λ more answers. ap (λ number. conversation_from accounts stamp number more old.state answers) (sym counted) };
+        record {
+          follows = λ more answers. ap (λ number. conversation_from accounts stamp number more old.state answers) (sym counted);
+          each_heard = λ n answers few. absurd (omega (arith, few));
+        };
+    same_stamp = same;
     heard = sym (append-nil old.lines);
     asked = sym (append-nil old.asked);
     said = refl;
@@ -129,68 +175,87 @@ module _ {A : Type 0} where
     given = refl;
     answered = tt;
     hears = hearing;
+    room = room;
   }
 
   abbrev with_count : {D : Type 0} → ℕ → Place A D → Place A D
   with_count count place = record place { count = count }
 
-  -- a line was heard, and what was said to it is written
-  pub heard_run : {D : Type 0} (accounts : List Account) (stamp : Stamp) (gives : D → Given A → D → Type 0) (old heard new : Place A D) (line : Line) (said : List ℕ)
-      → IsHeard accounts stamp gives old heard line said → new ≡ with_count (heard.count + length said) heard → hears heard.state ≡ true
-      → IsRun accounts stamp gives old new (line ∷ []) said
-  heard_run accounts stamp gives old heard new line said hearing is goes_on = rw is (record {
-    entries = hearing.entries;
-    replies = said ∷ [];
-    part = hearing.part;
-    heard = hearing.heard;
-    asked = hearing.asked;
-    said = sym (append-nil said);
-    counted = omega (arith, hearing.counted);
-    given = hearing.given;
-    answered = hearing.answered;
-    hears = goes_on;
-  })
+  -- where what is said closes the session or doesn't
+  goes_on : (saying : Saying A) (last : State A) → IsSettled (step_of saying) last → saying.closes ≡ false → hears last ≡ true
+  goes_on saying last settled closes = rw closes at settled
 
-  -- or a front of it, or the session is over
-  pub heard_stop : {D : Type 0} (accounts : List Account) (stamp : Stamp) (gives : D → Given A → D → Type 0) (old heard new : Place A D) (line : Line) (said written : List ℕ) (ended : End)
-      → IsHeard accounts stamp gives old heard line said → new ≡ with_count (heard.count + length written) heard
-      → IsPrefix written said → ((ended ≡ end.Closed) ⊎ (ended ≡ end.HungUp) → written ≡ said) → ended ≢ end.DeskStopped → awaits_answer heard.state ≡ false → (ended ≡ end.Closed → heard.state ≡ state.Closed)
+  closed : (saying : Saying A) (last : State A) → IsSettled (step_of saying) last → saying.closes ≡ true → last ≡ state.Closed
+  closed saying last settled closes = rw closes at settled
+
+  settled : (saying : Saying A) (last : State A) → IsSettled (step_of saying) last → awaits_answer last ≡ false
+  settled saying last is = elim (cases_Bool saying.closes) [
+    | inl closes ↦ ap awaits_answer (closed saying last is closes)
+    | inr goes ↦ heard_awaits last (goes_on saying last is goes)
+  ]
+
+  -- a line was heard, and what was said to it is written
+  pub written_run : {D : Type 0} (accounts : List Account) (stamp : Stamp) (gives : D → Given A → D → Type 0) (old heard new : Place A D) (line : Line) (saying : Saying A) (sent : ℕ)
+      → IsHeard accounts stamp gives old heard line saying → new ≡ with_count (heard.count + sent) heard → sent ≤ length saying.bytes → length saying.bytes ≤ sent → saying.closes ≡ false
+      → IsRun accounts stamp gives old new (line ∷ []) (take sent saying.bytes)
+  written_run accounts stamp gives old heard new line saying sent hearing is few all goes =
+      let count : sent ≡ length saying.bytes = omega (arith, few, all) in
+      rw (is, take_whole sent saying.bytes all) (record {
+        entries = hearing.entries;
+        replies = saying.bytes ∷ [];
+        part = hearing.part;
+        same_stamp = hearing.same_stamp;
+        heard = hearing.heard;
+        asked = hearing.asked;
+        said = sym (append-nil saying.bytes);
+        counted = omega (arith, hearing.count, count);
+        given = hearing.given;
+        answered = hearing.answered;
+        hears = goes_on saying heard.state hearing.settled goes;
+        room = hearing.room;
+      })
+
+  -- one line was heard, and the session stops then, with this of what it says written
+  heard_stop : {D : Type 0} (accounts : List Account) (stamp : Stamp) (gives : D → Given A → D → Type 0) (old heard new : Place A D) (line : Line) (saying : Saying A) (written : List ℕ) (ended : End)
+      → (hearing : IsHeard accounts stamp gives old heard line saying) → new ≡ with_count (heard.count + length written) heard
+      → IsWrittenBy ended (saying.bytes ++ []) written → AreAnsweredAt ended heard.state hearing.entries → IsLeftBy ended heard.state
       → IsStop accounts stamp gives old new (line ∷ []) ended written
-  heard_stop accounts stamp gives old heard new line said written ended hearing is front all served settled closed = rw is (record {
+  heard_stop accounts stamp gives old heard new line saying written ended hearing is said answered left = rw is (record {
     entries = hearing.entries;
-    replies = said ∷ [];
+    replies = saying.bytes ∷ [];
     front = line ∷ [];
     last = heard.state;
-    talk = part_ends accounts stamp (length old.lines) old.state heard.state (line ∷ []) hearing.entries (said ∷ []) hearing.part;
+    talk = part_ends accounts stamp (length old.lines) old.state heard.state (line ∷ []) hearing.entries (saying.bytes ∷ []) hearing.part;
+    each_heard = λ n few.
+        let heard = hearing.part.each_heard n [] few in
+        rw (append-nil (answers_of hearing.entries)) at heard;
     front_of = ([], refl);
     heard = hearing.heard;
     asked = hearing.asked;
-    said = (front.0, front.1 ∙ sym (append-nil said));
-    said_all = λ closed. all closed ∙ sym (append-nil said);
-    counted = omega (arith, hearing.counted);
+    said = said;
+    counted = omega (arith, hearing.count);
     given = hearing.given;
-    answered = inr hearing.answered;
-    closed = closed;
-    due = inr (refl, settled);
-    undue = λ stopped. absurd (served stopped);
+    answered = answered;
+    left = left;
+    due = refl;
+    room = hearing.room;
   })
 
-  settled : (last : State A) (closes : Bool) → (closes ≡ false → hears last ≡ true) → (closes ≡ true → last ≡ state.Closed) → awaits_answer last ≡ false
-  settled last false goes_on closed = heard_awaits last (goes_on refl)
-  settled last true goes_on closed = ap awaits_answer (closed refl)
+  -- the session closed itself, and all was written
+  pub closed_stop : {D : Type 0} (accounts : List Account) (stamp : Stamp) (gives : D → Given A → D → Type 0) (old heard new : Place A D) (line : Line) (saying : Saying A) (sent : ℕ)
+      → IsHeard accounts stamp gives old heard line saying → new ≡ with_count (heard.count + sent) heard → sent ≤ length saying.bytes → length saying.bytes ≤ sent → saying.closes ≡ true
+      → IsStop accounts stamp gives old new (line ∷ []) end.Closed (take sent saying.bytes)
+  closed_stop accounts stamp gives old heard new line saying sent hearing is few all closes =
+      let count : sent ≡ length saying.bytes = omega (arith, few, all) in
+      rw (take_whole sent saying.bytes all)
+      (heard_stop accounts stamp gives old heard new line saying saying.bytes end.Closed hearing (rw (← count) is) (sym (append-nil saying.bytes)) hearing.answered (closed saying heard.state hearing.settled closes))
 
-  -- what is said is written as far as the writer takes it
-  pub written_run : {D : Type 0} (accounts : List Account) (stamp : Stamp) (gives : D → Given A → D → Type 0) (old heard new : Place A D) (line : Line) (said : List ℕ) (sent : ℕ)
-      → IsHeard accounts stamp gives old heard line said → new ≡ with_count (heard.count + sent) heard → sent ≤ length said → length said ≤ sent → hears heard.state ≡ true
-      → IsRun accounts stamp gives old new (line ∷ []) (take sent said)
-  written_run accounts stamp gives old heard new line said sent hearing is few all goes_on =
-      let count : sent ≡ length said = omega (arith, few, all) in
-      rw (take_whole sent said all) (heard_run accounts stamp gives old heard new line said hearing (rw (← count) is) goes_on)
-
-  pub written_stop : {D : Type 0} (accounts : List Account) (stamp : Stamp) (gives : D → Given A → D → Type 0) (old heard new : Place A D) (line : Line) (said : List ℕ) (sent : ℕ) (ended : End) (closes : Bool)
-      → IsHeard accounts stamp gives old heard line said → new ≡ with_count (heard.count + sent) heard → sent ≤ length said → ((ended ≡ end.Closed) ⊎ (ended ≡ end.HungUp) → length said ≤ sent) → ended ≢ end.DeskStopped
-      → (closes ≡ false → hears heard.state ≡ true) → (closes ≡ true → heard.state ≡ state.Closed) → (ended ≡ end.Closed → closes ≡ true)
-      → IsStop accounts stamp gives old new (line ∷ []) ended (take sent said)
-  written_stop accounts stamp gives old heard new line said sent ended closes hearing is few all served goes_on closed over =
-      let count : length (take sent said) ≡ sent = length_taken sent said few in
-      heard_stop accounts stamp gives old heard new line said (take sent said) ended hearing (rw count is) (drop sent said, take-append-drop sent said) (λ over. take_whole sent said (all over)) served (settled heard.state closes goes_on closed) (λ end. closed (over end))
+  -- less than all was written
+  pub unwritten_stop : {D : Type 0} (accounts : List Account) (stamp : Stamp) (gives : D → Given A → D → Type 0) (old heard new : Place A D) (line : Line) (saying : Saying A) (sent : ℕ)
+      → IsHeard accounts stamp gives old heard line saying → new ≡ with_count (heard.count + sent) heard → sent < length saying.bytes
+      → IsStop accounts stamp gives old new (line ∷ []) end.WriteFault (take sent saying.bytes)
+  unwritten_stop accounts stamp gives old heard new line saying sent hearing is less =
+      let count : length (take sent saying.bytes) ≡ sent = length_taken sent saying.bytes (omega (arith, less)) in
+      heard_stop accounts stamp gives old heard new line saying (take sent saying.bytes) end.WriteFault hearing (rw count is)
+      (rw (append-nil saying.bytes) ((drop sent saying.bytes, take-append-drop sent saying.bytes), omega (arith, less, count)))
+      hearing.answered (settled saying heard.state hearing.settled)

@@ -1,5 +1,5 @@
 -- The transcript of a session that was served.
-use Rattle.std.proofs.Common.{◌≡◌, ◌≢◌, ◌⊎◌, ℕ, List, [], ◌∷◌, ◌++◌, length, Option, Some, None, refl, ap, sym, ◌∙◌, append-nil, inl, inr, subst}
+use Rattle.std.proofs.Common.{◌≡◌, ◌⊎◌, ℕ, ◌<◌, true, List, [], ◌∷◌, ◌++◌, length, take, Option, Some, None, refl, ap, sym, ◌∙◌, append-nil, arith, inl, inr, subst}
 use Rattle.std.specs.List.{concat}
 use Rattle.std.specs.Io.KnownBytes.{Appends, Consumes, IsAtEnd}
 use Rattle.maildrop.specs.Ticket.{Ticket}
@@ -9,19 +9,16 @@ use Rattle.apop.specs.Stamp.{Stamp}
 use Rattle.apop.specs.Accounts.{Account}
 use Rattle.pop3_wire.specs.Lines.{lines_of}
 use Rattle.pop3_wire.specs.Reply.{greeting}
-use Rattle.pop3_wire.specs.declared.line.Line.{Line}
-use Rattle.session.specs.Prefix.{IsPrefix}
 use Rattle.session.specs.Desks.{Given}
-use Rattle.session.specs.Session.{free_of, lock_due}
+use Rattle.session.specs.Session.{hears, free_of, lock_due}
 use Rattle.session.specs.Conversation.{Conversation, conversation}
 use Rattle.session.specs.Transcript.{answer_by, answers_of, requests_of, IsHistory}
-use Rattle.session.specs.Serve.{IsFreed, IsServed, told}
-use Rattle.session.specs.declared.state.State.TheVariants as state
+use Rattle.session.specs.Serve.{IsFreed, IsLeftBy, IsWrittenBy, AreAnsweredAt, IsTranscript, IsReadAndWritten, nothing, told}
 use Rattle.session.specs.declared.transcript.Asked.{Asked}
 use Rattle.session.specs.declared.transcript.Transcript.{Transcript}
 use Rattle.session.specs.declared.transcript.End.{End}
 use Rattle.session.specs.declared.transcript.End.TheVariants as end
-use Rattle.session.specs.Dialogue.{Place, IsEnded, IsConversed, IsHungUp}
+use Rattle.session.specs.Dialogue.{Place, IsConversed, IsHungUp}
 use Rattle.session.proofs.Parts.{answers_append, history_join}
 use Rattle.session.proofs.Streams.{appends_none, consumes_none}
 
@@ -36,107 +33,81 @@ module _ {A : Type 0} where
   unanswered (Some free) [] freed = refl
   unanswered (Some free) (entry ∷ entries) freed = rw (no-answer entry.ticket entry.outcome freed.3, freed.4) refl
 
-  -- nor is anything behind a desk that has stopped
-  hung-answers : {D : Type 0} (gives : D → Given A → D → Type 0) (old new : Place A D) (ended after : End) (hung : IsHungUp gives old new ended after) → answers_of hung.hangup ≡ []
-  hung-answers gives old new ended after hung = elim hung.freed [
-    | inl same ↦ elim same.1 [
-      | inl stopped ↦ rw stopped.1 refl
-      | inr freed ↦ unanswered (free_of (lock_due old.state)) hung.hangup freed.1
-    ]
-    | inr full ↦ rw full.1 refl
-  ]
+  -- the transcript of what is kept
+  abbrev pub IsKeptIn : {D : Type 0} → Stamp → Place A D → End → Transcript A → Type 0
+  IsKeptIn stamp new ended transcript = transcript ≡ record { greeting = greeting stamp.nonce stamp.host; lines = new.lines; asked = new.asked; count = new.count; end = ended }
 
-  -- the end stays, or it is want of memory
-  same-end : {D : Type 0} (gives : D → Given A → D → Type 0) (old new : Place A D) (ended after wanted : End) → IsHungUp gives old new ended after → after ≡ wanted → wanted ≢ end.Memory → ended ≡ wanted
-  same-end gives old new ended after wanted hung is other = elim hung.freed [
-    | inl same ↦ sym same.0 ∙ is
-    | inr full ↦ absurd (other (sym is ∙ full.0))
-  ]
+  -- a hangup adds no answer
+  answers-kept : {D : Type 0} (gives : D → Given A → D → Type 0) (old new : Place A D) → IsHungUp gives old new → answers_of new.asked ≡ answers_of old.asked
+  answers-kept gives old new hung =
+      ap answers_of hung.asked ∙ answers_append old.asked hung.hangup ∙ ap (λ more. answers_of old.asked ++ more) (unanswered (free_of (lock_due old.state)) hung.hangup hung.freed) ∙ append-nil (answers_of old.asked)
 
-  pub served : {D : Type 0} (accounts : List Account) (stamp : Stamp) (gives : D → Given A → D → Type 0) (before : D) (old new : Place A D) (ended after : End) (remaining remaining2 contents contents2 : Option (List ℕ)) (transcript : Transcript A)
-      → IsConversed accounts stamp gives before old ended remaining remaining2 contents contents2 → IsHungUp gives old new ended after
-      → transcript ≡ record { greeting = greeting stamp.nonce stamp.host; lines = new.lines; asked = new.asked; count = new.count; end = after }
-      → (read : List ℕ) × (written : List ℕ) × Consumes remaining remaining2 read × Appends contents contents2 written × IsServed gives accounts stamp before new.desk read written transcript
-  served accounts stamp gives before old new ended after remaining remaining2 contents contents2 transcript conversed hung is =
+  pub transcribed : {D : Type 0} (accounts : List Account) (stamp : Stamp) (gives : D → Given A → D → Type 0) (before : D) (old new : Place A D) (ended : End) (remaining remaining2 contents contents2 : Option (List ℕ)) (transcript : Transcript A)
+      → IsConversed accounts stamp gives before old ended remaining remaining2 contents contents2 → IsHungUp gives old new → IsKeptIn stamp new ended transcript
+      → IsTranscript accounts stamp transcript
+  transcribed accounts stamp gives before old new ended remaining remaining2 contents contents2 transcript conversed hung is =
       let talk = conversed.talk in
-      let answers : answers_of new.asked ≡ answers_of old.asked =
-      ap answers_of hung.asked ∙ answers_append old.asked hung.hangup ∙ ap (λ more. answers_of old.asked ++ more) (hung-answers gives old new ended after hung) ∙ append-nil (answers_of old.asked) in
-      let same : conversation accounts stamp new.lines (answers_of new.asked) ≡ record { replies = talk.replies; asked = requests_of old.asked; state = talk.last } =
-      rw (answers, hung.lines) talk.talk in (
-        conversed.read,
-        conversed.written,
-        conversed.consumed,
-        conversed.appended,
-        rw is (record {
-          greeted = inl refl;
-          heard = λ more. rw hung.lines (talk.heard more);
-          heard_all = λ hung_up. hung.lines ∙ talk.heard_all (same-end gives old new ended after end.HungUp hung hung_up (λ e. absurd (cc)));
-          counted = hung.count ∙ talk.counted;
-          said = subst (λ (c : Conversation A). IsPrefix conversed.written (concat c.replies)) (sym same) talk.said;
-          said_all = λ over. subst (λ (c : Conversation A). conversed.written ≡ concat c.replies) (sym same) (talk.said_all (elim over [
-            | inl closed ↦ inl (same-end gives old new ended after end.Closed hung closed (λ e. absurd (cc)))
-            | inr hung_up ↦ inr (same-end gives old new ended after end.HungUp hung hung_up (λ e. absurd (cc)))
-          ]));
-          entries = old.asked;
-          hangup = hung.hangup;
-          in_order = hung.asked;
-          asked = sym (ap (λ (c : Conversation A). c.asked) same);
-          freed = subst (λ (c : Conversation A). IsFreed (free_of (lock_due c.state)) hung.hangup ⊎ ((hung.hangup ≡ []) × (after ≡ end.Memory))) (sym same) (elim hung.freed [
-            | inl kept ↦ elim kept.1 [
-              | inl stopped ↦ inl (rw (talk.undue stopped.0, stopped.1) refl)
-              | inr freed ↦ elim talk.due [
-                | inl stopped ↦ absurd (freed.0 stopped)
-                | inr due ↦ inl (rw (← due.0) freed.1)
-              ]
-            ]
-            | inr full ↦ inr (full.1, full.0)
-          ]);
-          closed = λ closed. subst (λ (c : Conversation A). c.state ≡ state.Closed) (sym same) (talk.closed (same-end gives old new ended after end.Closed hung closed (λ e. absurd (cc))));
-          answered = elim hung.freed [
-            | inl kept ↦ elim talk.answered [
-              | inl stopped ↦ inl (kept.0 ∙ stopped)
-              | inr answered ↦ inr answered
-            ]
-            | inr full ↦ elim talk.answered [
-              | inl stopped ↦ absurd (full.2 stopped)
-              | inr answered ↦ inr answered
-            ]
-          ];
-          given = rw hung.asked (history_join gives old.asked hung.hangup before old.desk new.desk talk.given hung.given);
-        }),
-      )
+      let answers = answers-kept gives old new hung in
+      let same : conversation accounts stamp new.lines (answers_of new.asked) ≡ record { replies = talk.replies; asked = requests_of old.asked; state = talk.last } = rw (answers, hung.lines) talk.talk in
+      rw is (record {
+        greeted = inl refl;
+        heard = λ n few.
+            let within : n < length old.lines = rw hung.lines at few in
+            rw (answers, hung.lines) (talk.each_heard n within);
+        left = subst (λ (c : Conversation A). IsLeftBy ended c.state) (sym same) talk.left;
+        entries = old.asked;
+        hangup = hung.hangup;
+        in_order = hung.asked;
+        asked = sym (ap (λ (c : Conversation A). c.asked) same);
+        answered = subst (λ (c : Conversation A). AreAnsweredAt ended c.state old.asked) (sym same) talk.answered;
+        freed = subst (λ (c : Conversation A). IsFreed (free_of (lock_due c.state)) hung.hangup) (sym same) (subst (λ lock. IsFreed (free_of lock) hung.hangup) talk.due hung.freed);
+      })
 
-  pub at_end : {D : Type 0} (accounts : List Account) (stamp : Stamp) (gives : D → Given A → D → Type 0) (before : D) (old new : Place A D) (ended after : End) (remaining remaining2 contents contents2 : Option (List ℕ))
-      → IsConversed accounts stamp gives before old ended remaining remaining2 contents contents2 → IsHungUp gives old new ended after → after ≡ end.HungUp → IsAtEnd remaining2
-  at_end accounts stamp gives before old new ended after remaining remaining2 contents contents2 conversed hung hung_up =
-      conversed.at_end (same-end gives old new ended after end.HungUp hung hung_up (λ e. absurd (cc)))
+  pub transported : {D : Type 0} (accounts : List Account) (stamp : Stamp) (gives : D → Given A → D → Type 0) (before : D) (old new : Place A D) (ended : End) (remaining remaining2 contents contents2 : Option (List ℕ)) (transcript : Transcript A)
+      → IsConversed accounts stamp gives before old ended remaining remaining2 contents contents2 → IsHungUp gives old new → IsKeptIn stamp new ended transcript
+      → IsReadAndWritten accounts stamp transcript remaining remaining2 contents contents2
+  transported accounts stamp gives before old new ended remaining remaining2 contents contents2 transcript conversed hung is =
+      let talk = conversed.talk in
+      let answers = answers-kept gives old new hung in
+      let same : conversation accounts stamp new.lines (answers_of new.asked) ≡ record { replies = talk.replies; asked = requests_of old.asked; state = talk.last } = rw (answers, hung.lines) talk.talk in
+      rw is (record {
+        read = conversed.read;
+        written = conversed.written;
+        consumed = conversed.consumed;
+        appended = conversed.appended;
+        heard = rw hung.lines talk.heard;
+        heard_all = λ hung_up. (hung.lines ∙ talk.heard_all hung_up, conversed.at_end hung_up);
+        counted = hung.count ∙ talk.counted;
+        said = subst (λ (c : Conversation A). IsWrittenBy ended (concat c.replies) conversed.written) (sym same) talk.said;
+      })
 
-  -- a session that found no memory for its greeting
-  pub silent_served : {D : Type 0} (accounts : List Account) (stamp : Stamp) (gives : D → Given A → D → Type 0) (desk : D) (remaining contents : Option (List ℕ)) (transcript : Transcript A)
-      → transcript ≡ record { greeting = []; lines = []; asked = []; count = 0; end = end.Memory }
-      → (read : List ℕ) × (written : List ℕ) × Consumes remaining remaining read × Appends contents contents written × IsServed gives accounts stamp desk desk read written transcript
-  silent_served accounts stamp gives desk remaining contents transcript is = (
-    [],
-    [],
-    consumes_none remaining,
-    appends_none contents,
-    rw is (record {
-      greeted = inr (refl, refl);
-      heard = λ more. (lines_of more, refl);
-      heard_all = λ same. absurd (cc);
-      counted = refl;
-      said = (_, refl);
-      said_all = λ over. elim over [
-        | inl closed ↦ absurd (cc)
-        | inr hung_up ↦ absurd (cc)
-      ];
-      entries = [];
-      hangup = [];
-      in_order = refl;
-      asked = refl;
-      closed = λ same. absurd (cc);
-      answered = inr tt;
-      freed = inl refl;
-      given = refl;
-    }),
-  )
+  pub historic : {D : Type 0} (accounts : List Account) (stamp : Stamp) (gives : D → Given A → D → Type 0) (before : D) (old new : Place A D) (ended : End) (remaining remaining2 contents contents2 : Option (List ℕ))
+      → IsConversed accounts stamp gives before old ended remaining remaining2 contents contents2 → IsHungUp gives old new → IsHistory gives before new.asked new.desk
+  historic accounts stamp gives before old new ended remaining remaining2 contents contents2 conversed hung =
+      rw hung.asked (history_join gives old.asked hung.hangup before old.desk new.desk conversed.talk.given hung.given)
+
+  -- a session that found no memory to begin with
+  pub nothing_transcribed : (accounts : List Account) (stamp : Stamp) (transcript : Transcript A) → transcript ≡ nothing → IsTranscript accounts stamp transcript
+  nothing_transcribed accounts stamp transcript is = rw is (record {
+    greeted = inr refl;
+    heard = λ n few. absurd (omega (arith, few));
+    left = refl;
+    entries = [];
+    hangup = [];
+    in_order = refl;
+    asked = refl;
+    answered = tt;
+    freed = refl;
+  })
+
+  pub nothing_transported : (accounts : List Account) (stamp : Stamp) (transcript : Transcript A) (remaining contents : Option (List ℕ)) → transcript ≡ nothing → IsReadAndWritten accounts stamp transcript remaining remaining contents contents
+  nothing_transported accounts stamp transcript remaining contents is = rw is (record {
+    read = [];
+    written = [];
+    consumed = consumes_none remaining;
+    appended = appends_none contents;
+    heard = ([], refl);
+    heard_all = λ same. absurd (cc);
+    counted = refl;
+    said = (_, refl);
+  })

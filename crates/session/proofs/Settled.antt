@@ -53,6 +53,7 @@ authorization-settles A accounts stamp user invalid (Ok verb.Noop) = refl
 authorization-settles A accounts stamp user invalid (Ok verb.Rset) = refl
 authorization-settles A accounts stamp user invalid (Ok (verb.Top number lines)) = refl
 authorization-settles A accounts stamp user invalid (Ok (verb.Uidl number)) = refl
+authorization-settles A accounts stamp user invalid (Ok verb.Capa) = refl
 authorization-settles A accounts stamp user invalid (Ok verb.Quit) = refl
 authorization-settles A accounts stamp user invalid (Err fault) = refl
 
@@ -79,6 +80,7 @@ module _ {A : Type 0} where
   transaction-settles user lock entries (Ok verb.Rset) = refl
   transaction-settles user lock entries (Ok (verb.Top number lines)) = refl
   transaction-settles user lock entries (Ok (verb.Uidl number)) = refl
+  transaction-settles user lock entries (Ok verb.Capa) = refl
   transaction-settles user lock entries (Ok verb.Quit) = quit-settles user lock entries
   transaction-settles user lock entries (Err fault) = refl
 

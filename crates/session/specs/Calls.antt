@@ -4,8 +4,8 @@ use Rattle.apop.specs.Stamp.{Stamp}
 use Rattle.apop.specs.Accounts.{Account}
 use Rattle.pop3_wire.specs.Reply as reply
 use Rattle.pop3_wire.specs.declared.line.Line.{Line}
-use Rattle.session.specs.Session.{opening, hears, by_line, by_answer}
-use Rattle.session.specs.Conversation.{Answer, Request, Conversation, conversation}
+use Rattle.session.specs.Session.{opening, hears, awaits_answer, by_line, by_answer}
+use Rattle.session.specs.Conversation.{Answer, Request, Conversation, with_reply, with_front, after_asked, conversation_from, conversation}
 use Rattle.session.specs.declared.state.State.{State}
 use Rattle.session.specs.declared.state.Step.{Step}
 use Rattle.session.specs.declared.state.Step.TheVariants.{Say, Ask, SayAndClose}
@@ -62,12 +62,26 @@ module _ {A : Type 0} where
   after_call accounts stamp talk (HearLine line) = after_hearing accounts stamp talk line
   after_call accounts stamp talk (HearAnswer answer) = after_turn talk answer (by_answer talk.state answer.ticket answer.outcome)
 
-  -- any calls of a new session, once its greeting was said
+  -- a new session, once its greeting was said
+  abbrev pub talk_begun : Stamp → Talk A
+  talk_begun stamp = record { state = opening; lines = []; answers = []; replies = reply.greeting stamp.nonce stamp.host ∷ []; asked = [] }
+
+  -- any calls of a new session
   abbrev pub talk_of : List Account → Stamp → List (Call A) → Talk A
-  talk_of accounts stamp calls =
-      fold (after_call accounts stamp)
-      (record { state = opening; lines = []; answers = []; replies = reply.greeting stamp.nonce stamp.host ∷ []; asked = [] })
-      calls
+  talk_of accounts stamp calls = fold (after_call accounts stamp) (talk_begun stamp) calls
+
+  -- how a conversation goes on: with the answer that is awaited, or with the next line
+  abbrev pub resumed : List Account → Stamp → ℕ → State A → List Line → List (Answer A) → Conversation A
+  resumed accounts stamp number state lines answers =
+      if awaits_answer state
+      then after_asked (conversation_from accounts stamp number lines) state answers
+      else conversation_from accounts stamp number lines state answers
+
+  -- what was said and asked so far, whatever comes
+  abbrev pub IsTalk : List Account → Stamp → Talk A → Type 0
+  IsTalk accounts stamp talk = (more : List Line) (others : List (Answer A))
+      → with_reply (reply.greeting stamp.nonce stamp.host) (conversation_from accounts stamp 0 (talk.lines ++ more) opening (talk.answers ++ others))
+      ≡ with_front talk.replies talk.asked (resumed accounts stamp (length talk.lines) talk.state more others)
 
   -- what was said and asked is the conversation of the lines and the answers taken
   abbrev pub IsConversation : List Account → Stamp → List (Call A) → Type 0

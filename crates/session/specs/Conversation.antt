@@ -45,6 +45,10 @@ module _ {A : Type 0} where
   abbrev pub with_request : Request A → Conversation A → Conversation A
   with_request request conversation = record conversation { asked = request ∷ conversation.asked }
 
+  -- behind what was said and asked before
+  abbrev pub with_front : List (List ℕ) → List (Request A) → Conversation A → Conversation A
+  with_front replies asked conversation = record { replies = replies ++ conversation.replies; asked = asked ++ conversation.asked; state = conversation.state }
+
   -- after what an answer brought; it asks nothing itself
   abbrev pub after_said : Rest A → State A → List (Answer A) → Step A → Conversation A
   after_said rest state answers (Say bytes) = with_reply bytes (rest state answers)

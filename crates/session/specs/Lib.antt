@@ -2,12 +2,14 @@ pub mod Errors
 pub mod Entries
 pub mod Open
 pub mod Session
-pub mod Heard
+pub mod HeardLines
 pub mod Prefix
 pub mod Desks
 pub mod Conversation
 pub mod Transcript
 pub mod Serve
 pub mod Dialogue
+pub mod Asking
 pub mod Alone
 pub mod Calls
+pub mod Examples

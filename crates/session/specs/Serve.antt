@@ -1,24 +1,64 @@
--- A session that was served: what was said and asked is what the session function says of the transcript.
-use Rattle.std.specs.Prelude.{◌≡◌, ℕ, List, [], ◌∷◌, ◌++◌, length, Option, Some, None, Bool, true, false}
+-- A session that was served. What is promised of it has three parts: the transcript by itself, the bytes that were read
+-- and written, and what the desk was asked.
+use Rattle.std.specs.Prelude.{◌≡◌, ℕ, ◌<◌, List, [], ◌∷◌, ◌++◌, length, take, Option, Some, None, Bool, true, false}
 use Rattle.std.specs.List.{concat}
+use Rattle.std.specs.Io.KnownBytes.{Appends, Consumes, IsAtEnd}
 use mathlib.Core.Logic.{◌⊎◌}
+use Rattle.maildrop.specs.Ticket.{Ticket}
 use Rattle.maildrop.specs.declared.op.Op.{Op}
+use Rattle.maildrop.specs.declared.outcome.Outcome.{Outcome}
 use Rattle.apop.specs.Stamp.{Stamp}
 use Rattle.apop.specs.Accounts.{Account}
 use Rattle.pop3_wire.specs.Lines.{lines_of}
 use Rattle.pop3_wire.specs.Reply as reply
 use Rattle.session.specs.Prefix.{IsPrefix}
-use Rattle.session.specs.Desks.{Given}
-use Rattle.session.specs.Session.{free_of, lock_due}
+use Rattle.session.specs.Session.{hears, awaits_answer, by_answer, free_of, lock_due}
 use Rattle.session.specs.Conversation.{Conversation, conversation}
-use Rattle.session.specs.Transcript.{answers_of, requests_of, AreAnswered, IsHistory}
+use Rattle.session.specs.Transcript.{answers_of, requests_of, AreAnswered}
+use Rattle.session.specs.declared.state.State.{State}
+use Rattle.session.specs.declared.state.State.TheVariants.{Closed}
 use Rattle.session.specs.declared.transcript.Asked.{Asked}
 use Rattle.session.specs.declared.transcript.Transcript.{Transcript}
 use Rattle.session.specs.declared.transcript.End.{End}
-use Rattle.session.specs.declared.transcript.End.TheVariants.{Closed, HungUp, DeskStopped, Memory}
-use Rattle.session.specs.declared.state.State.TheVariants as state
+use Rattle.session.specs.declared.transcript.End.TheVariants as end
 
 module _ {A : Type 0} where
+  -- the conversation that the transcript tells of
+  abbrev pub told : List Account → Stamp → Transcript A → Conversation A
+  told accounts stamp transcript = conversation accounts stamp transcript.lines (answers_of transcript.asked)
+
+  -- a session that found no memory to begin with
+  abbrev pub nothing : Transcript A
+  nothing = record { greeting = []; lines = []; asked = []; count = 0; end = end.Memory }
+
+  -- where each end leaves the session: it awaits an answer where the desk stopped, and nowhere else
+  abbrev pub IsLeftBy : End → State A → Type 0
+  IsLeftBy end.Closed state = state ≡ Closed
+  IsLeftBy end.HungUp state = hears state ≡ true
+  IsLeftBy end.ReadFault state = hears state ≡ true
+  IsLeftBy end.WriteFault state = awaits_answer state ≡ false
+  IsLeftBy end.DeskStopped state = awaits_answer state ≡ true
+  IsLeftBy end.Memory state = awaits_answer state ≡ false
+
+  -- A line asked the last of the entries, and the desk gave no outcome for it, or none that fits.
+  pub record EndsUnanswered (state : State A) (entries : List (Asked A)) : Type 0 where
+    pub front : List (Asked A)
+    pub last : Asked A
+    pub in_order : entries ≡ front ++ last ∷ []
+    pub answered : AreAnswered front
+    pub line : ℕ
+    pub asked_by : last.line ≡ Some line
+    pub unfit : (ticket : Ticket) (outcome : Outcome A) → last.ticket ≡ Some ticket → last.outcome ≡ Some outcome → by_answer state ticket outcome ≡ None
+
+  -- all that was asked was answered, but for the last where the desk stopped
+  abbrev pub AreAnsweredAt : End → State A → List (Asked A) → Type 0
+  AreAnsweredAt end.Closed state entries = AreAnswered entries
+  AreAnsweredAt end.HungUp state entries = AreAnswered entries
+  AreAnsweredAt end.ReadFault state entries = AreAnswered entries
+  AreAnsweredAt end.WriteFault state entries = AreAnswered entries
+  AreAnsweredAt end.DeskStopped state entries = EndsUnanswered state entries
+  AreAnsweredAt end.Memory state entries = AreAnswered entries
+
   -- the entry of what is freed at a hangup
   abbrev pub IsFreed : Option (List ℕ × Op A) → List (Asked A) → Type 0
   IsFreed None entries = entries ≡ []
@@ -26,31 +66,40 @@ module _ {A : Type 0} where
   IsFreed (Some free) (entry ∷ entries) =
       (entry.line ≡ None) × (entry.name ≡ free.0) × (entry.op ≡ free.1) × (entry.outcome ≡ None) × (entries ≡ [])
 
-  -- the conversation that the transcript tells of
-  abbrev pub told : List Account → Stamp → Transcript A → Conversation A
-  told accounts stamp transcript = conversation accounts stamp transcript.lines (answers_of transcript.asked)
-
-  -- Over a desk that gives what `gives` says, in these states before and after, these bytes were read and these were
-  -- written, and this is the transcript.
-  pub record IsServed {D : Type 0} (gives : D → Given A → D → Type 0) (accounts : List Account) (stamp : Stamp) (before after : D) (read written : List ℕ) (transcript : Transcript A) : Type 0 where
-    -- the greeting is the stamp's, or want of memory left none
-    pub greeted : (transcript.greeting ≡ reply.greeting stamp.nonce stamp.host) ⊎ ((transcript.greeting ≡ []) × (transcript.end ≡ Memory))
-    -- the lines are a front of those that were read, whatever is behind these, and at the end of the input all of them
-    pub heard : (more : List ℕ) → IsPrefix transcript.lines (lines_of (read ++ more))
-    pub heard_all : transcript.end ≡ HungUp → transcript.lines ≡ lines_of read
-    -- what was written is a front of what the session says, counted, and at a proper end all of it
-    pub counted : transcript.count ≡ length written
-    pub said : IsPrefix written (concat (told accounts stamp transcript).replies)
-    pub said_all : (transcript.end ≡ Closed) ⊎ (transcript.end ≡ HungUp) → written ≡ concat (told accounts stamp transcript).replies
-    -- the session ends itself where it is closed
-    pub closed : transcript.end ≡ Closed → (told accounts stamp transcript).state ≡ state.Closed
-    -- the entries are what the session asks, and then the Free of the lock that is still held
+  -- This is the transcript of a session of these accounts behind this greeting.
+  pub record IsTranscript (accounts : List Account) (stamp : Stamp) (transcript : Transcript A) : Type 0 where
+    -- the greeting is the stamp's; where there was no memory for it there is nothing else either
+    pub greeted : (transcript.greeting ≡ reply.greeting stamp.nonce stamp.host) ⊎ (transcript ≡ nothing)
+    -- the session heard each line: none stands behind a close, or behind an operation that has no answer
+    pub heard : (n : ℕ) → n < length transcript.lines → hears (conversation accounts stamp (take n transcript.lines) (answers_of transcript.asked)).state ≡ true
+    pub left : IsLeftBy transcript.end (told accounts stamp transcript).state
+    -- the entries are what the session asks, and then the Free of the lock that it still holds
     pub entries : List (Asked A)
     pub hangup : List (Asked A)
     pub in_order : transcript.asked ≡ entries ++ hangup
     pub asked : requests_of entries ≡ (told accounts stamp transcript).asked
-    pub freed : IsFreed (free_of (lock_due (told accounts stamp transcript).state)) hangup ⊎ ((hangup ≡ []) × (transcript.end ≡ Memory))
-    -- unless the desk stopped, all that was asked was answered
-    pub answered : (transcript.end ≡ DeskStopped) ⊎ AreAnswered entries
-    -- each with what the desk gave; and it was asked nothing else
-    pub given : IsHistory gives before transcript.asked after
+    pub answered : AreAnsweredAt transcript.end (told accounts stamp transcript).state entries
+    pub freed : IsFreed (free_of (lock_due (told accounts stamp transcript).state)) hangup
+
+-- How much of what a session says was written at each end: all of it; or less, where a write failed; or some, since
+-- there was no memory for the last reply.
+abbrev pub IsWrittenBy : End → List ℕ → List ℕ → Type 0
+IsWrittenBy end.Closed said written = written ≡ said
+IsWrittenBy end.HungUp said written = written ≡ said
+IsWrittenBy end.ReadFault said written = written ≡ said
+IsWrittenBy end.WriteFault said written = IsPrefix written said × (length written < length said)
+IsWrittenBy end.DeskStopped said written = written ≡ said
+IsWrittenBy end.Memory said written = IsPrefix written said
+
+-- With this transcript these bytes were taken from a reader, and these were given to a writer.
+pub record IsReadAndWritten {A : Type 0} (accounts : List Account) (stamp : Stamp) (transcript : Transcript A) (remaining remaining2 contents contents2 : Option (List ℕ)) : Type 0 where
+  pub read : List ℕ
+  pub written : List ℕ
+  pub consumed : Consumes remaining remaining2 read
+  pub appended : Appends contents contents2 written
+  -- the lines are a front of those that were read, and at the end of the input all of them
+  pub heard : IsPrefix transcript.lines (lines_of read)
+  pub heard_all : transcript.end ≡ end.HungUp → (transcript.lines ≡ lines_of read) × IsAtEnd remaining2
+  -- what was written is counted, and is what the session says
+  pub counted : transcript.count ≡ length written
+  pub said : IsWrittenBy transcript.end (concat (told accounts stamp transcript).replies) written

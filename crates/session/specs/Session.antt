@@ -32,6 +32,7 @@ abbrev pub is_valid_before_login : Option (List ℕ) → Keyword → Bool
 is_valid_before_login user keyword.User = true
 is_valid_before_login user keyword.Pass = is_some user
 is_valid_before_login user keyword.Apop = true
+is_valid_before_login user keyword.Capa = true
 is_valid_before_login user keyword.Quit = true
 is_valid_before_login user word = false
 
@@ -40,7 +41,16 @@ abbrev pub is_valid_after_login : Keyword → Bool
 is_valid_after_login keyword.User = false
 is_valid_after_login keyword.Pass = false
 is_valid_after_login keyword.Apop = false
-is_valid_after_login word = true
+is_valid_after_login keyword.Stat = true
+is_valid_after_login keyword.List = true
+is_valid_after_login keyword.Retr = true
+is_valid_after_login keyword.Dele = true
+is_valid_after_login keyword.Noop = true
+is_valid_after_login keyword.Rset = true
+is_valid_after_login keyword.Top = true
+is_valid_after_login keyword.Uidl = true
+is_valid_after_login keyword.Capa = true
+is_valid_after_login keyword.Quit = true
 
 -- a command whose arguments are bad is refused for its state first
 abbrev pub argument_refusal : Bool → List ℕ
@@ -84,6 +94,7 @@ module _ {A : Type 0} where
   in_authorization accounts stamp user invalid (Ok (verb.User name)) = say reply.send_pass (Authorization (Some name) invalid)
   in_authorization accounts stamp user invalid (Ok (verb.Pass secret)) = login accounts user invalid secret
   in_authorization accounts stamp user invalid (Ok (verb.Apop name digest)) = checked_login (passes_apop accounts name stamp digest) name invalid
+  in_authorization accounts stamp user invalid (Ok verb.Capa) = say reply.capabilities (Authorization None invalid)
   in_authorization accounts stamp user invalid (Ok verb.Quit) = say_and_close reply.signing_off
   in_authorization accounts stamp user invalid (Ok other) = say reply.not_in_this_state (Authorization None invalid)
   in_authorization accounts stamp user invalid (Err fault) = say (refusal_before_login user fault) (Authorization None invalid)
@@ -143,6 +154,7 @@ module _ {A : Type 0} where
   shown entries (verb.Top number lines) = of_message (entry_at entries number) (top_of_message lines)
   shown entries (verb.Uidl None) = unique_id_listings entries
   shown entries (verb.Uidl (Some number)) = of_message (entry_at entries number) (unique_id_listing number)
+  shown entries verb.Capa = reply.capabilities
   shown entries other = reply.not_in_this_state
 
   -- a command of TRANSACTION

@@ -16,9 +16,16 @@ fn is_valid(user: &Option<Name>, keyword: Keyword) -> bool
     ensures { result ≡ spec.is_valid_before_login user.now keyword }
 {
     match keyword {
-        Keyword::User | Keyword::Apop | Keyword::Quit => true,
+        Keyword::User | Keyword::Apop | Keyword::Capa | Keyword::Quit => true,
         Keyword::Pass => user.is_some(),
-        _ => false,
+        Keyword::Stat
+        | Keyword::List
+        | Keyword::Retr
+        | Keyword::Dele
+        | Keyword::Noop
+        | Keyword::Rset
+        | Keyword::Top
+        | Keyword::Uidl => false,
     }
 }
 
@@ -132,8 +139,18 @@ pub(crate) fn in_authorization<A: Allocator + Copy>(
             *name,
             digest.get(),
         ),
+        Ok(Verb::Capa) => say_and_forget(alloc, &Reply::Capabilities, invalid),
         Ok(Verb::Quit) => say_and_close(alloc, &Reply::SigningOff),
-        Ok(_) => say_and_forget(alloc, &Reply::WrongState, invalid),
+        Ok(
+            Verb::Stat
+            | Verb::List(_)
+            | Verb::Retr(_)
+            | Verb::Dele(_)
+            | Verb::Noop
+            | Verb::Rset
+            | Verb::Top { .. }
+            | Verb::Uidl(_),
+        ) => say_and_forget(alloc, &Reply::WrongState, invalid),
         Err(fault) => say_and_forget(alloc, &refusal(&user, *fault), invalid),
     }
 }

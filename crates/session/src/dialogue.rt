@@ -1,24 +1,26 @@
 //! A session beside its desk, with all that is kept of it.
-ghost use Rattle.std.specs.Prelude.{◌≡◌, ◌≢◌, ◌<◌, [], ◌∷◌, ◌++◌, true, false, Some, IfOk, IfErr, OnOk, vec_len, vec_capacity};
-ghost use Rattle.session.specs.Dialogue.{place, entry_of, saying_by, IsSettled, IsHeard, Says, IsSilenced, IsAnswered, IsUnanswered, Responds, Refuses, IsStop};
+ghost use Rattle.std.specs.Prelude.{◌≡◌, ◌+◌, ◌<◌, [], ◌∷◌, ◌++◌, true, Some, IfOk, IfErr, OnOk, length, vec_len, vec_capacity};
+ghost use Rattle.session.specs.Dialogue.{place, place_alone, end_of, entry_of, saying_by, IsSettled, IsHeard, Says, IsSilenced, IsAnswered, IsUnanswered, IsKept, IsSpent, Responds, Refuses, IsStop};
 ghost use Rattle.session.specs.Session.{hears, awaits_answer};
 
 use crate::desk::Desk;
-use crate::heard::Heard;
+use crate::heard_lines::HeardLines;
 use crate::session::Session;
 use crate::state::{SessionError, State, Step};
-use crate::transcript::{Asked, End};
+use crate::stop::Stop;
+use crate::transcript::Asked;
 use apop::Accounts;
 use ballot::{Items, Memory};
 use maildrop::{Name, Op, Outcome, Ticket};
 use pop3_wire::Line;
 use std::alloc::{Allocator, Global};
 
-/// A session, with the lines that it heard, what it asked, and how many bytes it said.
+/// A session, with the lines that it heard, what it asked, and how many bytes it said. There is always room for one
+/// entry more, the Free of a hangup.
 #[derive(Drop)]
 pub(crate) struct Dialogue<A: Allocator = Global> {
     pub session: Session<A>,
-    pub lines: Vec<Heard<A>, A>,
+    pub lines: HeardLines<A>,
     pub asked: Vec<Asked<A>, A>,
     pub count: u128,
 }
@@ -31,19 +33,20 @@ pub(crate) struct Saying<A: Allocator = Global> {
 }
 
 impl<A: Allocator + Copy> Dialogue<A> {
-    /// Takes the room for a line and for what it asks, and gives the line as it is kept.
-    fn room_for(&mut self, line: &Line) -> Result<Heard<A>, Memory>
-        ensures heard { IfOk result (λ heard. heard ≡ line.now) }
-        ensures lines { OnOk result (vec_len self.new.lines < vec_capacity self.new.lines) }
-        ensures asked { OnOk result (vec_len self.new.asked < vec_capacity self.new.asked) }
-        ensures same_session { self.new.session ≡ self.old.session }
-        ensures same_lines { self.new.lines.items ≡ self.old.lines.items }
-        ensures same_asked { self.new.asked.items ≡ self.old.asked.items }
-        ensures same_count { self.new.count ≡ self.old.count }
+    /// A session that has heard nothing.
+    pub(crate) fn new(alloc: A, session: Session<A>) -> Result<Self, Memory>
+        ensures session { IfOk result (λ dialogue. dialogue.session ≡ session) }
+        ensures no_lines { IfOk result (λ dialogue. dialogue.lines ≡ []) }
+        ensures none_asked { IfOk result (λ dialogue. dialogue.asked.items ≡ []) }
+        ensures room { IfOk result (λ dialogue. vec_len dialogue.asked < vec_capacity dialogue.asked) }
     {
-        self.lines.reserve(1)?;
-        self.asked.reserve(1)?;
-        Heard::new(*self.lines.allocator(), line)
+        let asked = Vec::with_capacity(alloc, 1)?;
+        Ok(Dialogue {
+            session,
+            lines: HeardLines::new(alloc),
+            asked,
+            count: 0,
+        })
     }
 
     /// Hands a line to the session, and what it asks to the desk. Gives what the session says.
@@ -52,26 +55,18 @@ impl<A: Allocator + Copy> Dialogue<A> {
         accounts: &Accounts<A>,
         desk: &mut D,
         line: &Line,
-    ) -> Result<Saying<A>, End>
+    ) -> Result<Saying<A>, Stop>
         requires hearing { hears self.old.session.state ≡ true }
+        requires room { vec_len self.old.asked < vec_capacity self.old.asked }
         ensures heard { IfOk result (λ saying. IsHeard accounts.now self.old.session.stamp D.gives
-            (place self.old desk.old) (place self.new desk.new) line.now saying.bytes) }
-        ensures goes_on { IfOk result (λ saying. saying.closes ≡ false → hears self.new.session.state ≡ true) }
-        ensures closes { IfOk result (λ saying. saying.closes ≡ true → self.new.session.state ≡ State.Closed) }
-        ensures stopped { IfErr result (λ end. IsStop accounts.now self.old.session.stamp D.gives
-            (place self.old desk.old) (place self.new desk.new) (line.now ∷ []) end []) }
-        ensures unended { IfErr result (λ end. end ≢ End.HungUp) }
-        ensures stamp { self.new.session.stamp ≡ self.old.session.stamp }
+            (place self.old desk.old) (place self.new desk.new) line.now saying) }
+        ensures stopped { IfErr result (λ stop. IsStop accounts.now self.old.session.stamp D.gives
+            (place self.old desk.old) (place self.new desk.new) (line.now ∷ []) (end_of stop) []) }
     {
-        // The room comes first, so that nothing is asked that could not be kept.
-        let heard = match self.room_for(line) {
-            Ok(heard) => heard,
-            Err(Memory) => return Err(End::Memory),
-        };
         let lock = self.session.lock();
         match self.session.line(accounts, line) {
-            Ok(step) => self.respond(desk, heard, lock, step),
-            Err(_) => Err(End::Memory),
+            Ok(step) => self.respond(desk, line, lock, step),
+            Err(_) => Err(Stop::Memory),
         }
     }
 
@@ -80,72 +75,72 @@ impl<A: Allocator + Copy> Dialogue<A> {
     fn respond<D: Desk<Op<A>, Outcome<A>>>(
         &mut self,
         desk: &mut D,
-        heard: Heard<A>,
+        line: &Line,
         lock: Option<(Name, Ticket)>,
         step: Step<A>,
-    ) -> Result<Saying<A>, End>
+    ) -> Result<Saying<A>, Stop>
         requires settled { IsSettled step self.old.session.state }
-        requires line_room { vec_len self.old.lines < vec_capacity self.old.lines }
-        requires entry_room { vec_len self.old.asked < vec_capacity self.old.asked }
         ensures responds { IfOk result (λ saying. Responds D.gives
-            (place self.old desk.old) (place self.new desk.new) heard step saying.bytes) }
-        ensures goes_on { IfOk result (λ saying. saying.closes ≡ false → hears self.new.session.state ≡ true) }
-        ensures closes { IfOk result (λ saying. saying.closes ≡ true → self.new.session.state ≡ State.Closed) }
-        ensures refuses { IfErr result (λ end. Refuses D.gives
-            (place self.old desk.old) (place self.new desk.new) heard lock step end) }
-        ensures unended { IfErr result (λ end. end ≢ End.HungUp) }
-        ensures stamp { self.new.session.stamp ≡ self.old.session.stamp }
+            (place self.old desk.old) (place self.new desk.new) line.now step saying) }
+        ensures refuses { IfErr result (λ stop. Refuses D.gives
+            (place self.old desk.old) (place self.new desk.new) line.now lock step (end_of stop)) }
     {
         match step {
             Step::Say(bytes) => {
-                self.lines.push_reserved(heard);
+                self.keep(line, lock)?;
                 Ok(Saying {
                     bytes,
                     closes: false,
                 })
             }
             Step::SayAndClose(bytes) => {
-                self.lines.push_reserved(heard);
+                self.keep(line, lock)?;
                 Ok(Saying {
                     bytes,
                     closes: true,
                 })
             }
-            Step::Ask(user, op) => self.ask(desk, heard, lock, user, op),
+            Step::Ask(user, op) => self.ask(desk, line, lock, user, op),
         }
+    }
+
+    /// Keeps a line that was heard, with room for what it asks and for a hangup. Without memory for these the session
+    /// is over, and still has the lock.
+    fn keep(&mut self, line: &Line, lock: Option<(Name, Ticket)>) -> Result<(), Stop>
+        ensures kept { OnOk result (IsKept (place_alone self.old) (place_alone self.new) line.now) }
+        ensures spent { IfErr result (λ stop. (stop ≡ Stop.Memory) × IsSpent (place_alone self.old) (place_alone self.new) lock) }
+    {
+        if self.asked.reserve(2).is_err() || self.lines.push(line).is_err() {
+            self.session.spend(lock);
+            return Err(Stop::Memory);
+        }
+        Ok(())
     }
 
     /// Keeps a line that asks for an operation, and has the desk perform it.
     fn ask<D: Desk<Op<A>, Outcome<A>>>(
         &mut self,
         desk: &mut D,
-        heard: Heard<A>,
+        line: &Line,
         lock: Option<(Name, Ticket)>,
         user: Name,
         op: Op<A>,
-    ) -> Result<Saying<A>, End>
+    ) -> Result<Saying<A>, Stop>
         requires awaits { awaits_answer self.old.session.state ≡ true }
-        requires line_room { vec_len self.old.lines < vec_capacity self.old.lines }
-        requires entry_room { vec_len self.old.asked < vec_capacity self.old.asked }
         ensures responds { IfOk result (λ saying. Responds D.gives
-            (place self.old desk.old) (place self.new desk.new) heard (Step.Ask user op) saying.bytes) }
-        ensures goes_on { IfOk result (λ saying. saying.closes ≡ false → hears self.new.session.state ≡ true) }
-        ensures closes { IfOk result (λ saying. saying.closes ≡ true → self.new.session.state ≡ State.Closed) }
-        ensures refuses { IfErr result (λ end. Refuses D.gives
-            (place self.old desk.old) (place self.new desk.new) heard lock (Step.Ask user op) end) }
-        ensures unended { IfErr result (λ end. end ≢ End.HungUp) }
-        ensures stamp { self.new.session.stamp ≡ self.old.session.stamp }
+            (place self.old desk.old) (place self.new desk.new) line.now (Step.Ask user op) saying) }
+        ensures refuses { IfErr result (λ stop. Refuses D.gives
+            (place self.old desk.old) (place self.new desk.new) line.now lock (Step.Ask user op) (end_of stop)) }
     {
         match op.copy() {
             Ok(kept) => {
-                let line = self.lines.len() as u64;
-                self.lines.push_reserved(heard);
-                self.consult(desk, line, user, op, kept)
+                let number = self.lines.len() as u64;
+                self.keep(line, lock)?;
+                self.consult(desk, number, user, op, kept)
             }
             Err(Memory) => {
-                // What could not be kept is not asked, and the lock is still the session's.
                 self.session.spend(lock);
-                Err(End::Memory)
+                Err(Stop::Memory)
             }
         }
     }
@@ -158,18 +153,14 @@ impl<A: Allocator + Copy> Dialogue<A> {
         user: Name,
         op: Op<A>,
         kept: Op<A>,
-    ) -> Result<Saying<A>, End>
+    ) -> Result<Saying<A>, Stop>
         requires same { kept ≡ op }
         requires awaits { awaits_answer self.old.session.state ≡ true }
-        requires room { vec_len self.old.asked < vec_capacity self.old.asked }
+        requires room { vec_len self.old.asked + 1 < vec_capacity self.old.asked }
         ensures answered { IfOk result (λ saying. IsAnswered D.gives
-            (place self.old desk.old) (place self.new desk.new) line user op saying.bytes) }
-        ensures goes_on { IfOk result (λ saying. saying.closes ≡ false → hears self.new.session.state ≡ true) }
-        ensures closes { IfOk result (λ saying. saying.closes ≡ true → self.new.session.state ≡ State.Closed) }
-        ensures unanswered { IfErr result (λ end. IsUnanswered D.gives
-            (place self.old desk.old) (place self.new desk.new) line user op end) }
-        ensures unended { IfErr result (λ end. end ≢ End.HungUp) }
-        ensures stamp { self.new.session.stamp ≡ self.old.session.stamp }
+            (place self.old desk.old) (place self.new desk.new) line user op saying) }
+        ensures unanswered { IfErr result (λ stop. IsUnanswered D.gives
+            (place self.old desk.old) (place self.new desk.new) line user op (end_of stop)) }
     {
         match desk.ask(user, op) {
             Err(stopped) => {
@@ -180,7 +171,7 @@ impl<A: Allocator + Copy> Dialogue<A> {
                     ticket: stopped.ticket,
                     outcome: None,
                 });
-                Err(End::DeskStopped)
+                Err(Stop::DeskStopped)
             }
             Ok((ticket, outcome)) => self.hear_answer(line, user, kept, ticket, outcome),
         }
@@ -194,18 +185,16 @@ impl<A: Allocator + Copy> Dialogue<A> {
         kept: Op<A>,
         ticket: Ticket,
         outcome: Outcome<A>,
-    ) -> Result<Saying<A>, End>
+    ) -> Result<Saying<A>, Stop>
         requires awaits { awaits_answer self.old.session.state ≡ true }
-        requires room { vec_len self.old.asked < vec_capacity self.old.asked }
-        ensures says { IfOk result (λ saying. Says self.old.session.state ticket outcome saying.bytes self.new.session.state) }
-        ensures goes_on { IfOk result (λ saying. saying.closes ≡ false → hears self.new.session.state ≡ true) }
-        ensures closes { IfOk result (λ saying. saying.closes ≡ true → self.new.session.state ≡ State.Closed) }
-        ensures silenced { IfErr result (λ end. IsSilenced self.old.session.state (Some ticket) (Some outcome) self.new.session.state end) }
+        requires room { vec_len self.old.asked + 1 < vec_capacity self.old.asked }
+        ensures says { IfOk result (λ saying. Says self.old.session.state ticket outcome saying self.new.session.state) }
+        ensures silenced { IfErr result (λ stop. IsSilenced self.old.session.state (Some ticket) (Some outcome) self.new.session.state (end_of stop)) }
+        ensures stamp { self.new.session.stamp ≡ self.old.session.stamp }
         ensures lines { self.new.lines ≡ self.old.lines }
         ensures asked { self.new.asked.items ≡ self.old.asked.items ++ entry_of line user kept (Some ticket) (Some outcome) ∷ [] }
         ensures count { self.new.count ≡ self.old.count }
-        ensures unended { IfErr result (λ end. end ≢ End.HungUp) }
-        ensures stamp { self.new.session.stamp ≡ self.old.session.stamp }
+        ensures room { vec_len self.new.asked < vec_capacity self.new.asked }
     {
         let answered = self.session.answer(ticket, &outcome);
         self.asked.push_reserved(Asked {
@@ -220,7 +209,7 @@ impl<A: Allocator + Copy> Dialogue<A> {
 }
 
 /// What an answer has the session say. It asks nothing more.
-fn saying_of<A: Allocator>(answered: Result<Step<A>, SessionError>) -> Result<Saying<A>, End>
+fn saying_of<A: Allocator>(answered: Result<Step<A>, SessionError>) -> Result<Saying<A>, Stop>
     ensures { result ≡ saying_by answered }
 {
     match answered {
@@ -232,7 +221,7 @@ fn saying_of<A: Allocator>(answered: Result<Step<A>, SessionError>) -> Result<Sa
             bytes,
             closes: true,
         }),
-        Err(SessionError::Memory) => Err(End::Memory),
-        Ok(Step::Ask(..)) | Err(_) => Err(End::DeskStopped),
+        Err(SessionError::Memory) => Err(Stop::Memory),
+        Ok(Step::Ask(..)) | Err(_) => Err(Stop::DeskStopped),
     }
 }

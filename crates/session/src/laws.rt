@@ -1,5 +1,5 @@
 //! What holds of whole sessions.
-ghost use Rattle.std.specs.Prelude.{List, Option, ◌++◌};
+ghost use Rattle.std.specs.Prelude.{◌≡◌, List, Option, ◌++◌};
 ghost use Rattle.maildrop.specs.Ticket.{Ticket};
 ghost use Rattle.maildrop.specs.Maildrop.{Maildrop};
 ghost use Rattle.maildrop.specs.declared.command.Command.{Command};
@@ -7,7 +7,8 @@ ghost use Rattle.apop.specs.Stamp.{Stamp};
 ghost use Rattle.apop.specs.Accounts.{Account};
 ghost use Rattle.pop3_wire.specs.declared.line.Line.{Line};
 ghost use Rattle.session.specs.Alone.{replies_alone};
-ghost use Rattle.session.specs.Calls.{Call, IsConversation};
+ghost use Rattle.session.specs.Asking.{AreForOneUser};
+ghost use Rattle.session.specs.Calls.{Call, Talk, after_call, IsTalk, IsConversation};
 ghost use Rattle.session.specs.Conversation.{Answer, conversation};
 ghost use Rattle.session.specs.Prefix.{IsPrefix};
 
@@ -30,4 +31,23 @@ pub fn conversations_lengthen<A: Allocator>()
 pub fn replies_lengthen<A: Allocator>()
     ensures { (accounts : List Account) (stamp : Stamp) (maildrop : Option (Maildrop A)) (lines more : List Line) (tickets others : List Ticket) (own decided : List (Command A)) →
         IsPrefix (replies_alone accounts stamp maildrop lines tickets own) (replies_alone accounts stamp maildrop (lines ++ more) (tickets ++ others) (own ++ decided)) }
+{}
+
+/// All that a session asks is for one user, who has an account.
+pub fn sessions_ask_for_one_user<A: Allocator>()
+    ensures { (accounts : List Account) (stamp : Stamp) (lines : List Line) (answers : List (Answer A)) →
+        AreForOneUser accounts (conversation accounts stamp lines answers).asked }
+{}
+
+/// A line more, or an answer more, of a session adds what it brings to what was said and asked before it, whatever comes
+/// behind.
+pub fn calls_lengthen_a_talk<A: Allocator>()
+    ensures { (accounts : List Account) (stamp : Stamp) (talk : Talk A) (call : Call A) →
+        IsTalk accounts stamp talk → IsTalk accounts stamp (after_call accounts stamp talk call) }
+{}
+
+/// What was said and asked, whatever comes, is the conversation of the lines and the answers so far.
+pub fn talks_are_conversations<A: Allocator>()
+    ensures { (accounts : List Account) (stamp : Stamp) (talk : Talk A) → IsTalk accounts stamp talk →
+        conversation accounts stamp talk.lines talk.answers ≡ record { replies = talk.replies; asked = talk.asked; state = talk.state } }
 {}

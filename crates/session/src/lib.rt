@@ -7,12 +7,13 @@ mod desk;
 mod desk_stopped;
 mod dialogue;
 mod entry;
-mod heard;
+mod heard_lines;
 mod laws;
 mod opened;
 mod serving;
 mod session;
 mod state;
+mod stop;
 mod transaction;
 mod transcript;
 mod turn;
@@ -20,8 +21,11 @@ mod turn;
 pub use desk::{Desk, Gate, OpenGate};
 pub use desk_stopped::DeskStopped;
 pub use entry::Entry;
-pub use heard::Heard;
-pub use laws::{calls_make_a_conversation, conversations_lengthen, replies_lengthen};
+pub use heard_lines::{HeardLines, LineCursor};
+pub use laws::{
+    calls_lengthen_a_talk, calls_make_a_conversation, conversations_lengthen, replies_lengthen,
+    sessions_ask_for_one_user, talks_are_conversations,
+};
 pub use opened::Opened;
 pub use serving::serve;
 pub use session::Session;

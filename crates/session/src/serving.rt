@@ -1,19 +1,23 @@
 //! A session that is served: from a reader, over a desk, to a writer.
-ghost use Rattle.std.specs.Prelude.{◌≡◌, ◌≢◌, ◌<◌, ◌≤◌, ◌+◌, ◌*◌, ◌^◌, ℕ, List, [], ◌∷◌, ◌++◌, length, take, true, false, None, IfOk, IfErr, OnOk, OnErr, MatchOption};
-ghost use Rattle.std.specs.Io.KnownBytes.{Appends, Consumes, IsAtEnd};
+ghost use Rattle.std.specs.Prelude.{◌≡◌, ◌<◌, ◌≤◌, ◌+◌, ◌*◌, ◌^◌, ℕ, List, [], ◌∷◌, ◌++◌, length, take, true, None, IfErr, OnOk, MatchOption, vec_len, vec_capacity};
+ghost use Rattle.std.specs.Io.KnownBytes.{Appends};
 ghost use Rattle.pop3_wire.specs.Reader.{lines_after, waiting};
 ghost use Rattle.pop3_wire.specs.Reply.{greeting as greeting_of};
-ghost use Rattle.session.specs.Dialogue.{place, IsRun, IsStop, IsPieceFront, IsPieceStop, IsListened, IsConversed, IsHungUp, IsTold};
-ghost use Rattle.session.specs.Serve.{IsServed};
-ghost use Rattle.session.specs.Session.{hears, awaits_answer, opening};
+ghost use Rattle.session.specs.Dialogue.{place, end_of, IsRun, IsStop, IsPieceFront, IsPieceStop, IsListened, IsConversed, IsHungUp};
+ghost use Rattle.session.specs.Serve as spec;
+ghost use Rattle.session.specs.Serve.{IsTranscript, IsReadAndWritten};
+ghost use Rattle.session.specs.Session.{hears, opening};
+ghost use Rattle.session.specs.Transcript.{IsHistory};
 
 use crate::desk::{Desk, Gate};
 use crate::dialogue::Dialogue;
+use crate::heard_lines::HeardLines;
 use crate::session::Session;
+use crate::stop::Stop;
 use crate::transcript::{Asked, End, Transcript};
 use apop::{Accounts, Stamp};
-use ballot::{Items, Memory};
-use maildrop::{Name, Op, Outcome};
+use ballot::Items;
+use maildrop::{Op, Outcome};
 use pop3_wire::{Line, LineReader};
 use std::alloc::Allocator;
 use std::io::{Read, Write};
@@ -58,28 +62,26 @@ fn exchange<A: Allocator + Copy, W: Write, D: Desk<Op<A>, Outcome<A>>, G: Gate>(
     desk: &mut D,
     gate: &mut G,
     line: &Line,
-) -> Result<(), End>
+) -> Result<(), Stop>
     requires hearing { hears dialogue.old.session.state ≡ true }
+    requires entry_room { vec_len dialogue.old.asked < vec_capacity dialogue.old.asked }
     requires room { dialogue.old.count + 2 ^ 64 ≤ 2 ^ 128 }
-    ensures stamp { dialogue.new.session.stamp ≡ dialogue.old.session.stamp }
-    ensures unended { IfErr result (λ end. end ≢ End.HungUp) }
-    ensures hearing { OnOk result (hears dialogue.new.session.state ≡ true) }
     ensures room { dialogue.new.count < dialogue.old.count + 2 ^ 64 }
     ensures goes_on { OnOk result ((written : List ℕ) × Appends (W.contents writer.old) (W.contents writer.new) written
         × IsRun accounts.now dialogue.old.session.stamp D.gives (place dialogue.old desk.old) (place dialogue.new desk.new) (line.now ∷ []) written) }
-    ensures stops { IfErr result (λ end. (written : List ℕ) × Appends (W.contents writer.old) (W.contents writer.new) written
-        × IsStop accounts.now dialogue.old.session.stamp D.gives (place dialogue.old desk.old) (place dialogue.new desk.new) (line.now ∷ []) end written) }
+    ensures stops { IfErr result (λ stop. (written : List ℕ) × Appends (W.contents writer.old) (W.contents writer.new) written
+        × IsStop accounts.now dialogue.old.session.stamp D.gives (place dialogue.old desk.old) (place dialogue.new desk.new) (line.now ∷ []) (end_of stop) written) }
 {
     gate.enter();
     let saying = dialogue.hear(accounts, desk, line)?;
     let sent = send(writer, saying.bytes.get());
     dialogue.count += sent as u128;
     if sent < saying.bytes.len() {
-        return Err(End::WriteFault);
+        return Err(Stop::WriteFault);
     }
     gate.leave();
     if saying.closes {
-        return Err(End::Closed);
+        return Err(Stop::Closed);
     }
     Ok(())
 }
@@ -93,29 +95,27 @@ fn exchange_all<A: Allocator + Copy, W: Write, D: Desk<Op<A>, Outcome<A>>, G: Ga
     desk: &mut D,
     gate: &mut G,
     piece: &[u8],
-) -> Result<(), End>
+) -> Result<(), Stop>
     requires hearing { hears dialogue.old.session.state ≡ true }
+    requires entry_room { vec_len dialogue.old.asked < vec_capacity dialogue.old.asked }
     requires ready { waiting lines.old ≡ None }
     requires ended { lines_after lines.old [] ≡ [] }
     requires room { dialogue.old.count + length piece.now * 2 ^ 64 ≤ 2 ^ 128 }
-    ensures stamp { dialogue.new.session.stamp ≡ dialogue.old.session.stamp }
-    ensures unended { IfErr result (λ end. end ≢ End.HungUp) }
-    ensures hearing { OnOk result (hears dialogue.new.session.state ≡ true) }
     ensures ready { OnOk result (waiting lines.new ≡ None) }
     ensures ended { OnOk result (lines_after lines.new [] ≡ []) }
     ensures room { dialogue.new.count ≤ dialogue.old.count + length piece.now * 2 ^ 64 }
     ensures goes_on { OnOk result (IsPieceFront accounts.now dialogue.old.session.stamp D.gives (place dialogue.old desk.old) (place dialogue.new desk.new)
         lines.old lines.new piece.now [] (W.contents writer.old) (W.contents writer.new)) }
-    ensures stops { IfErr result (λ end. IsPieceStop accounts.now dialogue.old.session.stamp D.gives (place dialogue.old desk.old) (place dialogue.new desk.new)
-        lines.old piece.now end (W.contents writer.old) (W.contents writer.new)) }
+    ensures stops { IfErr result (λ stop. IsPieceStop accounts.now dialogue.old.session.stamp D.gives (place dialogue.old desk.old) (place dialogue.new desk.new)
+        lines.old piece.now (end_of stop) (W.contents writer.old) (W.contents writer.new)) }
 {
     let mut rest = piece;
     while !rest.is_empty() {
         let (line, behind) = next_line(lines, rest);
         rest = behind;
         if let Some(line) = line {
-            if let Err(end) = exchange(accounts, dialogue, writer, desk, gate, &line) {
-                return Err(end);
+            if let Err(stop) = exchange(accounts, dialogue, writer, desk, gate, &line) {
+                return Err(stop);
             }
         }
     }
@@ -132,9 +132,9 @@ fn listen<A: Allocator + Copy, R: Read, W: Write, D: Desk<Op<A>, Outcome<A>>, G:
     gate: &mut G,
 ) -> End
     requires hearing { hears dialogue.old.session.state ≡ true }
+    requires entry_room { vec_len dialogue.old.asked < vec_capacity dialogue.old.asked }
     requires room { dialogue.old.count ≤ 2 ^ 64 }
-    ensures stamp { dialogue.new.session.stamp ≡ dialogue.old.session.stamp }
-    ensures listened { IsListened accounts.now dialogue.old.session.stamp D.gives (place dialogue.old desk.old) (place dialogue.new desk.new)
+    ensures { IsListened accounts.now dialogue.old.session.stamp D.gives (place dialogue.old desk.old) (place dialogue.new desk.new)
         result (R.remaining reader.old) (R.remaining reader.new) (W.contents writer.old) (W.contents writer.new) }
 {
     let mut lines = LineReader::new();
@@ -146,8 +146,8 @@ fn listen<A: Allocator + Copy, R: Read, W: Write, D: Desk<Op<A>, Outcome<A>>, G:
             Err(_) => return End::ReadFault,
         };
         let piece = &buffer[..count];
-        if let Err(end) = exchange_all(accounts, dialogue, &mut lines, writer, desk, gate, piece) {
-            return end;
+        if let Err(stop) = exchange_all(accounts, dialogue, &mut lines, writer, desk, gate, piece) {
+            return stop.end();
         }
     }
     End::ReadFault
@@ -165,8 +165,9 @@ fn converse<A: Allocator + Copy, R: Read, W: Write, D: Desk<Op<A>, Outcome<A>>, 
 ) -> End
     requires greets { greeting.now ≡ greeting_of dialogue.old.session.stamp.nonce dialogue.old.session.stamp.host }
     requires opening { dialogue.old.session.state ≡ opening }
-    requires no_lines { dialogue.old.lines.items ≡ [] }
+    requires no_lines { dialogue.old.lines ≡ [] }
     requires none_asked { dialogue.old.asked.items ≡ [] }
+    requires entry_room { vec_len dialogue.old.asked < vec_capacity dialogue.old.asked }
     ensures conversed { IsConversed accounts.now dialogue.old.session.stamp D.gives desk.old (place dialogue.new desk.new)
         result (R.remaining reader.old) (R.remaining reader.new) (W.contents writer.old) (W.contents writer.new) }
 {
@@ -178,51 +179,28 @@ fn converse<A: Allocator + Copy, R: Read, W: Write, D: Desk<Op<A>, Outcome<A>>, 
     listen(accounts, dialogue, reader, writer, desk, gate)
 }
 
-/// Tells the desk the Free of a lock that the session still holds.
+/// Tells the desk the Free of a lock that the session still holds. There is room for its entry.
 fn hang_up<A: Allocator + Copy, D: Desk<Op<A>, Outcome<A>>>(
     dialogue: &mut Dialogue<A>,
     desk: &mut D,
-    end: End,
-) -> End
-    requires settled { end ≢ End.DeskStopped → awaits_answer dialogue.old.session.state ≡ false }
-    ensures { IsHungUp D.gives (place dialogue.old desk.old) (place dialogue.new desk.new) end result }
+)
+    requires { vec_len dialogue.old.asked < vec_capacity dialogue.old.asked }
+    ensures { IsHungUp D.gives (place dialogue.old desk.old) (place dialogue.new desk.new) }
 {
-    if end == End::DeskStopped {
-        return end;
-    }
-    match dialogue.session.hangup() {
-        Ok(Some((user, op))) => match tell(dialogue, desk, user, op) {
-            Ok(()) => end,
-            Err(Memory) => End::Memory,
-        },
-        Ok(None) | Err(_) => end,
-    }
-}
-
-/// Tells the desk an operation, unless there is no room for its entry.
-fn tell<A: Allocator + Copy, D: Desk<Op<A>, Outcome<A>>>(
-    dialogue: &mut Dialogue<A>,
-    desk: &mut D,
-    user: Name,
-    op: Op<A>,
-) -> Result<(), Memory>
-    ensures told { OnOk result (IsTold D.gives (place dialogue.old desk.old) (place dialogue.new desk.new) user op) }
-    ensures untold { OnErr result (place dialogue.new desk.new ≡ place dialogue.old desk.old) }
-{
-    dialogue.asked.reserve(1)?;
-    let kept = op.copy()?;
-    let ticket = match desk.tell(user, op) {
+    let Some((user, lock)) = dialogue.session.lock() else {
+        return;
+    };
+    let ticket = match desk.tell(user, Op::Free { lock }) {
         Ok(ticket) => Some(ticket),
         Err(stopped) => stopped.ticket,
     };
     dialogue.asked.push_reserved(Asked {
         line: None,
         name: user,
-        op: kept,
+        op: Op::Free { lock },
         ticket,
         outcome: None,
     });
-    Ok(())
 }
 
 /// Serves a session (RFC 1939) to its end: writes the greeting, hears the lines that are read, has the desk perform
@@ -237,24 +215,19 @@ pub fn serve<A: Allocator + Copy, R: Read, W: Write, D: Desk<Op<A>, Outcome<A>>,
     desk: &mut D,
     gate: &mut G,
 ) -> Transcript<A>
-    ensures served { (read : List ℕ) × (written : List ℕ)
-        × Consumes (R.remaining reader.old) (R.remaining reader.new) read
-        × Appends (W.contents writer.old) (W.contents writer.new) written
-        × IsServed D.gives accounts.now stamp desk.old desk.new read written result }
-    ensures end { result.end ≡ End.HungUp → IsAtEnd (R.remaining reader.new) }
+    ensures transcript { IsTranscript accounts.now stamp result }
+    ensures bytes { IsReadAndWritten accounts.now stamp result
+        (R.remaining reader.old) (R.remaining reader.new) (W.contents writer.old) (W.contents writer.new) }
+
+    // The desk was asked what the entries say, gave what they say, and was asked nothing else.
+    ensures desk { IsHistory D.gives desk.old result.asked desk.new }
 {
     let session = Session::new(alloc, stamp);
-    let lines = Vec::new(alloc);
-    let asked = Vec::new(alloc);
-    let greeting = match session.greeting() {
-        Ok(greeting) => greeting,
-        Err(_) => return silent(alloc),
+    let Ok(greeting) = session.greeting() else {
+        return nothing(alloc);
     };
-    let mut dialogue = Dialogue {
-        session,
-        lines,
-        asked,
-        count: 0,
+    let Ok(mut dialogue) = Dialogue::new(alloc, session) else {
+        return nothing(alloc);
     };
     let end = converse(
         accounts,
@@ -265,23 +238,23 @@ pub fn serve<A: Allocator + Copy, R: Read, W: Write, D: Desk<Op<A>, Outcome<A>>,
         desk,
         gate,
     );
-    let end = hang_up(&mut dialogue, desk, end);
+    hang_up(&mut dialogue, desk);
     Transcript {
         greeting,
-        lines: Items::from_vec(dialogue.lines),
+        lines: dialogue.lines,
         asked: Items::from_vec(dialogue.asked),
         count: dialogue.count,
         end,
     }
 }
 
-/// What is kept of a session that found no memory for its greeting.
-fn silent<A: Allocator + Copy>(alloc: A) -> Transcript<A>
-    ensures { result ≡ record { greeting = []; lines = []; asked = []; count = 0; end = End.Memory } }
+/// What is kept of a session that found no memory to begin with.
+fn nothing<A: Allocator + Copy>(alloc: A) -> Transcript<A>
+    ensures { result ≡ spec.nothing }
 {
     Transcript {
         greeting: Items::new(alloc),
-        lines: Items::new(alloc),
+        lines: HeardLines::new(alloc),
         asked: Items::new(alloc),
         count: 0,
         end: End::Memory,

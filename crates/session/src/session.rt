@@ -1,6 +1,6 @@
 //! A session, from its greeting to its end.
 ghost use Rattle.std.specs.Prelude.{◌≡◌, ◌≢◌, ◌↔◌, true, false, ℕ, List, Some, None, Ok, Err, IsErr, IfOk, IfErr, OnOk, OnErr, MatchOption, option_map};
-ghost use Rattle.pop3_wire.specs.Reply.{greeting};
+ghost use Rattle.pop3_wire.specs.Reply.{greeting, HasShortFirstLine};
 ghost use Rattle.session.specs.declared.state.Turn.{Turn};
 ghost use Rattle.session.specs.Session as spec;
 
@@ -90,6 +90,8 @@ impl<A: Allocator + Copy> Session<A> {
     /// The greeting, which the server says first (RFC 1939 section 4).
     pub fn greeting(&self) -> Result<Items<u8, A>, SessionError>
         ensures said { IfOk result (λ bytes. bytes ≡ greeting self.now.stamp.nonce self.now.stamp.host) }
+        // Its line has at most 512 octets, as every first line of a reply (RFC 1939 section 3).
+        ensures short { IfOk result (λ bytes. HasShortFirstLine bytes) }
         ensures memory { IfErr result (λ error. error ≡ SessionError.Memory) }
     {
         let (nonce, host) = self.stamp.get();

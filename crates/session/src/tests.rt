@@ -20,7 +20,7 @@ fn text(alloc: Global, lines: &[&[u8]]) -> Result<Text, Fail> {
     for line in lines {
         all.push(Items::from_bytes(alloc, line)?)?;
     }
-    Ok(Text::new(alloc, all)?.ok_or("a line feed stands in a line")?)
+    Ok(Text::new(alloc, &all)?.ok_or("a line feed stands in a line")?)
 }
 
 /// An office of alice alone, with a session beside it.
@@ -107,8 +107,8 @@ fn a_transaction_answers_by_the_table(rt: HostRuntime) -> Result<(), Fail> {
     )?;
     assert_eq!(rt; first.octets(), 20);
     assert_eq!(rt; second.octets(), 21);
-    let _ = desk.perform(Op::Mail(first))?;
-    let _ = desk.perform(Op::Mail(second))?;
+    let _ = desk.perform(Op::Mail { text: first, key: None })?;
+    let _ = desk.perform(Op::Mail { text: second, key: None })?;
     let rows = [
         ("USER alice", "+OK send PASS\r\n"),
         ("PASS s", "+OK maildrop has 2 messages (41 octets)\r\n"),
@@ -293,7 +293,7 @@ fn a_locked_maildrop_is_refused(rt: HostRuntime) -> Result<(), Fail> {
     let _ = desk.hear(b"USER alice")?;
     assert_eq!(rt;
         desk.hear(b"PASS s")?.get(),
-        b"-ERR maildrop already locked\r\n".as_slice()
+        b"-ERR [IN-USE] maildrop already locked\r\n".as_slice()
     );
     assert!(rt; matches!(&desk.perform(Op::Free { lock })?.1, Outcome::Done));
     Ok(())
@@ -304,7 +304,7 @@ fn a_locked_maildrop_is_refused(rt: HostRuntime) -> Result<(), Fail> {
 fn a_broken_lock_removes_nothing(rt: HostRuntime) -> Result<(), Fail> {
     let alloc = rt.alloc();
     let mut desk = new_desk(alloc)?;
-    let _ = desk.perform(Op::Mail(text(alloc, [b"a".as_slice()].as_slice())?))?;
+    let _ = desk.perform(Op::Mail { text: text(alloc, [b"a".as_slice()].as_slice())?, key: None })?;
     let _ = desk.hear(b"USER alice")?;
     let _ = desk.hear(b"PASS s")?;
     let _ = desk.hear(b"DELE 1")?;

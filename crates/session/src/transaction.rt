@@ -162,7 +162,7 @@ fn quit<A: Allocator + Copy>(
     ))
 }
 
-/// The reply to a command that changes nothing.
+/// The reply to a command that changes nothing: one of those that end or change a session has none here.
 fn shown<A: Allocator + Copy>(
     alloc: A,
     opened: &Opened<A>,
@@ -185,7 +185,13 @@ fn shown<A: Allocator + Copy>(
         Verb::Retr(number) => retrieve(alloc, opened, *number),
         Verb::Top { number, lines } => top(alloc, opened, *number, *lines),
         Verb::Noop => Reply::Noop.text(alloc),
-        _ => Reply::WrongState.text(alloc),
+        Verb::Capa => Reply::Capabilities.text(alloc),
+        Verb::User(_)
+        | Verb::Pass(_)
+        | Verb::Apop { .. }
+        | Verb::Dele(_)
+        | Verb::Rset
+        | Verb::Quit => Reply::WrongState.text(alloc),
     }
 }
 

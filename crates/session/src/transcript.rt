@@ -1,6 +1,6 @@
 //! What is kept of a session that was served.
 
-use crate::heard::Heard;
+use crate::heard_lines::HeardLines;
 use ballot::Items;
 use maildrop::{Name, Op, Outcome, Ticket};
 use std::alloc::{Allocator, Global};
@@ -40,7 +40,7 @@ pub struct Transcript<A: Allocator = Global> {
     /// The greeting, or no bytes where it could not be made.
     pub greeting: Items<u8, A>,
     /// The lines that the session heard.
-    pub lines: Items<Heard<A>, A>,
+    pub lines: HeardLines<A>,
     /// What it asked.
     pub asked: Items<Asked<A>, A>,
     /// How many bytes of its replies were written.

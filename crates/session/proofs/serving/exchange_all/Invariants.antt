@@ -10,7 +10,6 @@ abbrev pub invariant-loop-rest : goal.invariant-loop-rest
 invariant-loop-rest g l = record {
   run : IsPieceFront l.accounts l.initial.dialogue.session.stamp g.D.Desk.gives (place l.initial.dialogue l.initial.desk) (place l.dialogue l.desk)
       l.initial.lines l.lines l.piece l.rest (g.W.Write.contents l.initial.writer) (g.W.Write.contents l.writer);
-  stamp : l.dialogue.session.stamp ≡ l.initial.dialogue.session.stamp;
   ready : waiting l.lines ≡ None;
   ended : lines_after l.lines [] ≡ [];
   count : l.dialogue.count + length l.rest * 2 ^ 64 ≤ l.initial.dialogue.count + length l.piece * 2 ^ 64;

@@ -11,8 +11,6 @@ invariant-loop g l = record {
   served : (read : List ℕ) × Consumes (g.R.Read.remaining l.initial.reader) (g.R.Read.remaining l.reader) read
       × IsPieceFront l.accounts l.initial.dialogue.session.stamp g.D.Desk.gives (place l.initial.dialogue l.initial.desk) (place l.dialogue l.desk)
       (Open []) l.lines read [] (g.W.Write.contents l.initial.writer) (g.W.Write.contents l.writer);
-  stamp : l.dialogue.session.stamp ≡ l.initial.dialogue.session.stamp;
-  hearing : hears l.dialogue.session.state ≡ true;
   ready : waiting l.lines ≡ None;
   ended : lines_after l.lines [] ≡ [];
   count : l.dialogue.count ≤ 2 ^ 64 + l.counter * (4096 * 2 ^ 64);

@@ -1,20 +1,34 @@
 use Rattle.std.proofs.Common.{◌≡◌, refl, rules}
 use Rattle.session.specs.Dialogue.{place}
-use Rattle.session.proofs.Served.{served, at_end, silent_served}
+use Rattle.session.proofs.Served.{transcribed, transported, historic, nothing_transcribed, nothing_transported}
 use Rattle.session.proofs.serving.serve.Goals as goal
 
-pub returns-in-Err-clause-served : goal.returns-in-Err-clause-served
-returns-in-Err-clause-served g c =
-    silent_served c.args.accounts.now c.args.stamp g.D.Desk.gives c.args.desk.now (g.R.Read.remaining c.args.reader.now) (g.W.Write.contents c.args.writer.now) c.silent.result c.silent.ensures
+pub returns-in_default-clause-transcript : goal.returns-in_default-clause-transcript
+returns-in_default-clause-transcript g c = nothing_transcribed c.args.accounts.now c.args.stamp c.nothing.result c.nothing.ensures
 
-pub returns-clause-served : goal.returns-clause-served
-returns-clause-served g c =
-    served c.args.accounts.now c.args.stamp g.D.Desk.gives c.args.desk.now (place c.converse-end.new.dialogue c.converse-end.new.desk) (place c.hang_up-end.new.dialogue c.hang_up-end.new.desk) c.converse-end.result c.hang_up-end.result
+pub returns-in_default-clause-bytes : goal.returns-in_default-clause-bytes
+returns-in_default-clause-bytes g c = nothing_transported c.args.accounts.now c.args.stamp c.nothing.result (g.R.Read.remaining c.args.reader.now) (g.W.Write.contents c.args.writer.now) c.nothing.ensures
+
+pub returns-in_default-new-clause-transcript : goal.returns-in_default-new-clause-transcript
+returns-in_default-new-clause-transcript g c = nothing_transcribed c.args.accounts.now c.args.stamp c.nothing-in_default-new.result c.nothing-in_default-new.ensures
+
+pub returns-in_default-new-clause-bytes : goal.returns-in_default-new-clause-bytes
+returns-in_default-new-clause-bytes g c = nothing_transported c.args.accounts.now c.args.stamp c.nothing-in_default-new.result (g.R.Read.remaining c.args.reader.now) (g.W.Write.contents c.args.writer.now) c.nothing-in_default-new.ensures
+
+pub returns-clause-transcript : goal.returns-clause-transcript
+returns-clause-transcript g c =
+    transcribed c.args.accounts.now c.args.stamp g.D.Desk.gives c.args.desk.now (place c.converse-end.new.dialogue c.converse-end.new.desk) (place c.hang_up.new.dialogue c.hang_up.new.desk) c.converse-end.result
     (g.R.Read.remaining c.args.reader.now) (g.R.Read.remaining c.converse-end.new.reader) (g.W.Write.contents c.args.writer.now) (g.W.Write.contents c.converse-end.new.writer) _
-    (rw c.new-session.ensures at c.converse-end.ensures.conversed) c.hang_up-end.ensures (search rules)
+    (rw (c.in-Ok-new.ensures.session, c.new-session.ensures) at c.converse-end.ensures.conversed) c.hang_up.ensures (search rules)
 
-pub returns-clause-end : goal.returns-clause-end
-returns-clause-end g c =
-    at_end c.args.accounts.now c.args.stamp g.D.Desk.gives c.args.desk.now (place c.converse-end.new.dialogue c.converse-end.new.desk) (place c.hang_up-end.new.dialogue c.hang_up-end.new.desk) c.converse-end.result c.hang_up-end.result
+pub returns-clause-bytes : goal.returns-clause-bytes
+returns-clause-bytes g c =
+    transported c.args.accounts.now c.args.stamp g.D.Desk.gives c.args.desk.now (place c.converse-end.new.dialogue c.converse-end.new.desk) (place c.hang_up.new.dialogue c.hang_up.new.desk) c.converse-end.result
+    (g.R.Read.remaining c.args.reader.now) (g.R.Read.remaining c.converse-end.new.reader) (g.W.Write.contents c.args.writer.now) (g.W.Write.contents c.converse-end.new.writer) _
+    (rw (c.in-Ok-new.ensures.session, c.new-session.ensures) at c.converse-end.ensures.conversed) c.hang_up.ensures (search rules)
+
+pub returns-clause-desk : goal.returns-clause-desk
+returns-clause-desk g c =
+    rw c.from_vec.ensures (historic c.args.accounts.now c.args.stamp g.D.Desk.gives c.args.desk.now (place c.converse-end.new.dialogue c.converse-end.new.desk) (place c.hang_up.new.dialogue c.hang_up.new.desk) c.converse-end.result
     (g.R.Read.remaining c.args.reader.now) (g.R.Read.remaining c.converse-end.new.reader) (g.W.Write.contents c.args.writer.now) (g.W.Write.contents c.converse-end.new.writer)
-    (rw c.new-session.ensures at c.converse-end.ensures.conversed) c.hang_up-end.ensures
+    (rw (c.in-Ok-new.ensures.session, c.new-session.ensures) at c.converse-end.ensures.conversed) c.hang_up.ensures)
