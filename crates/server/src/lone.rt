@@ -2,7 +2,6 @@
 ghost use Rattle.std.specs.Prelude.{◌≡◌, ◌≢◌, ℕ, false, List, ◌∷◌, [], Ok, Err, IsOk, IfOk, IfSome, OnOk, IfErr, IsErrOf, ◌↔◌, ◌⊎◌};
 ghost use Rattle.std.specs.declared.alloc.Global.{Global};
 ghost use Rattle.std.specs.Io.KnownBytes.{Appends};
-ghost use Rattle.apop.specs.Accounts.{method_of as method_in};
 ghost use Rattle.mboxrd.specs.declared.error.MboxError.TheVariants.{NoFromLine};
 ghost use Rattle.server.specs.Lone.{AreStored, AreGood, IsFirstFault, IsStatusOf, IsLoneSession};
 ghost use Rattle.server.specs.Served.{IsSessionOf, IsMailed, IsOfRun};
@@ -18,16 +17,6 @@ use session::{End, OpenGate, serve};
 use std::alloc::Global;
 use std::io::{Read, Write};
 
-fn method_of(word: &[u8]) -> Option<Method>
-    ensures { result ≡ method_in word.now }
-{
-    match word {
-        b"pass" => Some(Method::Pass),
-        b"apop" => Some(Method::Apop),
-        _ => None,
-    }
-}
-
 /// The account that the options name, with the user's name.
 fn account_of(alloc: Global, options: &LoneOptions<'_>) -> Result<(Name, Accounts), Fault>
     ensures user { IfOk result (λ account. account.0 ≡ options.now.user.now) }
@@ -39,7 +28,7 @@ fn account_of(alloc: Global, options: &LoneOptions<'_>) -> Result<(Name, Account
     let Some(name) = Name::new(options.user) else {
         return Err(Fault::Account);
     };
-    let Some(method) = method_of(options.method) else {
+    let Some(method) = Method::from_word(options.method) else {
         return Err(Fault::Account);
     };
     match Accounts::single(alloc, name, method, options.secret) {
