@@ -1,5 +1,5 @@
 -- Where lines and answers leave a session.
-use Rattle.std.proofs.Common.{◌≡◌, ◌≢◌, ℕ, Bool, true, false, List, [], ◌∷◌, Option, Some, None, refl, subst, inl, inr}
+use Rattle.std.proofs.Common.{◌≡◌, ℕ, Bool, true, false, List, Option, Some, None, refl, subst, inl, inr}
 use Rattle.std.specs.Prelude.{nat_lt, Result, Ok, Err, ⊤}
 use Rattle.std.specs.List.{list_any}
 use Rattle.std.proofs.lemmas.Bool.{cases_Bool}
@@ -18,10 +18,9 @@ use Rattle.pop3_wire.specs.declared.verb.LineFault.{LineFault}
 use Rattle.session.specs.declared.open_message.OpenMessage.{OpenMessage}
 use Rattle.session.specs.declared.state.State.{State}
 use Rattle.session.specs.declared.state.State.TheVariants.{Authorization, Locking, Transaction, Leaving, Closed, Spent}
-use Rattle.session.specs.declared.state.Step.{Step}
 use Rattle.session.specs.declared.state.Turn.{Turn}
 use Rattle.session.specs.OpenMessages.{message_at}
-use Rattle.session.specs.Session.{hears, awaits_answer, is_closed, lock_due, lock_got, invalid_login, checked_login, login, in_authorization, delete, quit, by_verb, in_transaction, by_command, by_line, by_answer, left}
+use Rattle.session.specs.Session.{hears, awaits_answer, is_closed, lock_due, lock_got, invalid_login, checked_login, login, in_authorization, delete, quit, in_transaction, by_line, by_answer, left}
 use Rattle.session.specs.Dialogue.{IsSettled}
 
 abbrev Settles : {A : Type 0} → Turn A → Type 0

@@ -1,5 +1,5 @@
 -- All that a session asks is for one user.
-use Rattle.std.proofs.Common.{◌≡◌, ◌⊎◌, ℕ, ◌+◌, Bool, true, false, List, [], ◌∷◌, Option, Some, None, refl, ap, sym, ◌∙◌, inl, inr, subst}
+use Rattle.std.proofs.Common.{◌≡◌, ℕ, ◌+◌, Bool, true, false, List, [], ◌∷◌, Option, Some, None, refl, inl, inr, subst}
 use Rattle.std.specs.Prelude.{nat_lt, Result, Ok, Err, is_some, ⊤}
 use Rattle.std.specs.Option.{option_map_or}
 use Rattle.std.specs.List.{list_any}
@@ -23,7 +23,7 @@ use Rattle.session.specs.declared.state.Step.{Step}
 use Rattle.session.specs.declared.state.Step.TheVariants.{Say, Ask, SayAndClose}
 use Rattle.session.specs.declared.state.Turn.{Turn}
 use Rattle.session.specs.OpenMessages.{message_at}
-use Rattle.session.specs.Session.{opening, hears, invalid_login, checked_login, login, in_authorization, delete, quit, in_transaction, by_line, by_answer, left}
+use Rattle.session.specs.Session.{opening, hears, invalid_login, checked_login, login, in_authorization, delete, quit, in_transaction, by_line, by_answer}
 use Rattle.session.specs.Conversation.{Answer, Rest, after_said, after_answer, after_asked, after_line, conversation_from, conversation}
 use Rattle.session.specs.Asking.{AreFor, AreForOneUser}
 
@@ -159,7 +159,6 @@ module _ {A : Type 0} where
   HasLoggedIn accounts (Say bytes) state = BeforeLogin state
   HasLoggedIn accounts (SayAndClose bytes) state = BeforeLogin state
   HasLoggedIn accounts (Ask user op) state = (is_some (account_named accounts user) ≡ true) × IsFor user state
-
 
 invalid-before : (A : Type 0) (accounts : List Account) (invalid : ℕ) → HasLoggedIn {A = A} accounts (invalid_login {A = A} invalid).step (invalid_login {A = A} invalid).state
 invalid-before A accounts invalid = elim (cases_Bool (nat_lt invalid 2)) [

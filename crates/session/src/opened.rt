@@ -124,7 +124,10 @@ impl<A: Allocator + Copy> Opened<A> {
     }
 }
 
-fn listed_of<A: Allocator + Copy>(alloc: A, entries: &[OpenMessage<A>]) -> Result<Vec<Listed, A>, Memory>
+fn listed_of<A: Allocator + Copy>(
+    alloc: A,
+    entries: &[OpenMessage<A>],
+) -> Result<Vec<Listed, A>, Memory>
     requires { length entries.now ≤ 999999999 }
     ensures { IfOk result (λ listed. listed.items ≡ spec.listed_from 1 entries.now) }
 {
