@@ -1,27 +1,25 @@
 -- What an office of one user answers is what the user's maildrop alone answers.
-use Rattle.std.proofs.Common.{◌≡◌, ℕ, ◌+◌, ◌<◌, Bool, true, false, List, [], ◌∷◌, ◌++◌, length, Option, Some, None, refl, ap, sym, ◌∙◌, append_assoc, append-nil, arith, inl, inr, subst, length-append}
-use Rattle.std.specs.Prelude.{IfSome, IfOk, OnOk, is_some, find, ⊤}
+use Rattle.std.proofs.Common.{◌≡◌, ℕ, ◌+◌, ◌<◌, Bool, true, false, List, [], ◌∷◌, ◌++◌, length, Option, Some, None, refl, ap, sym, ◌∙◌, append_assoc, arith, inl, inr, subst, length-append}
+use Rattle.std.specs.Prelude.{IfSome, is_some, ⊤}
 use Rattle.std.specs.List.{concat}
 use Rattle.std.specs.Str.{bytes_eq}
 use Rattle.std.specs.Io.KnownBytes.{Appends}
 use Rattle.std.specs.declared.alloc.Global.{Global}
 use Rattle.std.proofs.lemmas.Slice.Eq.{bytes_eq-Decides}
-use Rattle.std.proofs.lemmas.Bool.{cases_Bool}
 use Rattle.std.proofs.lemmas.Bool.Decides.{nat_tests}
 use Rattle.maildrop.specs.Limits.{Limits}
-use Rattle.maildrop.specs.Ticket.{Ticket, same_ticket}
+use Rattle.maildrop.specs.Ticket.{same_ticket}
 use Rattle.maildrop.specs.Maildrop.{Maildrop, empty_maildrop}
 use Rattle.maildrop.specs.Office.{User, new_user, maildrop_of, maildrop_after, maildrop_after_all, outcome_at, outcome_in, users_after}
-use Rattle.maildrop.specs.declared.outcome.Outcome.{Outcome}
 use Rattle.maildrop.specs.declared.command.Command.{Command}
 use Rattle.maildrop.proofs.Isolation.{maildrop_of-own}
 use Rattle.apop.specs.Stamp.{Stamp}
 use Rattle.apop.specs.Accounts.{Account}
 use Rattle.apop.specs.Login.{account_named}
 use Rattle.pop3_wire.specs.Lines.{lines_of}
-use Rattle.session.specs.Conversation.{Answer, Request, conversation}
+use Rattle.session.specs.Conversation.{Request, conversation}
 use Rattle.session.specs.Asking.{AreFor, AreForOneUser}
-use Rattle.session.specs.Alone.{outcome_of, answer_before, answers_for}
+use Rattle.session.specs.Alone.{outcome_of, answers_for}
 use Rattle.session.proofs.Users.{user_asked}
 use Rattle.server.specs.Tickets.{ticket_of}
 use Rattle.server.specs.Options.{account_of, stamp_of, lone_limits}

@@ -11,10 +11,9 @@ use Rattle.apop.specs.Stamp.{Stamp}
 use Rattle.apop.specs.Accounts.{Account}
 use Rattle.pop3_wire.specs.Lines.{lines_of}
 use Rattle.pop3_wire.specs.Reply.{greeting}
-use Rattle.pop3_wire.specs.declared.line.Line.{Line}
 use Rattle.session.specs.Session.{opening, free_of, lock_due}
-use Rattle.session.specs.Conversation.{Answer, Conversation, with_reply, conversation, conversation_from}
-use Rattle.session.specs.Transcript.{answers_of, requests_of, given_of, IsAnsweredEntry, AreAnswered, IsHistory}
+use Rattle.session.specs.Conversation.{Answer, Conversation, with_reply, conversation}
+use Rattle.session.specs.Transcript.{answers_of, requests_of, given_of, AreAnswered, IsHistory}
 use Rattle.session.specs.Prefix.{IsPrefix}
 use Rattle.session.specs.Serve.{IsTranscript, IsReadAndWritten, IsLeftBy, IsWrittenBy, AreAnsweredAt, told}
 use Rattle.session.specs.declared.state.State.{State}

@@ -1,5 +1,5 @@
 -- What a POP3 server with one user's maildrop alone says to a lone session, and with which status the run ends.
-use Rattle.std.specs.Prelude.{◌≡◌, ℕ, ◌+◌, Bool, true, false, ◌&&◌, ◌++◌, List, [], ◌∷◌, length, Option, Some, None, Result, Ok, Err}
+use Rattle.std.specs.Prelude.{◌≡◌, ℕ, ◌+◌, Bool, true, false, ◌&&◌, ◌++◌, List, [], ◌∷◌, length, Option, Some, None, Ok, Err}
 use Rattle.std.specs.List.{concat}
 use mathlib.Core.Logic.{◌⊎◌}
 use Rattle.maildrop.specs.Ticket.{Ticket}

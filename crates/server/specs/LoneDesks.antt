@@ -1,5 +1,5 @@
 -- What the desk of a lone session gives.
-use Rattle.std.specs.Prelude.{◌≡◌, ℕ, ◌+◌, Option, Some, None, IfSome}
+use Rattle.std.specs.Prelude.{◌≡◌, ◌+◌, Option, Some, None, IfSome}
 use Rattle.maildrop.specs.Ticket.{Ticket}
 use Rattle.maildrop.specs.Office.{outcome_in, users_after}
 use Rattle.maildrop.specs.declared.command.Command.{Command}

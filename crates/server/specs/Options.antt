@@ -1,5 +1,5 @@
 -- The options of a lone session.
-use Rattle.std.specs.Prelude.{◌≡◌, ℕ, List, [], Option, None, Some, Result, Ok, Err, IsTrue, is_some}
+use Rattle.std.specs.Prelude.{ℕ, List, [], Option, None, Some, Result, Ok, IsTrue, is_some}
 use Rattle.std.specs.Option.{unwrap_or, option_map}
 use Rattle.apop.specs.Accounts.{Account, is_secret, method_of}
 use Rattle.apop.specs.Stamp.{Stamp, IsNonce, IsHost}

@@ -12,14 +12,3 @@ pub use fault::Fault;
 pub use lone::lone_run;
 pub use lone_desk::LoneDesk;
 pub use options::{LONE_IDS, LONE_MESSAGES, LONE_OCTETS, LoneOptions};
-
-#[cfg(test)]
-mod fault_tests;
-#[cfg(test)]
-mod mail_tests;
-#[cfg(test)]
-mod serve_tests;
-#[cfg(test)]
-mod served;
-#[cfg(test)]
-mod tests;

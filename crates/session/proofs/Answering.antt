@@ -1,5 +1,5 @@
 -- What a line and the desk's answer lead to.
-use Rattle.std.proofs.Common.{◌≡◌, ◌≢◌, ◌↔◌, ℕ, ◌+◌, ◌<◌, ◌≤◌, true, false, List, [], ◌∷◌, ◌++◌, length, Option, Some, None, refl, ap, sym, ◌∙◌, append-nil, arith, inl, inr, subst}
+use Rattle.std.proofs.Common.{◌≡◌, ◌≢◌, ◌↔◌, ℕ, ◌+◌, ◌<◌, true, false, List, [], ◌∷◌, ◌++◌, length, Option, Some, None, refl, ap, sym, ◌∙◌, append-nil, arith, inl, inr, subst}
 use Rattle.std.specs.Prelude.{Result, Ok, Err, IfOk, IfErr}
 use Rattle.std.specs.List.{concat}
 use Rattle.std.proofs.lemmas.Bool.{cases_Bool}
@@ -20,14 +20,11 @@ use Rattle.session.specs.declared.state.Step.TheVariants.{Say, Ask, SayAndClose}
 use Rattle.session.specs.declared.state.Turn.{Turn}
 use Rattle.session.specs.declared.state.SessionError.{SessionError}
 use Rattle.session.specs.declared.state.SessionError.TheVariants as fault
-use Rattle.session.specs.declared.stop.Stop.{Stop}
 use Rattle.session.specs.declared.dialogue.Dialogue.{Dialogue}
 use Rattle.session.specs.declared.dialogue.Saying.{Saying}
-use Rattle.session.specs.declared.transcript.Asked.{Asked}
 use Rattle.session.specs.declared.transcript.End.{End}
 use Rattle.session.specs.declared.transcript.End.TheVariants as end
-use Rattle.session.specs.Serve.{AreAnsweredAt, EndsUnanswered}
-use Rattle.session.specs.Dialogue.{Place, place, place_alone, end_of, saying_by, step_of, entry_of, quiet, IsPart, IsSettled, IsHeard, IsStop, IsAsked, IsAnswered, IsUnanswered, IsSilenced, IsKept, IsSpent, Says, Brings, Responds, Unanswers, Refuses}
+use Rattle.session.specs.Dialogue.{Place, place, place_alone, end_of, saying_by, step_of, entry_of, quiet, IsPart, IsSettled, IsHeard, IsStop, IsAnswered, IsUnanswered, IsSilenced, IsKept, Says, Responds, Refuses}
 use Rattle.session.proofs.Parts.{say_part, close_part, answered_part, answered_close, one-heard}
 use Rattle.session.proofs.Settled.{answer_settles, awaiting, heard_awaits, line_settles}
 

@@ -1,14 +1,13 @@
 -- Lines and answers, in any order, make the conversation of those that were taken.
-use Rattle.std.proofs.Common.{◌≡◌, ℕ, ◌+◌, Bool, true, false, List, [], ◌∷◌, ◌++◌, length, Option, Some, None, refl, ap, sym, ◌∙◌, append_assoc, append-nil, arith, subst, if◌then◌else◌}
+use Rattle.std.proofs.Common.{◌≡◌, ℕ, ◌+◌, Bool, true, false, List, [], ◌∷◌, ◌++◌, length, Option, Some, None, refl, ap, ◌∙◌, append_assoc, append-nil}
 use Rattle.std.specs.Prelude.{fold}
 use Rattle.std.proofs.lemmas.List.{length-append}
 use Rattle.apop.specs.Stamp.{Stamp}
 use Rattle.apop.specs.Accounts.{Account}
-use Rattle.pop3_wire.specs.Reply.{greeting}
 use Rattle.pop3_wire.specs.declared.line.Line.{Line}
 use Rattle.session.specs.Calls.{Call, HearLine, HearAnswer, Talk, said_by, asked_by, after_hearing, after_turn, after_call, talk_begun, talk_of, resumed, IsTalk, IsConversation}
-use Rattle.session.specs.Session.{opening, hears, awaits_answer, by_line, by_answer}
-use Rattle.session.specs.Conversation.{Answer, Request, Conversation, silence, with_reply, with_front, after_asked, conversation_from, conversation}
+use Rattle.session.specs.Session.{hears, awaits_answer, by_line, by_answer}
+use Rattle.session.specs.Conversation.{Answer, Request, Conversation, silence, with_front, conversation_from, conversation}
 use Rattle.session.specs.Dialogue.{IsSettled}
 use Rattle.session.specs.declared.state.State.{State}
 use Rattle.session.specs.declared.state.State.TheVariants.{Authorization, Locking, Transaction, Leaving, Closed, Spent}

@@ -1,11 +1,10 @@
 -- Behind the end of a session nothing is said.
-use Rattle.std.proofs.Common.{◌≡◌, ℕ, ◌+◌, Bool, true, false, List, [], ◌∷◌, ◌++◌, Option, Some, None, refl, ap, if◌then◌else◌}
-use Rattle.std.proofs.lemmas.Bool.{cases_Bool}
+use Rattle.std.proofs.Common.{◌≡◌, ℕ, ◌+◌, Bool, true, false, List, [], ◌∷◌, ◌++◌, Option, Some, None, refl, ap}
 use Rattle.apop.specs.Stamp.{Stamp}
 use Rattle.apop.specs.Accounts.{Account}
 use Rattle.pop3_wire.specs.declared.line.Line.{Line}
 use Rattle.session.specs.Session.{hears, by_line, by_answer}
-use Rattle.session.specs.Conversation.{Answer, Conversation, Rest, silence, with_reply, with_request, after_said, after_answer, after_asked, after_line, conversation_from}
+use Rattle.session.specs.Conversation.{Answer, Rest, silence, with_reply, with_request, after_said, after_answer, after_asked, after_line, conversation_from}
 use Rattle.session.specs.declared.state.State.{State}
 use Rattle.session.specs.declared.state.State.TheVariants.{Closed}
 use Rattle.session.specs.declared.state.Step.{Step}

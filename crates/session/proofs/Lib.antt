@@ -1,4 +1,4 @@
-pub mod EntryLemmas
+pub mod OpenMessageLemmas
 pub mod Settled
 pub mod Parts
 pub mod Runs

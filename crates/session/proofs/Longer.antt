@@ -1,9 +1,9 @@
 -- More lines and more answers only lengthen the replies. No verb is ever looked at.
-use Rattle.std.proofs.Common.{◌≡◌, ℕ, ◌+◌, Bool, true, false, List, [], ◌∷◌, ◌++◌, Option, Some, None, refl, ap, sym, ◌∙◌, subst, inl, inr}
+use Rattle.std.proofs.Common.{◌≡◌, ℕ, ◌+◌, Bool, true, false, List, [], ◌∷◌, ◌++◌, Option, Some, None, refl, ap, subst, inl, inr}
 use Rattle.std.proofs.lemmas.Bool.{cases_Bool}
 use Rattle.maildrop.specs.Ticket.{Ticket, same_ticket}
 use Rattle.maildrop.specs.Maildrop.{Maildrop}
-use Rattle.maildrop.specs.Office.{outcome_at, maildrop_after}
+use Rattle.maildrop.specs.Office.{maildrop_after}
 use Rattle.maildrop.specs.declared.command.Command.{Command}
 use Rattle.maildrop.specs.declared.outcome.Outcome.{Outcome}
 use Rattle.apop.specs.Stamp.{Stamp}

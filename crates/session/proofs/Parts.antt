@@ -1,22 +1,18 @@
 -- The parts of a conversation, one after another.
-use Rattle.std.proofs.Common.{◌≡◌, ℕ, zero, suc, ◌+◌, ◌-◌, ◌<◌, ◌≤◌, true, false, List, [], ◌∷◌, ◌++◌, length, take, Option, Some, None, refl, ap, sym, ◌∙◌, append_assoc, append-nil, arith, inl, inr, subst}
-use Rattle.std.specs.List.{concat}
+use Rattle.std.proofs.Common.{◌≡◌, ℕ, zero, suc, ◌+◌, ◌-◌, ◌<◌, ◌≤◌, true, List, [], ◌∷◌, ◌++◌, length, take, Some, refl, ap, ◌∙◌, append_assoc, append-nil, arith, inl, inr, subst}
 use Rattle.std.proofs.lemmas.Bool.{cases_lt}
 use Rattle.std.proofs.lemmas.List.{length-append}
-use Rattle.std.proofs.lemmas.List.Folds.{concat-append}
 use Rattle.maildrop.specs.Ticket.{Ticket}
 use Rattle.maildrop.specs.declared.op.Op.{Op}
 use Rattle.maildrop.specs.declared.outcome.Outcome.{Outcome}
 use Rattle.apop.specs.Stamp.{Stamp}
 use Rattle.apop.specs.Accounts.{Account}
 use Rattle.pop3_wire.specs.declared.line.Line.{Line}
-use Rattle.session.specs.Prefix.{IsPrefix}
 use Rattle.session.specs.Desks.{Given}
 use Rattle.session.specs.Session.{hears, by_line, by_answer}
-use Rattle.session.specs.Conversation.{Answer, Request, Conversation, silence, with_front, conversation_from}
-use Rattle.session.specs.Transcript.{answers_of, requests_of, given_of, AreAnswered, IsHistory}
+use Rattle.session.specs.Conversation.{Answer, Request, Conversation, with_front, conversation_from}
+use Rattle.session.specs.Transcript.{answers_of, requests_of, AreAnswered, IsHistory}
 use Rattle.session.specs.declared.state.State.{State}
-use Rattle.session.specs.declared.state.Step.{Step}
 use Rattle.session.specs.declared.state.Step.TheVariants.{Say, Ask, SayAndClose}
 use Rattle.session.specs.declared.state.Turn.{Turn}
 use Rattle.session.specs.declared.transcript.Asked.{Asked}

@@ -1,5 +1,5 @@
 -- A session that is being served, from one place to another.
-use Rattle.std.proofs.Common.{◌≡◌, ◌⊎◌, ℕ, zero, suc, ◌+◌, ◌<◌, ◌≤◌, Bool, true, false, List, [], ◌∷◌, ◌++◌, length, take, drop, Option, Some, None, refl, ap, sym, ◌∙◌, append_assoc, append-nil, arith, inl, inr, subst, rules}
+use Rattle.std.proofs.Common.{◌≡◌, ◌⊎◌, ℕ, zero, suc, ◌+◌, ◌<◌, ◌≤◌, true, false, List, [], ◌∷◌, ◌++◌, length, take, drop, refl, ap, sym, ◌∙◌, append_assoc, append-nil, arith, inl, inr, subst, rules}
 use Rattle.std.specs.List.{concat}
 use Rattle.std.proofs.lemmas.Bool.{cases_Bool}
 use Rattle.std.proofs.lemmas.List.{length-append, take-append-drop}
@@ -9,16 +9,16 @@ use Rattle.apop.specs.Accounts.{Account}
 use Rattle.pop3_wire.specs.declared.line.Line.{Line}
 use Rattle.session.specs.Prefix.{IsPrefix}
 use Rattle.session.specs.Desks.{Given}
-use Rattle.session.specs.Session.{hears, awaits_answer, lock_due}
+use Rattle.session.specs.Session.{hears, awaits_answer}
 use Rattle.session.specs.Conversation.{conversation_from}
-use Rattle.session.specs.Transcript.{answers_of, requests_of, AreAnswered, IsHistory}
+use Rattle.session.specs.Transcript.{answers_of, requests_of, AreAnswered}
 use Rattle.session.specs.declared.state.State.{State}
 use Rattle.session.specs.declared.state.State.TheVariants as state
 use Rattle.session.specs.declared.dialogue.Saying.{Saying}
 use Rattle.session.specs.declared.transcript.Asked.{Asked}
 use Rattle.session.specs.declared.transcript.End.{End}
 use Rattle.session.specs.declared.transcript.End.TheVariants as end
-use Rattle.session.specs.Serve.{IsLeftBy, IsWrittenBy, EndsUnanswered, AreAnsweredAt}
+use Rattle.session.specs.Serve.{IsLeftBy, IsWrittenBy, AreAnsweredAt}
 use Rattle.session.specs.Dialogue.{Place, step_of, IsSettled, IsPart, IsRun, IsStop, IsHeard}
 use Rattle.session.proofs.Parts.{part_join, part_ends, part_then, heard_behind, answers_append, history_join, answered_join}
 use Rattle.session.proofs.Settled.{heard_awaits}

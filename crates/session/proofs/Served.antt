@@ -1,23 +1,20 @@
 -- The transcript of a session that was served.
-use Rattle.std.proofs.Common.{◌≡◌, ◌⊎◌, ℕ, ◌<◌, true, List, [], ◌∷◌, ◌++◌, length, take, Option, Some, None, refl, ap, sym, ◌∙◌, append-nil, arith, inl, inr, subst}
+use Rattle.std.proofs.Common.{◌≡◌, ℕ, ◌<◌, List, [], ◌∷◌, ◌++◌, length, Option, Some, None, refl, ap, sym, ◌∙◌, append-nil, arith, inl, inr, subst}
 use Rattle.std.specs.List.{concat}
-use Rattle.std.specs.Io.KnownBytes.{Appends, Consumes, IsAtEnd}
 use Rattle.maildrop.specs.Ticket.{Ticket}
 use Rattle.maildrop.specs.declared.op.Op.{Op}
 use Rattle.maildrop.specs.declared.outcome.Outcome.{Outcome}
 use Rattle.apop.specs.Stamp.{Stamp}
 use Rattle.apop.specs.Accounts.{Account}
-use Rattle.pop3_wire.specs.Lines.{lines_of}
 use Rattle.pop3_wire.specs.Reply.{greeting}
 use Rattle.session.specs.Desks.{Given}
-use Rattle.session.specs.Session.{hears, free_of, lock_due}
+use Rattle.session.specs.Session.{free_of, lock_due}
 use Rattle.session.specs.Conversation.{Conversation, conversation}
 use Rattle.session.specs.Transcript.{answer_by, answers_of, requests_of, IsHistory}
-use Rattle.session.specs.Serve.{IsFreed, IsLeftBy, IsWrittenBy, AreAnsweredAt, IsTranscript, IsReadAndWritten, nothing, told}
+use Rattle.session.specs.Serve.{IsFreed, IsLeftBy, IsWrittenBy, AreAnsweredAt, IsTranscript, IsReadAndWritten, nothing}
 use Rattle.session.specs.declared.transcript.Asked.{Asked}
 use Rattle.session.specs.declared.transcript.Transcript.{Transcript}
 use Rattle.session.specs.declared.transcript.End.{End}
-use Rattle.session.specs.declared.transcript.End.TheVariants as end
 use Rattle.session.specs.Dialogue.{Place, IsConversed, IsHungUp}
 use Rattle.session.proofs.Parts.{answers_append, history_join}
 use Rattle.session.proofs.Streams.{appends_none, consumes_none}

@@ -1,5 +1,5 @@
 -- Where lines and answers leave a session.
-use Rattle.std.proofs.Common.{◌≡◌, ◌≢◌, ℕ, Bool, true, false, List, [], ◌∷◌, Option, Some, None, refl, subst, inl, inr}
+use Rattle.std.proofs.Common.{◌≡◌, ℕ, Bool, true, false, List, Option, Some, None, refl, subst, inl, inr}
 use Rattle.std.specs.Prelude.{nat_lt, Result, Ok, Err, ⊤}
 use Rattle.std.specs.List.{list_any}
 use Rattle.std.proofs.lemmas.Bool.{cases_Bool}
@@ -15,13 +15,12 @@ use Rattle.pop3_wire.specs.declared.line.Line.TheVariants.{Whole, TooLong}
 use Rattle.pop3_wire.specs.declared.verb.Verb.{Verb}
 use Rattle.pop3_wire.specs.declared.verb.Verb.TheVariants as verb
 use Rattle.pop3_wire.specs.declared.verb.LineFault.{LineFault}
-use Rattle.session.specs.declared.entry.Entry.{Entry}
+use Rattle.session.specs.declared.open_message.OpenMessage.{OpenMessage}
 use Rattle.session.specs.declared.state.State.{State}
 use Rattle.session.specs.declared.state.State.TheVariants.{Authorization, Locking, Transaction, Leaving, Closed, Spent}
-use Rattle.session.specs.declared.state.Step.{Step}
 use Rattle.session.specs.declared.state.Turn.{Turn}
-use Rattle.session.specs.Entries.{entry_at}
-use Rattle.session.specs.Session.{hears, awaits_answer, is_closed, lock_due, lock_got, invalid_login, checked_login, login, in_authorization, delete, quit, by_verb, in_transaction, by_command, by_line, by_answer, left}
+use Rattle.session.specs.OpenMessages.{message_at}
+use Rattle.session.specs.Session.{hears, awaits_answer, is_closed, lock_due, lock_got, invalid_login, checked_login, login, in_authorization, delete, quit, in_transaction, by_line, by_answer, left}
 use Rattle.session.specs.Dialogue.{IsSettled}
 
 abbrev Settles : {A : Type 0} → Turn A → Type 0
@@ -58,24 +57,24 @@ authorization-settles A accounts stamp user invalid (Ok verb.Quit) = refl
 authorization-settles A accounts stamp user invalid (Err fault) = refl
 
 module _ {A : Type 0} where
-  delete-settles : (user : List ℕ) (lock : Ticket) (entries : List (Entry A)) (number : ℕ) (found : Option (Entry A)) → Settles (delete user lock entries number found)
+  delete-settles : (user : List ℕ) (lock : Ticket) (entries : List (OpenMessage A)) (number : ℕ) (found : Option (OpenMessage A)) → Settles (delete user lock entries number found)
   delete-settles user lock entries number None = refl
   delete-settles user lock entries number (Some entry) = refl
 
-  quit-settles : (user : List ℕ) (lock : Ticket) (entries : List (Entry A)) → Settles (quit user lock entries)
-  quit-settles user lock entries = elim (cases_Bool (list_any (λ (entry : Entry A). entry.marked) entries)) [
+  quit-settles : (user : List ℕ) (lock : Ticket) (entries : List (OpenMessage A)) → Settles (quit user lock entries)
+  quit-settles user lock entries = elim (cases_Bool (list_any (λ (entry : OpenMessage A). entry.marked) entries)) [
     | inl some ↦ rw some refl
     | inr none ↦ rw none refl
   ]
 
-  transaction-settles : (user : List ℕ) (lock : Ticket) (entries : List (Entry A)) (command : Result Verb LineFault) → Settles (in_transaction user lock entries command)
+  transaction-settles : (user : List ℕ) (lock : Ticket) (entries : List (OpenMessage A)) (command : Result Verb LineFault) → Settles (in_transaction user lock entries command)
   transaction-settles user lock entries (Ok (verb.User name)) = refl
   transaction-settles user lock entries (Ok (verb.Pass secret)) = refl
   transaction-settles user lock entries (Ok (verb.Apop name digest)) = refl
   transaction-settles user lock entries (Ok verb.Stat) = refl
   transaction-settles user lock entries (Ok (verb.List number)) = refl
   transaction-settles user lock entries (Ok (verb.Retr number)) = refl
-  transaction-settles user lock entries (Ok (verb.Dele number)) = delete-settles user lock entries number (entry_at entries number)
+  transaction-settles user lock entries (Ok (verb.Dele number)) = delete-settles user lock entries number (message_at entries number)
   transaction-settles user lock entries (Ok verb.Noop) = refl
   transaction-settles user lock entries (Ok verb.Rset) = refl
   transaction-settles user lock entries (Ok (verb.Top number lines)) = refl

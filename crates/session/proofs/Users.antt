@@ -1,5 +1,5 @@
 -- All that a session asks is for one user.
-use Rattle.std.proofs.Common.{◌≡◌, ◌⊎◌, ℕ, ◌+◌, Bool, true, false, List, [], ◌∷◌, Option, Some, None, refl, ap, sym, ◌∙◌, inl, inr, subst}
+use Rattle.std.proofs.Common.{◌≡◌, ℕ, ◌+◌, Bool, true, false, List, [], ◌∷◌, Option, Some, None, refl, inl, inr, subst}
 use Rattle.std.specs.Prelude.{nat_lt, Result, Ok, Err, is_some, ⊤}
 use Rattle.std.specs.Option.{option_map_or}
 use Rattle.std.specs.List.{list_any}
@@ -16,14 +16,14 @@ use Rattle.pop3_wire.specs.declared.line.Line.TheVariants.{Whole, TooLong}
 use Rattle.pop3_wire.specs.declared.verb.Verb.{Verb}
 use Rattle.pop3_wire.specs.declared.verb.Verb.TheVariants as verb
 use Rattle.pop3_wire.specs.declared.verb.LineFault.{LineFault}
-use Rattle.session.specs.declared.entry.Entry.{Entry}
+use Rattle.session.specs.declared.open_message.OpenMessage.{OpenMessage}
 use Rattle.session.specs.declared.state.State.{State}
 use Rattle.session.specs.declared.state.State.TheVariants.{Authorization, Locking, Transaction, Leaving, Closed, Spent}
 use Rattle.session.specs.declared.state.Step.{Step}
 use Rattle.session.specs.declared.state.Step.TheVariants.{Say, Ask, SayAndClose}
 use Rattle.session.specs.declared.state.Turn.{Turn}
-use Rattle.session.specs.Entries.{entry_at}
-use Rattle.session.specs.Session.{opening, hears, invalid_login, checked_login, login, in_authorization, delete, quit, in_transaction, by_line, by_answer, left}
+use Rattle.session.specs.OpenMessages.{message_at}
+use Rattle.session.specs.Session.{opening, hears, invalid_login, checked_login, login, in_authorization, delete, quit, in_transaction, by_line, by_answer}
 use Rattle.session.specs.Conversation.{Answer, Rest, after_said, after_answer, after_asked, after_line, conversation_from, conversation}
 use Rattle.session.specs.Asking.{AreFor, AreForOneUser}
 
@@ -46,27 +46,27 @@ module _ {A : Type 0} where
     asks : AsksFor user turn.step
     stays : IsFor user turn.state
 
-  delete-for : (user : List ℕ) (lock : Ticket) (entries : List (Entry A)) (number : ℕ) (found : Option (Entry A)) → IsTurnFor user (delete user lock entries number found)
+  delete-for : (user : List ℕ) (lock : Ticket) (entries : List (OpenMessage A)) (number : ℕ) (found : Option (OpenMessage A)) → IsTurnFor user (delete user lock entries number found)
   delete-for user lock entries number None = record { asks = tt; stays = refl }
   delete-for user lock entries number (Some entry) = record { asks = tt; stays = refl }
 
-  quit-for : (user : List ℕ) (lock : Ticket) (entries : List (Entry A)) → IsTurnFor user (quit user lock entries)
-  quit-for user lock entries = elim (cases_Bool (list_any (λ (entry : Entry A). entry.marked) entries)) [
+  quit-for : (user : List ℕ) (lock : Ticket) (entries : List (OpenMessage A)) → IsTurnFor user (quit user lock entries)
+  quit-for user lock entries = elim (cases_Bool (list_any (λ (entry : OpenMessage A). entry.marked) entries)) [
     | inl some ↦ rw some (record { asks = refl; stays = tt })
     | inr none ↦ rw none (record { asks = refl; stays = tt })
   ]
 
-  said-for : (user : List ℕ) (lock : Ticket) (entries : List (Entry A)) (bytes : List ℕ) → IsTurnFor user (record { step = Say bytes; state = Transaction user lock entries })
+  said-for : (user : List ℕ) (lock : Ticket) (entries : List (OpenMessage A)) (bytes : List ℕ) → IsTurnFor user (record { step = Say bytes; state = Transaction user lock entries })
   said-for user lock entries bytes = record { asks = tt; stays = refl }
 
-  transaction-for : (user : List ℕ) (lock : Ticket) (entries : List (Entry A)) (command : Result Verb LineFault) → IsTurnFor user (in_transaction user lock entries command)
+  transaction-for : (user : List ℕ) (lock : Ticket) (entries : List (OpenMessage A)) (command : Result Verb LineFault) → IsTurnFor user (in_transaction user lock entries command)
   transaction-for user lock entries (Ok (verb.User name)) = said-for user lock entries _
   transaction-for user lock entries (Ok (verb.Pass secret)) = said-for user lock entries _
   transaction-for user lock entries (Ok (verb.Apop name digest)) = said-for user lock entries _
   transaction-for user lock entries (Ok verb.Stat) = said-for user lock entries _
   transaction-for user lock entries (Ok (verb.List number)) = said-for user lock entries _
   transaction-for user lock entries (Ok (verb.Retr number)) = said-for user lock entries _
-  transaction-for user lock entries (Ok (verb.Dele number)) = delete-for user lock entries number (entry_at entries number)
+  transaction-for user lock entries (Ok (verb.Dele number)) = delete-for user lock entries number (message_at entries number)
   transaction-for user lock entries (Ok verb.Noop) = said-for user lock entries _
   transaction-for user lock entries (Ok verb.Rset) = said-for user lock _ _
   transaction-for user lock entries (Ok (verb.Top number lines)) = said-for user lock entries _
@@ -159,7 +159,6 @@ module _ {A : Type 0} where
   HasLoggedIn accounts (Say bytes) state = BeforeLogin state
   HasLoggedIn accounts (SayAndClose bytes) state = BeforeLogin state
   HasLoggedIn accounts (Ask user op) state = (is_some (account_named accounts user) ≡ true) × IsFor user state
-
 
 invalid-before : (A : Type 0) (accounts : List Account) (invalid : ℕ) → HasLoggedIn {A = A} accounts (invalid_login {A = A} invalid).step (invalid_login {A = A} invalid).state
 invalid-before A accounts invalid = elim (cases_Bool (nat_lt invalid 2)) [

@@ -1,5 +1,5 @@
 -- How a session that is being served goes on, and how it stops. Only private contracts cite this.
-use Rattle.std.specs.Prelude.{◌≡◌, ℕ, ◌+◌, ◌-◌, ◌<◌, ◌≤◌, List, [], ◌∷◌, ◌++◌, length, take, vec_len, vec_capacity, true, false, Option, Some, None, Result, Ok, Err, if◌then◌else◌}
+use Rattle.std.specs.Prelude.{◌≡◌, ℕ, ◌+◌, ◌-◌, ◌<◌, ◌≤◌, List, [], ◌∷◌, ◌++◌, length, take, vec_len, vec_capacity, true, false, Option, Some, Result, Ok, Err, if◌then◌else◌}
 use Rattle.std.specs.List.{concat}
 use mathlib.Core.Logic.{◌⊎◌}
 use Rattle.apop.specs.Stamp.{Stamp}
@@ -11,7 +11,7 @@ use Rattle.pop3_wire.specs.declared.line.Line.{Line}
 use Rattle.session.specs.Prefix.{IsPrefix}
 use Rattle.session.specs.Desks.{Given}
 use Rattle.session.specs.Session.{hears, awaits_answer, lock_due, by_answer, free_of}
-use Rattle.session.specs.Conversation.{Answer, Request, Conversation, Rest, silence, with_front, after_asked, conversation_from, conversation}
+use Rattle.session.specs.Conversation.{Answer, Rest, silence, with_front, after_asked, conversation_from, conversation}
 use Rattle.session.specs.Serve.{IsLeftBy, IsWrittenBy, AreAnsweredAt, IsFreed}
 use Rattle.session.specs.Transcript.{answer_by, answers_of, requests_of, given_of, AreAnswered, IsHistory}
 use Rattle.maildrop.specs.Ticket.{Ticket}

@@ -1,5 +1,5 @@
 pub mod Errors
-pub mod Entries
+pub mod OpenMessages
 pub mod Open
 pub mod Session
 pub mod HeardLines

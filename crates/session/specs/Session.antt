@@ -20,12 +20,12 @@ use Rattle.pop3_wire.specs.declared.verb.Keyword.{Keyword}
 use Rattle.pop3_wire.specs.declared.verb.Keyword.TheVariants as keyword
 use Rattle.pop3_wire.specs.declared.verb.LineFault.{LineFault}
 use Rattle.pop3_wire.specs.declared.verb.LineFault.TheVariants.{Unknown, Arguments}
-use Rattle.session.specs.declared.entry.Entry.{Entry}
+use Rattle.session.specs.declared.open_message.OpenMessage.{OpenMessage}
 use Rattle.session.specs.declared.state.State.{State}
 use Rattle.session.specs.declared.state.State.TheVariants.{Authorization, Locking, Transaction, Leaving, Closed, Spent}
 use Rattle.session.specs.declared.state.Step.TheVariants.{Say, Ask, SayAndClose}
 use Rattle.session.specs.declared.state.Turn.{Turn}
-use Rattle.session.specs.Entries.{entry_of, entry_at, with_mark_at, without_mark, unmarked, octets_in, listed_from, identified_from, marked_uids}
+use Rattle.session.specs.OpenMessages.{open_message_of, message_at, with_mark_at, without_mark, unmarked, octets_in, listed_from, identified_from, marked_uids}
 
 -- in AUTHORIZATION: the commands that are valid there, PASS directly behind a USER alone
 abbrev pub is_valid_before_login : Option (List ℕ) → Keyword → Bool
@@ -100,71 +100,71 @@ module _ {A : Type 0} where
   in_authorization accounts stamp user invalid (Err fault) = say (refusal_before_login user fault) (Authorization None invalid)
 
   -- what is said of one message, unless it is absent or marked
-  abbrev pub of_message : Option (Entry A) → (Entry A → List ℕ) → List ℕ
+  abbrev pub of_message : Option (OpenMessage A) → (OpenMessage A → List ℕ) → List ℕ
   of_message None text = reply.no_such_message
   of_message (Some entry) text = text entry
 
-  abbrev pub scan_listings : List (Entry A) → List ℕ
+  abbrev pub scan_listings : List (OpenMessage A) → List ℕ
   scan_listings entries = reply.scan_listings (octets_in (unmarked entries)) (listed_from 1 entries)
 
-  abbrev pub scan_listing : ℕ → Entry A → List ℕ
+  abbrev pub scan_listing : ℕ → OpenMessage A → List ℕ
   scan_listing number entry = reply.scan_listing (record { number = number; octets = entry.octets })
 
-  abbrev pub whole_message : Entry A → List ℕ
+  abbrev pub whole_message : OpenMessage A → List ℕ
   whole_message entry = reply.message_text entry.octets entry.message.text
 
-  abbrev pub top_of_message : ℕ → Entry A → List ℕ
+  abbrev pub top_of_message : ℕ → OpenMessage A → List ℕ
   top_of_message lines entry = reply.message_top entry.message.text lines
 
-  abbrev pub unique_id_listings : List (Entry A) → List ℕ
+  abbrev pub unique_id_listings : List (OpenMessage A) → List ℕ
   unique_id_listings entries = reply.unique_id_listings (identified_from 1 entries)
 
-  abbrev pub unique_id_listing : ℕ → Entry A → List ℕ
+  abbrev pub unique_id_listing : ℕ → OpenMessage A → List ℕ
   unique_id_listing number entry = reply.unique_id_listing (record { number = number; uid = entry.message.uid })
 
-  abbrev pub maildrop_has : List (Entry A) → List ℕ
+  abbrev pub maildrop_has : List (OpenMessage A) → List ℕ
   maildrop_has entries = reply.maildrop_has (length (unmarked entries)) (octets_in (unmarked entries))
 
   -- DELE marks a message
-  abbrev pub delete : List ℕ → Ticket → List (Entry A) → ℕ → Option (Entry A) → Turn A
+  abbrev pub delete : List ℕ → Ticket → List (OpenMessage A) → ℕ → Option (OpenMessage A) → Turn A
   delete user lock entries number None = say reply.no_such_message (Transaction user lock entries)
   delete user lock entries number (Some entry) =
       say (reply.message_deleted number) (Transaction user lock (with_mark_at entries number (Some entry)))
 
   -- QUIT removes what is marked, and gives the lock back
-  abbrev pub quit : List ℕ → Ticket → List (Entry A) → Turn A
+  abbrev pub quit : List ℕ → Ticket → List (OpenMessage A) → Turn A
   quit user lock entries =
       if list_any (λ entry. entry.marked) entries
       then ask user (Commit lock (marked_uids entries)) (Leaving true)
       else ask user (Free lock) (Leaving false)
 
   -- RSET takes the marks away
-  abbrev pub reset : List ℕ → Ticket → List (Entry A) → Turn A
+  abbrev pub reset : List ℕ → Ticket → List (OpenMessage A) → Turn A
   reset user lock entries =
       let entries = map without_mark entries in
       say (maildrop_has entries) (Transaction user lock entries)
 
   -- the reply to a command that changes nothing
-  abbrev pub shown : List (Entry A) → Verb → List ℕ
+  abbrev pub shown : List (OpenMessage A) → Verb → List ℕ
   shown entries verb.Stat = reply.drop_listing (length (unmarked entries)) (octets_in (unmarked entries))
   shown entries (verb.List None) = scan_listings entries
-  shown entries (verb.List (Some number)) = of_message (entry_at entries number) (scan_listing number)
-  shown entries (verb.Retr number) = of_message (entry_at entries number) whole_message
+  shown entries (verb.List (Some number)) = of_message (message_at entries number) (scan_listing number)
+  shown entries (verb.Retr number) = of_message (message_at entries number) whole_message
   shown entries verb.Noop = reply.nothing_done
-  shown entries (verb.Top number lines) = of_message (entry_at entries number) (top_of_message lines)
+  shown entries (verb.Top number lines) = of_message (message_at entries number) (top_of_message lines)
   shown entries (verb.Uidl None) = unique_id_listings entries
-  shown entries (verb.Uidl (Some number)) = of_message (entry_at entries number) (unique_id_listing number)
+  shown entries (verb.Uidl (Some number)) = of_message (message_at entries number) (unique_id_listing number)
   shown entries verb.Capa = reply.capabilities
   shown entries other = reply.not_in_this_state
 
   -- a command of TRANSACTION
-  abbrev pub by_verb : List ℕ → Ticket → List (Entry A) → Verb → Turn A
-  by_verb user lock entries (verb.Dele number) = delete user lock entries number (entry_at entries number)
+  abbrev pub by_verb : List ℕ → Ticket → List (OpenMessage A) → Verb → Turn A
+  by_verb user lock entries (verb.Dele number) = delete user lock entries number (message_at entries number)
   by_verb user lock entries verb.Rset = reset user lock entries
   by_verb user lock entries verb.Quit = quit user lock entries
   by_verb user lock entries other = say (shown entries other) (Transaction user lock entries)
 
-  abbrev pub in_transaction : List ℕ → Ticket → List (Entry A) → Result Verb LineFault → Turn A
+  abbrev pub in_transaction : List ℕ → Ticket → List (OpenMessage A) → Result Verb LineFault → Turn A
   in_transaction user lock entries (Ok command) = by_verb user lock entries command
   in_transaction user lock entries (Err fault) = say (refusal_after_login fault) (Transaction user lock entries)
 
@@ -186,7 +186,7 @@ module _ {A : Type 0} where
   -- a session that got the lock, with these messages
   abbrev pub opened : List ℕ → Ticket → List (Message A) → Turn A
   opened user lock messages =
-      let entries = map entry_of messages in
+      let entries = map open_message_of messages in
       say (maildrop_has entries) (Transaction user lock entries)
 
   -- a session that left its maildrop, where what was to be removed is removed or not

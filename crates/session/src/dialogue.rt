@@ -15,6 +15,9 @@ use maildrop::{Name, Op, Outcome, Ticket};
 use pop3_wire::Line;
 use std::alloc::{Allocator, Global};
 
+/// Room for what most sessions ask: their lock, that they leave it, and the Free of a hangup.
+const FIRST_ENTRIES: usize = 3;
+
 /// A session, with the lines that it heard, what it asked, and how many bytes it said. There is always room for one
 /// entry more, the Free of a hangup.
 #[derive(Drop)]
@@ -40,7 +43,7 @@ impl<A: Allocator + Copy> Dialogue<A> {
         ensures none_asked { IfOk result (λ dialogue. dialogue.asked.items ≡ []) }
         ensures room { IfOk result (λ dialogue. vec_len dialogue.asked < vec_capacity dialogue.asked) }
     {
-        let asked = Vec::with_capacity(alloc, 1)?;
+        let asked = Vec::with_capacity(alloc, FIRST_ENTRIES)?;
         Ok(Dialogue {
             session,
             lines: HeardLines::new(alloc),

@@ -6,9 +6,9 @@ mod authorization;
 mod desk;
 mod desk_stopped;
 mod dialogue;
-mod entry;
 mod heard_lines;
 mod laws;
+mod open_message;
 mod opened;
 mod serving;
 mod session;
@@ -20,17 +20,12 @@ mod turn;
 
 pub use desk::{Desk, Gate, OpenGate};
 pub use desk_stopped::DeskStopped;
-pub use entry::Entry;
 pub use heard_lines::{HeardLines, LineCursor};
 pub use laws::{
     calls_lengthen_a_talk, calls_make_a_conversation, conversations_lengthen, replies_lengthen,
     sessions_ask_for_one_user, talks_are_conversations,
 };
-pub use opened::Opened;
 pub use serving::serve;
 pub use session::Session;
-pub use state::{SessionError, State, Step, Turn};
+pub use state::{SessionError, Step};
 pub use transcript::{Asked, End, Transcript};
-
-#[cfg(test)]
-mod tests;

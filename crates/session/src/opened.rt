@@ -2,9 +2,9 @@
 ghost use Rattle.std.specs.Prelude.{◌≡◌, ℕ, ◌-◌, ◌≤◌, ◌^◌, List, Some, None, length, map, slice_set, IsTrue, is_some, IfOk, OnOk, MatchOption};
 ghost use Rattle.std.specs.List.{list_any};
 ghost use Rattle.maildrop.specs.Taken.{message_octets};
-ghost use Rattle.session.specs.Entries as spec;
+ghost use Rattle.session.specs.OpenMessages as spec;
 
-use crate::entry::Entry;
+use crate::open_message::OpenMessage;
 use ballot::Memory;
 use maildrop::{Message, Taken, Uids};
 use pop3_wire::{Identified, Listed};
@@ -15,17 +15,17 @@ use std::marker::Model;
 /// and their octets, are kept, so that no message is counted twice.
 #[derive(Drop)]
 pub struct Opened<A: Allocator = Global> {
-    entries: Vec<Entry<A>, A>,
+    entries: Vec<OpenMessage<A>, A>,
     messages: u64,
     octets: u64,
 }
 
 impl<A: Allocator> Model for Opened<A> {
     ghost use Rattle.std.specs.Prelude.{List};
-    ghost use Rattle.session.specs.declared.entry.Entry.{Entry};
-    ghost use Rattle.session.specs.Entries.{AreCounted};
+    ghost use Rattle.session.specs.declared.open_message.OpenMessage.{OpenMessage};
+    ghost use Rattle.session.specs.OpenMessages.{AreCounted};
 
-    ghost Value = { List (Entry A) };
+    ghost Value = { List (OpenMessage A) };
 
     ghost view = { λ o. o.entries.items };
 
@@ -35,7 +35,7 @@ impl<A: Allocator> Model for Opened<A> {
 impl<A: Allocator + Copy> Opened<A> {
     /// A maildrop whose lock was taken, with these messages.
     pub fn new(alloc: A, taken: &Taken<A>) -> Result<Self, Memory>
-        ensures { IfOk result (λ opened. opened ≡ map spec.entry_of taken.now) }
+        ensures { IfOk result (λ opened. opened ≡ map spec.open_message_of taken.now) }
     {
         let entries = entries_of(alloc, taken.get())?;
         let messages = entries.len() as u64;
@@ -62,8 +62,8 @@ impl<A: Allocator + Copy> Opened<A> {
     }
 
     /// The message of a number, unless it is absent or marked.
-    pub fn get(&self, number: u32) -> Option<&Entry<A>>
-        ensures { MatchOption result (spec.entry_at self.now number ≡ None) (λ entry. spec.entry_at self.now number ≡ Some entry.now) }
+    pub fn get(&self, number: u32) -> Option<&OpenMessage<A>>
+        ensures { MatchOption result (spec.message_at self.now number ≡ None) (λ entry. spec.message_at self.now number ≡ Some entry.now) }
     {
         let place = number.checked_sub(1)?;
         let entry = self.entries.get(place as usize)?;
@@ -72,8 +72,8 @@ impl<A: Allocator + Copy> Opened<A> {
 
     /// Marks the message of a number, unless it is absent or marked already. Answers whether it did.
     pub fn mark(&mut self, number: u32) -> bool
-        ensures found { result ≡ is_some (spec.entry_at self.old number) }
-        ensures marked { self.new ≡ spec.with_mark_at self.old number (spec.entry_at self.old number) }
+        ensures found { result ≡ is_some (spec.message_at self.old number) }
+        ensures marked { self.new ≡ spec.with_mark_at self.old number (spec.message_at self.old number) }
     {
         if self.get(number).is_none() {
             return false;
@@ -124,7 +124,10 @@ impl<A: Allocator + Copy> Opened<A> {
     }
 }
 
-fn listed_of<A: Allocator + Copy>(alloc: A, entries: &[Entry<A>]) -> Result<Vec<Listed, A>, Memory>
+fn listed_of<A: Allocator + Copy>(
+    alloc: A,
+    entries: &[OpenMessage<A>],
+) -> Result<Vec<Listed, A>, Memory>
     requires { length entries.now ≤ 999999999 }
     ensures { IfOk result (λ listed. listed.items ≡ spec.listed_from 1 entries.now) }
 {
@@ -144,7 +147,7 @@ fn listed_of<A: Allocator + Copy>(alloc: A, entries: &[Entry<A>]) -> Result<Vec<
 
 fn identified_of<A: Allocator + Copy>(
     alloc: A,
-    entries: &[Entry<A>],
+    entries: &[OpenMessage<A>],
 ) -> Result<Vec<Identified, A>, Memory>
     requires { length entries.now ≤ 999999999 }
     ensures { IfOk result (λ identified. identified.items ≡ spec.identified_from 1 entries.now) }
@@ -165,7 +168,7 @@ fn identified_of<A: Allocator + Copy>(
 
 fn marked_uids_of<A: Allocator + Copy>(
     alloc: A,
-    entries: &[Entry<A>],
+    entries: &[OpenMessage<A>],
 ) -> Result<Vec<u64, A>, Memory>
     ensures { IfOk result (λ uids. uids.items ≡ spec.marked_uids entries.now) }
 {
@@ -177,7 +180,7 @@ fn marked_uids_of<A: Allocator + Copy>(
     Ok(uids)
 }
 
-fn remove_marks<A: Allocator + Copy>(entries: &mut Vec<Entry<A>, A>)
+fn remove_marks<A: Allocator + Copy>(entries: &mut Vec<OpenMessage<A>, A>)
     ensures { entries.new.items ≡ map spec.without_mark entries.old.items }
 {
     for entry in entries.iter_mut() {
@@ -185,7 +188,7 @@ fn remove_marks<A: Allocator + Copy>(entries: &mut Vec<Entry<A>, A>)
     }
 }
 
-fn octets_in<A: Allocator + Copy>(entries: &[Entry<A>]) -> u64
+fn octets_in<A: Allocator + Copy>(entries: &[OpenMessage<A>]) -> u64
     requires { spec.octets_in entries.now ≤ 2 ^ 40 }
     ensures { result ≡ spec.octets_in entries.now }
 {
@@ -199,15 +202,15 @@ fn octets_in<A: Allocator + Copy>(entries: &[Entry<A>]) -> u64
 fn entries_of<A: Allocator + Copy>(
     alloc: A,
     messages: &[Message<A>],
-) -> Result<Vec<Entry<A>, A>, Memory>
+) -> Result<Vec<OpenMessage<A>, A>, Memory>
     requires { message_octets messages.now ≤ 2 ^ 40 }
-    ensures { IfOk result (λ entries. entries.items ≡ map spec.entry_of messages.now) }
+    ensures { IfOk result (λ entries. entries.items ≡ map spec.open_message_of messages.now) }
 {
     let mut entries = Vec::with_capacity(alloc, messages.len())?;
     for message in messages {
         let octets = message.text.octets() as u64;
         let message = message.copy()?;
-        entries.push_reserved(Entry {
+        entries.push_reserved(OpenMessage {
             message,
             octets,
             marked: false,

@@ -1,7 +1,7 @@
 //! A session that holds the lock of its user's maildrop (RFC 1939 section 5).
 ghost use Rattle.std.specs.Prelude.{◌≡◌, IfOk};
 ghost use Rattle.pop3_wire.specs.Reply.{reply_text};
-ghost use Rattle.session.specs.Entries.{entry_at};
+ghost use Rattle.session.specs.OpenMessages.{message_at};
 ghost use Rattle.session.specs.Session as spec;
 
 use crate::opened::Opened;
@@ -42,7 +42,7 @@ fn list<A: Allocator + Copy>(
     opened: &Opened<A>,
     number: u32,
 ) -> Result<Vec<u8, A>, Memory>
-    ensures { IfOk result (λ text. text.items ≡ spec.of_message (entry_at opened.now number) (spec.scan_listing number)) }
+    ensures { IfOk result (λ text. text.items ≡ spec.of_message (message_at opened.now number) (spec.scan_listing number)) }
 {
     let reply = match opened.get(number) {
         None => Reply::NoSuchMessage,
@@ -59,7 +59,7 @@ fn identify<A: Allocator + Copy>(
     opened: &Opened<A>,
     number: u32,
 ) -> Result<Vec<u8, A>, Memory>
-    ensures { IfOk result (λ text. text.items ≡ spec.of_message (entry_at opened.now number) (spec.unique_id_listing number)) }
+    ensures { IfOk result (λ text. text.items ≡ spec.of_message (message_at opened.now number) (spec.unique_id_listing number)) }
 {
     let reply = match opened.get(number) {
         None => Reply::NoSuchMessage,
@@ -76,7 +76,7 @@ fn retrieve<A: Allocator + Copy>(
     opened: &Opened<A>,
     number: u32,
 ) -> Result<Vec<u8, A>, Memory>
-    ensures { IfOk result (λ text. text.items ≡ spec.of_message (entry_at opened.now number) spec.whole_message) }
+    ensures { IfOk result (λ text. text.items ≡ spec.of_message (message_at opened.now number) spec.whole_message) }
 {
     let reply = match opened.get(number) {
         None => Reply::NoSuchMessage,
@@ -94,7 +94,7 @@ fn top<A: Allocator + Copy>(
     number: u32,
     lines: u32,
 ) -> Result<Vec<u8, A>, Memory>
-    ensures { IfOk result (λ text. text.items ≡ spec.of_message (entry_at opened.now number) (spec.top_of_message lines)) }
+    ensures { IfOk result (λ text. text.items ≡ spec.of_message (message_at opened.now number) (spec.top_of_message lines)) }
 {
     let reply = match opened.get(number) {
         None => Reply::NoSuchMessage,
@@ -113,7 +113,7 @@ fn delete<A: Allocator + Copy>(
     opened: Opened<A>,
     number: u32,
 ) -> Result<Turn<A>, Memory>
-    ensures { IfOk result (λ turn. turn ≡ spec.delete user lock opened number (entry_at opened number)) }
+    ensures { IfOk result (λ turn. turn ≡ spec.delete user lock opened number (message_at opened number)) }
 {
     let mut opened = opened;
     let reply = if opened.mark(number) {

@@ -1,5 +1,5 @@
 use Rattle.std.proofs.Common.{◌≡◌, ◌+◌, ◌++◌, drop}
-use Rattle.session.specs.Entries.{identified_from}
+use Rattle.session.specs.OpenMessages.{identified_from}
 use Rattle.session.proofs.opened.identified_of.Given as goal
 
 -- what is listed, and what the rest will add, is the whole list

@@ -1,5 +1,5 @@
 use Rattle.std.proofs.lemmas.List.Edits.{map_over_more}
-use Rattle.session.specs.Entries.{without_mark}
+use Rattle.session.specs.OpenMessages.{without_mark}
 use Rattle.session.proofs.opened.remove_marks.Goals as goal
 
 pub loop-entry-preserved : goal.loop-entry-preserved

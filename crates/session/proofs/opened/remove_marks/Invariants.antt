@@ -1,6 +1,6 @@
 use Rattle.std.proofs.Common.{◌≡◌, ◌++◌, take, drop}
 use Rattle.std.specs.Prelude.{map}
-use Rattle.session.specs.Entries.{without_mark}
+use Rattle.session.specs.OpenMessages.{without_mark}
 use Rattle.session.proofs.opened.remove_marks.Given as goal
 
 abbrev pub invariant-loop-entry : goal.invariant-loop-entry

@@ -1,4 +1,4 @@
-use Rattle.std.proofs.Common.{◌≡◌, ◌≤◌, refl, rules, arith, take, length}
+use Rattle.std.proofs.Common.{◌≤◌, refl, rules, arith, length}
 use Rattle.session.specs.Dialogue.{place}
 use Rattle.session.proofs.Pieces.{conversed, ungreeted}
 use Rattle.session.proofs.Runs.{take_whole}

@@ -1,4 +1,4 @@
-use Rattle.std.proofs.Common.{◌≡◌, take, rules, refl}
+use Rattle.std.proofs.Common.{take, rules, refl}
 use Rattle.session.specs.Dialogue.{place}
 use Rattle.session.proofs.Runs.{written_run, closed_stop, unwritten_stop}
 use Rattle.session.proofs.serving.exchange.Goals as goal

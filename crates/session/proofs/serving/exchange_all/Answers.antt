@@ -1,4 +1,4 @@
-use Rattle.std.proofs.Common.{◌≡◌, refl, rules, arith}
+use Rattle.std.proofs.Common.{refl, rules, arith}
 use Rattle.session.specs.Dialogue.{place, end_of}
 use Rattle.session.proofs.Pieces.{front_none, front_more, front_stop}
 use Rattle.session.proofs.serving.exchange_all.Goals as goal

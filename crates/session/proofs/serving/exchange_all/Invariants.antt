@@ -1,6 +1,4 @@
-use Rattle.std.proofs.Common.{◌≡◌, ℕ, [], ◌++◌, ◌+◌, ◌*◌, ◌^◌, ◌≤◌, List, None, true, length}
-use Rattle.std.specs.Io.KnownBytes.{Appends}
-use Rattle.pop3_wire.specs.declared.line.Line.{Line}
+use Rattle.std.proofs.Common.{◌≡◌, [], ◌+◌, ◌*◌, ◌^◌, ◌≤◌, None, length}
 use Rattle.pop3_wire.specs.Reader.{lines_after, waiting}
 use Rattle.session.specs.Dialogue.{place, IsPieceFront}
 use Rattle.session.proofs.serving.exchange_all.Given as goal

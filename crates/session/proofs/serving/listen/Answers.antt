@@ -1,4 +1,4 @@
-use Rattle.std.proofs.Common.{◌≡◌, ◌++◌, [], take, refl, rules, arith, inl, inr, ap, sym, ◌∙◌}
+use Rattle.std.proofs.Common.{◌≡◌, ◌++◌, [], refl, rules, arith, inl, inr}
 use Rattle.pop3_wire.specs.Reader.{Open}
 use Rattle.session.specs.declared.transcript.End.TheVariants.{HungUp, ReadFault}
 use Rattle.session.specs.Dialogue.{place, end_of}

@@ -1,8 +1,7 @@
-use Rattle.std.proofs.Common.{◌≡◌, ℕ, ◌+◌, ◌*◌, ◌^◌, ◌≤◌, List, [], None, true}
+use Rattle.std.proofs.Common.{◌≡◌, ℕ, ◌+◌, ◌*◌, ◌^◌, ◌≤◌, List, [], None}
 use Rattle.std.specs.Io.KnownBytes.{Consumes}
 use Rattle.pop3_wire.specs.Reader.{Open, lines_after, waiting}
 use Rattle.session.specs.Dialogue.{place, IsPieceFront}
-use Rattle.session.specs.Session.{hears}
 use Rattle.session.proofs.serving.listen.Given as goal
 
 -- what was read was served

@@ -1,6 +1,5 @@
-use Rattle.std.proofs.Common.{◌≡◌, ◌+◌, ◌++◌, take, drop, length, arith, rules, subst, sym}
+use Rattle.std.proofs.Common.{take, rules}
 use Rattle.std.proofs.lemmas.List.{take_rest}
-use Rattle.std.specs.Io.KnownBytes.{Appends}
 use Rattle.session.proofs.Streams.{appends_join, take_more}
 use Rattle.session.proofs.serving.send.Goals as goal
 

@@ -1,4 +1,4 @@
-use Rattle.std.proofs.Common.{◌≡◌, refl, rules}
+use Rattle.std.proofs.Common.{rules}
 use Rattle.session.specs.Dialogue.{place}
 use Rattle.session.proofs.Served.{transcribed, transported, historic, nothing_transcribed, nothing_transported}
 use Rattle.session.proofs.serving.serve.Goals as goal

@@ -1,5 +1,5 @@
 use Rattle.std.proofs.Common.{rules}
-use Rattle.session.proofs.Answering.{IsAnswer, silenced, says}
+use Rattle.session.proofs.Answering.{silenced, says}
 use Rattle.session.proofs.dialogue.Dialogue.hear_answer.Goals as goal
 
 pub returns-clause-says : goal.returns-clause-says

@@ -5,7 +5,7 @@ use std::alloc::{Allocator, Global};
 
 /// A message of an open maildrop, with its size in octets, and whether it is marked as deleted.
 #[derive(Drop)]
-pub struct Entry<A: Allocator = Global> {
+pub struct OpenMessage<A: Allocator = Global> {
     pub message: Message<A>,
     pub octets: u64,
     pub marked: bool,

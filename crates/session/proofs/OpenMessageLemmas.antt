@@ -13,66 +13,66 @@ use Rattle.std.proofs.lemmas.Grind.{common_steps}
 use Rattle.maildrop.specs.Text.{octets_of}
 use Rattle.maildrop.specs.Taken.{AreTaken, message_octets, unique_ids}
 use Rattle.maildrop.specs.declared.message.Message.{Message}
-use Rattle.session.specs.declared.entry.Entry.{Entry}
-use Rattle.session.specs.Entries.{entry_of, entry_at, unless_marked, with_mark, without_mark, unmarked, octets_in, marked_uids, AreCounted}
+use Rattle.session.specs.declared.open_message.OpenMessage.{OpenMessage}
+use Rattle.session.specs.OpenMessages.{open_message_of, message_at, unless_marked, with_mark, without_mark, unmarked, octets_in, marked_uids, AreCounted}
 
 module _ {A : Type 0} where
-  abbrev uid_of : Entry A → ℕ
+  abbrev uid_of : OpenMessage A → ℕ
   uid_of entry = entry.message.uid
 
-  abbrev Ascending : List (Entry A) → Type 0
-  Ascending entries = AllPairs (λ (a b : Entry A). a.message.uid < b.message.uid) entries
+  abbrev Ascending : List (OpenMessage A) → Type 0
+  Ascending entries = AllPairs (λ (a b : OpenMessage A). a.message.uid < b.message.uid) entries
 
   -- of a new maildrop's messages none is marked
-  unmarked-entry_of : (ms : List (Message A)) → unmarked (map entry_of ms) ≡ map entry_of ms
-  unmarked-entry_of [] = refl
-  unmarked-entry_of (m ∷ ms) = ap (λ es. entry_of m ∷ es) (unmarked-entry_of ms)
+  unmarked-open_message_of : (ms : List (Message A)) → unmarked (map open_message_of ms) ≡ map open_message_of ms
+  unmarked-open_message_of [] = refl
+  unmarked-open_message_of (m ∷ ms) = ap (λ es. open_message_of m ∷ es) (unmarked-open_message_of ms)
 
-  pub octets_in-entry_of : (ms : List (Message A)) → octets_in (map entry_of ms) ≡ message_octets ms
-  octets_in-entry_of [] = refl
-  octets_in-entry_of (m ∷ ms) = grind (arith, common_steps, octets_in-entry_of ms)
+  pub octets_in-open_message_of : (ms : List (Message A)) → octets_in (map open_message_of ms) ≡ message_octets ms
+  octets_in-open_message_of [] = refl
+  octets_in-open_message_of (m ∷ ms) = grind (arith, common_steps, octets_in-open_message_of ms)
 
-  uids-entry_of : (ms : List (Message A)) → map uid_of (map entry_of ms) ≡ unique_ids ms
-  uids-entry_of [] = refl
-  uids-entry_of (m ∷ ms) = ap (λ us. m.uid ∷ us) (uids-entry_of ms)
+  uids-open_message_of : (ms : List (Message A)) → map uid_of (map open_message_of ms) ≡ unique_ids ms
+  uids-open_message_of [] = refl
+  uids-open_message_of (m ∷ ms) = ap (λ us. m.uid ∷ us) (uids-open_message_of ms)
 
-  unmarked-without_mark : (es : List (Entry A)) → unmarked (map without_mark es) ≡ map without_mark es
+  unmarked-without_mark : (es : List (OpenMessage A)) → unmarked (map without_mark es) ≡ map without_mark es
   unmarked-without_mark [] = refl
   unmarked-without_mark (e ∷ es) = ap (λ xs. without_mark e ∷ xs) (unmarked-without_mark es)
 
-  pub octets_in-without_mark : (es : List (Entry A)) → octets_in (map without_mark es) ≡ octets_in es
+  pub octets_in-without_mark : (es : List (OpenMessage A)) → octets_in (map without_mark es) ≡ octets_in es
   octets_in-without_mark [] = refl
   octets_in-without_mark (e ∷ es) = grind (arith, common_steps, octets_in-without_mark es)
 
-  uids-without_mark : (es : List (Entry A)) → map uid_of (map without_mark es) ≡ map uid_of es
+  uids-without_mark : (es : List (OpenMessage A)) → map uid_of (map without_mark es) ≡ map uid_of es
   uids-without_mark [] = refl
   uids-without_mark (e ∷ es) = ap (λ us. e.message.uid ∷ us) (uids-without_mark es)
 
   -- unique ids that ascend, as a list of numbers and in pairs of messages
-  get_or-uid : (es : List (Entry A)) (i : ℕ) (d : Entry A) → i < length es → get_or (map uid_of es) i 0 ≡ (get_or es i d).message.uid
+  get_or-uid : (es : List (OpenMessage A)) (i : ℕ) (d : OpenMessage A) → i < length es → get_or (map uid_of es) i 0 ≡ (get_or es i d).message.uid
   get_or-uid es i d inside = get_or-map uid_of es i d 0 inside
 
-  ascending_from : (es : List (Entry A)) → IsStrictlyIncreasing (map uid_of es) → Ascending es
+  ascending_from : (es : List (OpenMessage A)) → IsStrictlyIncreasing (map uid_of es) → Ascending es
   ascending_from es increasing i j d before inside =
       let pairs = AllPairs-from_increasing (map uid_of es) increasing i j 0 before (rw (length-map es uid_of) inside) in
       rw (← get_or-uid es i d (omega (arith, before, inside)), ← get_or-uid es j d inside) pairs
 
-  pub increasing_from : (es : List (Entry A)) → Ascending es → IsStrictlyIncreasing (map uid_of es)
+  pub increasing_from : (es : List (OpenMessage A)) → Ascending es → IsStrictlyIncreasing (map uid_of es)
   increasing_from [] ascending k inside = absurd (omega (arith, inside))
   increasing_from (e ∷ es) ascending k inside =
       let within : k + 1 < length (e ∷ es) = rw (← length-map (e ∷ es) uid_of) inside in
       rw (get_or-uid (e ∷ es) k e (omega (arith, within)), get_or-uid (e ∷ es) (k + 1) e within) (ascending k (k + 1) e (omega arith) within)
 
-  pub counted_from_taken : (ms : List (Message A)) → AreTaken ms → AreCounted (map entry_of ms) (length (map entry_of ms)) (octets_in (map entry_of ms))
+  pub counted_from_taken : (ms : List (Message A)) → AreTaken ms → AreCounted (map open_message_of ms) (length (map open_message_of ms)) (octets_in (map open_message_of ms))
   counted_from_taken ms taken = record {
-    messages_counted = rw (unmarked-entry_of ms) refl;
-    octets_counted = rw (unmarked-entry_of ms) refl;
-    few = rw (length-map ms entry_of) taken.few;
-    small = rw (octets_in-entry_of ms) taken.small;
-    ascending = ascending_from (map entry_of ms) (rw (uids-entry_of ms) taken.ascending);
+    messages_counted = rw (unmarked-open_message_of ms) refl;
+    octets_counted = rw (unmarked-open_message_of ms) refl;
+    few = rw (length-map ms open_message_of) taken.few;
+    small = rw (octets_in-open_message_of ms) taken.small;
+    ascending = ascending_from (map open_message_of ms) (rw (uids-open_message_of ms) taken.ascending);
   }
 
-  pub counted_without_marks : (es : List (Entry A)) (messages octets : ℕ) → AreCounted es messages octets → AreCounted (map without_mark es) (length (map without_mark es)) (octets_in (map without_mark es))
+  pub counted_without_marks : (es : List (OpenMessage A)) (messages octets : ℕ) → AreCounted es messages octets → AreCounted (map without_mark es) (length (map without_mark es)) (octets_in (map without_mark es))
   counted_without_marks es messages octets old = record {
     messages_counted = rw (unmarked-without_mark es) refl;
     octets_counted = rw (unmarked-without_mark es) refl;
@@ -82,24 +82,24 @@ module _ {A : Type 0} where
   }
 
   -- the unique ids of the marked messages ascend too
-  pub marked_uids-increasing : (es : List (Entry A)) (messages octets : ℕ) → AreCounted es messages octets → IsStrictlyIncreasing (marked_uids es)
+  pub marked_uids-increasing : (es : List (OpenMessage A)) (messages octets : ℕ) → AreCounted es messages octets → IsStrictlyIncreasing (marked_uids es)
   marked_uids-increasing es messages octets old =
-      increasing_from (filter (λ (e : Entry A). e.marked) es) (AllPairs-filter (λ (a b : Entry A). a.message.uid < b.message.uid) (λ (e : Entry A). e.marked) es old.ascending)
+      increasing_from (filter (λ (e : OpenMessage A). e.marked) es) (AllPairs-filter (λ (a b : OpenMessage A). a.message.uid < b.message.uid) (λ (e : OpenMessage A). e.marked) es old.ascending)
 
   -- what a mark at a place changes
-  pub record IsMarking (es : List (Entry A)) (place : ℕ) (e : Entry A) : Type 0 where
+  pub record IsMarking (es : List (OpenMessage A)) (place : ℕ) (e : OpenMessage A) : Type 0 where
     pub messages : length (unmarked es) ≡ length (unmarked (set es place (with_mark e))) + 1
     pub octets : octets_in (unmarked es) ≡ octets_in (unmarked (set es place (with_mark e))) + e.octets
     pub all : octets_in (set es place (with_mark e)) ≡ octets_in es
     pub uids : map uid_of (set es place (with_mark e)) ≡ map uid_of es
 
-  marking : (es : List (Entry A)) (place : ℕ) (e : Entry A) → slice_get es place ≡ Some e → e.marked ≡ false → IsMarking es place e
+  marking : (es : List (OpenMessage A)) (place : ℕ) (e : OpenMessage A) → slice_get es place ≡ Some e → e.marked ≡ false → IsMarking es place e
   marking [] place e there plain = absurd (cc)
   marking (x ∷ es) zero e there plain =
       let same : x ≡ e = cc in
       record {
         messages = rw (same, plain) (grind (arith, common_steps));
-        octets = rw (same, plain) (sum_by-cons (λ (y : Entry A). y.octets) e (unmarked es) ∙ add_comm e.octets (octets_in (unmarked es)));
+        octets = rw (same, plain) (sum_by-cons (λ (y : OpenMessage A). y.octets) e (unmarked es) ∙ add_comm e.octets (octets_in (unmarked es)));
         all = rw same refl;
         uids = rw same refl;
       }
@@ -116,12 +116,12 @@ module _ {A : Type 0} where
       }
 
   -- the message of a number that is there, as it is read at its place
-  pub record IsAt (es : List (Entry A)) (number : ℕ) (e : Entry A) : Type 0 where
-    pub found : entry_at es number ≡ Some e
+  pub record IsAt (es : List (OpenMessage A)) (number : ℕ) (e : OpenMessage A) : Type 0 where
+    pub found : message_at es number ≡ Some e
     pub there : slice_get es (number - 1) ≡ Some e
     pub plain : e.marked ≡ false
 
-  unmarked_is : (o : Option (Entry A)) (e : Entry A) → unless_marked o ≡ Some e → (o ≡ Some e) × (e.marked ≡ false)
+  unmarked_is : (o : Option (OpenMessage A)) (e : OpenMessage A) → unless_marked o ≡ Some e → (o ≡ Some e) × (e.marked ≡ false)
   unmarked_is None e h = absurd (cc)
   unmarked_is (Some x) e h =
       elim (cases_Bool x.marked) [
@@ -131,7 +131,7 @@ module _ {A : Type 0} where
             (same, grind (arith, same, plain))
       ]
 
-  at_number : (es : List (Entry A)) (number : ℕ) (e : Entry A) → entry_at es number ≡ Some e → IsAt es number e
+  at_number : (es : List (OpenMessage A)) (number : ℕ) (e : OpenMessage A) → message_at es number ≡ Some e → IsAt es number e
   at_number es zero e h = absurd (cc)
   at_number es (suc place) e h =
       let facts = unmarked_is (slice_get es place) e h in
@@ -142,12 +142,12 @@ module _ {A : Type 0} where
       }
 
   -- a mark on the message of a number leaves the counts right
-  pub record Marks (es : List (Entry A)) (number : ℕ) (e : Entry A) (messages octets : ℕ) : Type 0 where
+  pub record Marks (es : List (OpenMessage A)) (number : ℕ) (e : OpenMessage A) (messages octets : ℕ) : Type 0 where
     pub enough : 1 ≤ messages
     pub room : e.octets ≤ octets
     pub counted : AreCounted (set es (number - 1) (with_mark e)) (messages - 1) (octets - e.octets)
 
-  pub marks : (es : List (Entry A)) (number : ℕ) (e : Entry A) (messages octets : ℕ) → AreCounted es messages octets → entry_at es number ≡ Some e → Marks es number e messages octets
+  pub marks : (es : List (OpenMessage A)) (number : ℕ) (e : OpenMessage A) (messages octets : ℕ) → AreCounted es messages octets → message_at es number ≡ Some e → Marks es number e messages octets
   marks es number e messages octets old found =
       let at = at_number es number e found in
       let change = marking es (number - 1) e at.there at.plain in
@@ -164,7 +164,7 @@ module _ {A : Type 0} where
       }
 
   -- what is read at the place of a number that is there
-  pub read_at : (es : List (Entry A)) (number : ℕ) (e y : Entry A) → entry_at es number ≡ Some e → y ≡ get_or es (number - 1) y → y ≡ e
+  pub read_at : (es : List (OpenMessage A)) (number : ℕ) (e y : OpenMessage A) → message_at es number ≡ Some e → y ≡ get_or es (number - 1) y → y ≡ e
   read_at es number e y found read = read ∙ get_or_from_slice_get es (number - 1) e y (at_number es number e found).there
 
 -- a call that gave a reference found what it refers to
