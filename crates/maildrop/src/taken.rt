@@ -49,6 +49,6 @@ impl<A: Allocator + Copy> Taken<A> {
         ensures value { result.now ≡ self.now }
         ensures taken { AreTaken self.now }
     {
-        &self.messages
+        self.messages.as_slice()
     }
 }

@@ -45,7 +45,7 @@ impl<A: Allocator + Copy> Uids<A> {
     pub fn copy(&self) -> Result<Self, Memory>
         ensures { IfOk result (λ uids. uids ≡ self.now) }
     {
-        let numbers = Vec::from_slice(*self.numbers.allocator(), &self.numbers)?;
+        let numbers = Vec::from_slice(*self.numbers.allocator(), self.get())?;
         Ok(Uids { numbers })
     }
 

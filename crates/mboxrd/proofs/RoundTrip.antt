@@ -187,7 +187,7 @@ begins_message-by_last from begins true is =
 begins_message-by_last from begins false is = begins
 
 -- a line that begins a message does so without its carriage return
-begins_message-strip : (from : List ℕ) → begins_message from ≡ true → begins_message (strip_carriage_return from) ≡ true
+pub begins_message-strip : (from : List ℕ) → begins_message from ≡ true → begins_message (strip_carriage_return from) ≡ true
 begins_message-strip from begins = begins_message-by_last from begins (slice_index from (length from - 1) == 13) refl
 
 -- what is written is read back, where no line of the texts ends in a carriage return
@@ -205,7 +205,7 @@ read_of-written_of from (text ∷ texts) begins line is none =
     ∙ ap (λ texts. Ok texts) cut
 
 -- a test whose opposite passes fails
-opposite : (b : Bool) → not b ≡ true → b ≡ false
+pub opposite : (b : Bool) → not b ≡ true → b ≡ false
 opposite true is = sym is
 opposite false is = refl
 

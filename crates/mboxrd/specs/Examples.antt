@@ -1,5 +1,6 @@
 -- Worked examples of the definitions.
-use Rattle.std.specs.Prelude.{◌≡◌, ◌++◌, ℕ, List, [], ◌∷◌, refl, codes, Ok, Err}
+use Rattle.std.specs.Prelude.{◌≡◌, ◌++◌, ℕ, List, [], ◌∷◌, refl, codes, Ok, Err, Some, None}
+use Rattle.mboxrd.specs.Reader.{kept_after, Reading, Failed}
 use Rattle.mboxrd.specs.Mailbox.{read_of, written_of, file_of, quoted, unquoted}
 use Rattle.mboxrd.specs.declared.error.MboxError.TheVariants.{NoFromLine}
 
@@ -46,3 +47,19 @@ other_quotes = refl
 
 other_lines : quoted (codes "> From a") ≡ codes "> From a"
 other_lines = refl
+
+-- what is kept of a mailbox that comes in pieces
+first_bytes : kept_after (codes "Fr") ≡ Reading [] None (codes "Fr")
+first_bytes = refl
+
+first_bytes_alone : read_of (codes "Fr") ≡ Err NoFromLine
+first_bytes_alone = refl
+
+other_bytes : kept_after (codes "Fx") ≡ Failed NoFromLine
+other_bytes = refl
+
+open_message : kept_after mailbox ≡ Reading [] (Some (text ++ [] ∷ [])) []
+open_message = refl
+
+open_line : kept_after (mailbox ++ mailbox ++ codes "From x") ≡ Reading (text ∷ []) (Some (text ++ [] ∷ [])) (codes "From x")
+open_line = refl

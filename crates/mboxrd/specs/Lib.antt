@@ -1,2 +1,3 @@
 pub mod Mailbox
+pub mod Reader
 pub mod Examples

@@ -22,7 +22,7 @@ impl From<Memory> for MboxError {
     ghost from_gives = { λ _ e. e ≡ error.Memory };
 
     fn from(_error: Memory) -> MboxError {
-        MboxError::Memory
+        Self::Memory
     }
 }
 

@@ -3,11 +3,14 @@
 
 mod error;
 mod laws;
+mod open_text;
 mod quoting;
+mod reader;
 mod reading;
 mod writing;
 
 pub use error::MboxError;
 pub use laws::written_texts_are_read_back;
+pub use reader::Reader;
 pub use reading::read;
 pub use writing::write;

@@ -1,0 +1,64 @@
+//! The text of a message that has not ended.
+ghost use Rattle.std.specs.Prelude.{◌≡◌, ◌++◌, ◌∷◌, [], IfOk, OnOk};
+ghost use Rattle.maildrop.specs.Text.{IsLine};
+ghost use Rattle.mboxrd.specs.Mailbox.{without_last_empty};
+
+use ballot::Memory;
+use maildrop::{Text, TextBuilder};
+use std::alloc::{Allocator, Global};
+use std::marker::Model;
+
+/// The lines of a message so far. An empty line is held back until another line comes, since the last one of a message
+/// isn't part of its text.
+#[derive(Drop)]
+pub(crate) struct OpenText<A: Allocator = Global> {
+    lines: TextBuilder<A>,
+    holds_empty: bool,
+}
+
+impl<A: Allocator> Model for OpenText<A> {
+    ghost use Rattle.std.specs.Prelude.{◌≡◌, ◌++◌, ◌∷◌, [], ℕ, List, false, if◌then◌else◌};
+    ghost use Rattle.mboxrd.specs.Mailbox.{without_last_empty};
+
+    ghost Value = { List (List ℕ) };
+
+    ghost view = { λ t. if t.holds_empty then t.lines ++ [] ∷ [] else t.lines };
+
+    ghost invariant = { λ t. t.holds_empty ≡ false → without_last_empty t.lines ≡ t.lines };
+}
+
+impl<A: Allocator + Copy> OpenText<A> {
+    /// A text without lines. Takes no memory.
+    pub(crate) fn new(alloc: A) -> Self
+        ensures { result ≡ [] }
+    {
+        OpenText {
+            lines: TextBuilder::new(alloc),
+            holds_empty: false,
+        }
+    }
+
+    /// Adds a line.
+    pub(crate) fn push(&mut self, line: &[u8]) -> Result<(), Memory>
+        requires { IsLine line.now }
+        ensures { OnOk result (self.new ≡ self.old ++ line.now ∷ []) }
+    {
+        if self.holds_empty {
+            self.lines.push_line(b"")?;
+        }
+        if line.is_empty() {
+            self.holds_empty = true;
+            return Ok(());
+        }
+        self.lines.push_line(line)?;
+        self.holds_empty = false;
+        Ok(())
+    }
+
+    /// The text, without one empty line at its end.
+    pub(crate) fn finish(self) -> Result<Text<A>, Memory>
+        ensures { IfOk result (λ text. text ≡ without_last_empty self) }
+    {
+        self.lines.finish()
+    }
+}
