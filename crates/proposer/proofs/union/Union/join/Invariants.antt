@@ -1,6 +1,6 @@
 use Rattle.std.proofs.Common.{◌≡◌, take}
 use Rattle.ballot.specs.PValues.{joined}
-use Rattle.ballot.proofs.pvalue.Items+PValue+C+A.join.Given as goal
+use Rattle.proposer.proofs.union.Union.join.Given as goal
 
 abbrev pub invariant-loop-pvalue : goal.invariant-loop-pvalue
 invariant-loop-pvalue g l = record {
