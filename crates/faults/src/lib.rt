@@ -3,22 +3,14 @@
 #![tactic(auto)]
 
 #[cfg(test)]
-mod acceptor_tests;
-#[cfg(test)]
 mod accounts_tests;
-#[cfg(test)]
-mod leader_tests;
 #[cfg(test)]
 mod mailbox_tests;
 #[cfg(test)]
 mod maildrop_tests;
 #[cfg(test)]
-mod paxos;
-#[cfg(test)]
 mod sample;
 #[cfg(test)]
 mod scenario;
-#[cfg(test)]
-mod scout_tests;
 #[cfg(test)]
 mod wire_tests;

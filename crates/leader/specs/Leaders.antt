@@ -1,5 +1,5 @@
 -- Leaders: what each call sends, and what the leader then is. Commands are compared by eq.
-use Rattle.std.specs.Prelude.{◌≡◌, refl, ℕ, List, [], ◌∷◌, Option, Some, None, option_map, Result, OnOk, IfOk, IsErr, OnErr, fold, Bool, true, false, if◌then◌else◌}
+use Rattle.std.specs.Prelude.{◌≡◌, refl, ℕ, ◌<◌, List, [], ◌∷◌, Option, Some, None, option_map, Result, OnOk, IfOk, IsErr, OnErr, fold, Bool, true, false, if◌then◌else◌}
 use Rattle.std.specs.List.{flat_map}
 use Rattle.std.specs.Map.{lookup, set_value, remove_entry}
 use Rattle.std.specs.BTreeMap.{insert_entry, is_at}
@@ -66,6 +66,16 @@ module _ {X : Type 0} where
 
   abbrev pub without_slot : ℕ → List (ℕ × X) → List (ℕ × X)
   without_slot s es = remove_entry (is_at (nat_cmp s)) es
+
+  -- each slot is above s
+  abbrev pub Above : ℕ → List (ℕ × X) → Type 0
+  Above s [] = Unit {0}
+  Above s (e ∷ es) = (s < e.0) × Above s es
+
+  -- the slots rise strictly
+  abbrev pub Rising : List (ℕ × X) → Type 0
+  Rising [] = Unit {0}
+  Rising (e ∷ es) = Above e.0 es × Rising es
 
 -- the commanders after a vote, given to the one that waits at its slot
 abbrev pub after_vote : List (ℕ × Pending CommanderState) → ℕ → Vote → Option (Pending CommanderState) → List (ℕ × Pending CommanderState)

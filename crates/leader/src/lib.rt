@@ -8,5 +8,8 @@ mod laws;
 mod leader;
 mod state;
 
-pub use laws::{leaders_ask_for_their_proposals, one_command_for_a_slot, proposals_stay};
+pub use laws::{
+    adoptions_take_the_highest, leaders_are_orderly, leaders_ask_for_their_proposals,
+    one_command_for_a_slot, proposals_stay,
+};
 pub use leader::Leader;

@@ -30,9 +30,25 @@ answered_waits {S} {R} size mine heard from fits b counted s =
     go true false false true p q r x e = absurd (cc)
     go true false false false p q r x e = let a = and_parts _ _ p in ((a.0, a.1, same_height mine b q r, x), e)
 
-waits_if : {S R : Type 0} (t : Bool) (s u : S) (r : R) → ◌≡◌ {A = Step S R} (cond t (Wins r) (Waits s)) (Waits u) → s ≡ u
+pub waits_if : {S R : Type 0} (t : Bool) (s u : S) (r : R) → ◌≡◌ {A = Step S R} (cond t (Wins r) (Waits s)) (Waits u) → s ≡ u
 waits_if true s u r e = absurd (cc)
 waits_if false s u r e = cc
+
+-- only a higher ballot ends the wait
+pub answered_yields : {S R : Type 0} (size : ℕ) (mine : BallotNumber) (heard : List ℕ) (from : ℕ) (fits : Bool) (b : BallotNumber) (counted : Step S R) (c : BallotNumber) →
+    (counted ≡ Yields c → ⊥) → answered size mine heard from fits b counted ≡ Yields c → below mine c ≡ true
+answered_yields {S} {R} size mine heard from fits b counted c never =
+    go (in_cluster size from && fits) (below mine b) (below b mine || is_among from heard) refl
+  where
+    go : (t u v : Bool) → below mine b ≡ u → ◌≡◌ {A = Step S R} (cond (not t) Ignores (cond u (Yields b) (cond v Ignores counted))) (Yields c) → below mine c ≡ true
+    go false u v q e = absurd (cc)
+    go true true v q e = let same : b ≡ c = cc in subst (λ x. below mine x ≡ true) same q
+    go true false true q e = absurd (cc)
+    go true false false q e = absurd (never e)
+
+pub never_yields : {S R : Type 0} (t : Bool) (s : S) (r : R) (c : BallotNumber) → ◌≡◌ {A = Step S R} (cond t (Wins r) (Waits s)) (Yields c) → ⊥
+never_yields true s r c e = absurd (cc)
+never_yields false s r c e = absurd (cc)
 
 -- a node among those counted is the new one or an old one
 pub among_cases : (node from : ℕ) (heard : List ℕ) → is_among node (from ∷ heard) ≡ true → (node ≡ from) ⊎ (is_among node heard ≡ true)
