@@ -86,7 +86,7 @@ module _ {C : Type 0} (A : Type 0) (me size : ℕ) where
   higher_orderly l phase b h e = rw e (yielding_orderly l phase b h)
 
   -- an adoption
-  in_commanders : (l : LeaderState C) (es : List (ℕ × C)) (all : List (ℕ × Pending CommanderState)) (k : ℕ × Pending CommanderState) → IsIn k (fold (λ all e. with_slot e.0 (commander_for l e.0) all) all es) →
+  pub in_commanders : (l : LeaderState C) (es : List (ℕ × C)) (all : List (ℕ × Pending CommanderState)) (k : ℕ × Pending CommanderState) → IsIn k (fold (λ all e. with_slot e.0 (commander_for l e.0) all) all es) →
       IsIn k all ⊎ ((e : ℕ × C) × IsIn e es × ((e.0, commander_for l e.0) ≡ k))
   in_commanders l [] all k h = inl h
   in_commanders l (e ∷ es) all k h =
