@@ -1,12 +1,14 @@
--- What an acceptor answers, and what it then is. Commands are compared by eq.
-use Rattle.std.specs.Prelude.{◌≡◌, refl, List, [], Bool, true, not, Option, Some, None, if◌then◌else◌}
-use Rattle.ballot.specs.Ballots.{BallotNumber, AtMost, below}
-use Rattle.ballot.specs.PValues.{added}
+-- What an acceptor answers, and what it then is.
+use Rattle.std.specs.Prelude.{◌≡◌, refl, ℕ, ◌==◌, List, [], ◌∷◌, Bool, true, not, Option, Some, None, map, nat_lt, if◌then◌else◌}
+use Rattle.std.specs.List.{find}
+use Rattle.std.specs.List.Sorted.{IsStrictlyIncreasing}
+use Rattle.ballot.specs.Ballots.{BallotNumber, AtMost, below, same_ballot}
+use Rattle.ballot.specs.Lists.{IsIn}
 use Rattle.ballot.specs.declared.pvalue.PValue.{PValue}
 use Rattle.ballot.specs.declared.message.Promise.{Promise}
 use Rattle.ballot.specs.declared.message.Vote.{Vote}
 
--- its ballot, none at first, and what it has accepted, the oldest first
+-- its ballot, none at first, and the pvalues that it keeps, one for a slot, in slot order
 pub record AcceptorState (C : Type 0) : Type 0 where
   pub ballot : Option BallotNumber
   pub accepted : List (PValue C)
@@ -27,35 +29,86 @@ takes None b = true
 takes (Some a) b = not (below b a)
 
 module _ {C : Type 0} where
+  -- the slots rise strictly
+  abbrev pub RiseBySlot : List (PValue C) → Type 0
+  RiseBySlot ps = IsStrictlyIncreasing (map (λ p. p.slot) ps)
+
+  -- what is kept for the slot
+  abbrev pub kept_for : ℕ → List (PValue C) → Option (PValue C)
+  kept_for s ps = find (λ p. p.slot == s) ps
+
+  -- p in slot order, in place of what stands at its slot
+  abbrev pub placed : PValue C → List (PValue C) → List (PValue C)
+  placed p [] = p ∷ []
+  placed p (q ∷ qs) = if nat_lt p.slot q.slot then p ∷ q ∷ qs else if p.slot == q.slot then p ∷ qs else q ∷ placed p qs
+
+  -- p, unless the one that is kept for its slot has the same ballot
+  abbrev pub kept_beside : Option (PValue C) → PValue C → List (PValue C) → List (PValue C)
+  kept_beside None p ps = placed p ps
+  kept_beside (Some q) p ps = if same_ballot q.ballot p.ballot then ps else placed p ps
+
+  abbrev pub kept : List (PValue C) → PValue C → List (PValue C)
+  kept ps p = kept_beside (kept_for p.slot ps) p ps
+
+  -- a pvalue of the slot is among them, of at least this ballot
+  abbrev pub Holds : List (PValue C) → ℕ → BallotNumber → Type 0
+  Holds ps s b = (p : PValue C) × IsIn p ps × (p.slot ≡ s) × AtMost b p.ballot
+
   abbrev pub new_acceptor : AcceptorState C
   new_acceptor = record { ballot = None; accepted = [] }
 
   abbrev pub after_p1a : AcceptorState C → BallotNumber → AcceptorState C
   after_p1a a b = record { ballot = Some (raised a.ballot b); accepted = a.accepted }
 
-  abbrev pub after_p2a : (C → C → Bool) → AcceptorState C → PValue C → AcceptorState C
-  after_p2a eq a p =
-      record { ballot = Some (raised a.ballot p.ballot); accepted = if takes a.ballot p.ballot then added eq a.accepted p else a.accepted }
+  abbrev pub after_p2a : AcceptorState C → PValue C → AcceptorState C
+  after_p2a a p =
+      record { ballot = Some (raised a.ballot p.ballot); accepted = if takes a.ballot p.ballot then kept a.accepted p else a.accepted }
 
   abbrev pub vote_for : AcceptorState C → PValue C → Vote
   vote_for a p = record { asked = p.ballot; slot = p.slot; ballot = raised a.ballot p.ballot }
+
+  -- the acceptor's ballot is at least that of each pvalue that it keeps
+  abbrev pub HasReached : AcceptorState C → Type 0
+  HasReached a = (p : PValue C) → IsIn p a.accepted → Reached a.ballot p.ballot
 
 module _ {C A : Type 0} where
   abbrev pub promise_for : AcceptorState C → BallotNumber → Promise C A
   promise_for a b = record { asked = b; ballot = raised a.ballot b; accepted = a.accepted }
 
--- a worked example: an acceptor that was asked for (1, 2) refuses a pvalue of (0, 1), and has accepted nothing when (2, 1) asks
+-- worked examples
+
+abbrev ballot_of : ℕ → ℕ → BallotNumber
+ballot_of round leader = record { round = round; leader = leader }
+
+abbrev pvalue_of : {C : Type 0} → BallotNumber → ℕ → C → PValue C
+pvalue_of ballot slot command = record { ballot = ballot; slot = slot; command = command }
+
+-- an acceptor that was asked for (1, 2) refuses a pvalue of (0, 1), and has accepted nothing when (2, 1) asks
 module _ {C : Type 0} (command : C) where
   abbrev asked_for_one_two : AcceptorState C
-  asked_for_one_two = after_p1a new_acceptor (record { round = 1; leader = 2 })
+  asked_for_one_two = after_p1a new_acceptor (ballot_of 1 2)
 
   abbrev of_zero_one : PValue C
-  of_zero_one = record { ballot = record { round = 0; leader = 1 }; slot = 1; command = command }
+  of_zero_one = pvalue_of (ballot_of 0 1) 1 command
 
-  refused : (vote_for asked_for_one_two of_zero_one).ballot ≡ record { round = 1; leader = 2 }
+  refused : (vote_for asked_for_one_two of_zero_one).ballot ≡ ballot_of 1 2
   refused = refl
 
-  nothing_accepted : (A : Type 0) (eq : C → C → Bool) →
-      promise_for {A = A} (after_p2a eq asked_for_one_two of_zero_one) (record { round = 2; leader = 1 })
-      ≡ record { asked = record { round = 2; leader = 1 }; ballot = record { round = 2; leader = 1 }; accepted = [] }
-  nothing_accepted A eq = refl
+  nothing_accepted : (A : Type 0) →
+      promise_for {A = A} (after_p2a asked_for_one_two of_zero_one) (ballot_of 2 1)
+      ≡ record { asked = ballot_of 2 1; ballot = ballot_of 2 1; accepted = [] }
+  nothing_accepted A = refl
+
+-- of two pvalues for slot 1 the higher is kept, beside one for slot 2
+module _ {C : Type 0} (c d e : C) where
+  abbrev of_two_slots : AcceptorState C
+  of_two_slots =
+      after_p2a (after_p2a (after_p2a new_acceptor (pvalue_of (ballot_of 0 1) 1 c)) (pvalue_of (ballot_of 0 2) 1 d)) (pvalue_of (ballot_of 0 2) 2 e)
+
+  one_for_a_slot : (A : Type 0) →
+      (promise_for {A = A} of_two_slots (ballot_of 1 1)).accepted ≡ pvalue_of (ballot_of 0 2) 1 d ∷ pvalue_of (ballot_of 0 2) 2 e ∷ []
+  one_for_a_slot A = refl
+
+  -- the first of equal ballots stays
+  first_stays : (after_p2a of_two_slots (pvalue_of (ballot_of 0 2) 2 c)).accepted ≡ of_two_slots.accepted
+  first_stays = refl

@@ -1,1 +1,2 @@
 pub mod Acceptors
+pub mod Fields

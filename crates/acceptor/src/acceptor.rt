@@ -1,37 +1,48 @@
 //! The acceptor.
-ghost use Rattle.std.specs.Prelude.{◌≡◌, ◌↔◌, true, false, IsTrue, OnOk, OnErr, IfOk};
+ghost use Rattle.std.specs.Prelude.{◌≡◌, ◌↔◌, true, false, IsTrue, IsSome, IsOk, OnOk, OnErr, IfOk};
 ghost use Rattle.ballot.specs.Ballots.{BallotNumber};
-ghost use Rattle.ballot.specs.Lists.{IsIn};
-ghost use Rattle.acceptor.specs.Acceptors.{Reached, new_acceptor, raised, takes, after_p1a, after_p2a, promise_for, vote_for};
+ghost use Rattle.acceptor.specs.Fields.{pvalues_of};
+ghost use Rattle.acceptor.specs.Acceptors.{Reached, RiseBySlot, Holds, new_acceptor, raised, takes, kept, kept_for, after_p1a, after_p2a, promise_for, vote_for};
 
-use ballot::{Ballot, Items, Memory, PValue, Payload, Promise, Vote};
+use ballot::{Ballot, Items, Memory, PValue, Payload, Promise, Slot, Vote};
 use std::alloc::{Allocator, Global};
+use std::collections::BTreeMap;
 use std::marker::Model;
 
-/// An acceptor: the highest ballot that it was asked for, and the pvalues that it has accepted, in
-/// the order of acceptance.
+/// What an acceptor keeps for a slot: the command that it accepted there with the highest ballot.
+#[derive(Drop)]
+pub struct Accepted<C> {
+    pub ballot: Ballot,
+    pub command: C,
+}
+
+/// An acceptor: the highest ballot that it was asked for, and for each slot the accepted pvalue of
+/// the highest ballot, the first of equal ones.
 #[derive(Drop)]
 pub struct Acceptor<C, A: Allocator = Global> {
     ballot: Option<Ballot>,
-    accepted: Items<PValue<C>, A>,
+    accepted: BTreeMap<Slot, Accepted<C>, A>,
+    alloc: A,
 }
 
 impl<C, A: Allocator> Model for Acceptor<C, A> {
     ghost use Rattle.acceptor.specs.Acceptors.{AcceptorState};
+    ghost use Rattle.acceptor.specs.Fields.{pvalues_of};
 
     ghost Value = { AcceptorState C };
 
-    ghost view = { λ a. record { ballot = a.ballot; accepted = a.accepted } };
+    ghost view = { λ a. record { ballot = a.ballot; accepted = pvalues_of a.accepted.entries } };
 }
 
-impl<C, A: Allocator> Acceptor<C, A> {
+impl<C, A: Allocator + Copy> Acceptor<C, A> {
     /// An acceptor that was asked for nothing. Takes no memory.
     pub fn new(alloc: A) -> Self
         ensures { result ≡ new_acceptor }
     {
         Acceptor {
             ballot: None,
-            accepted: Items::new(alloc),
+            accepted: BTreeMap::new(alloc),
+            alloc,
         }
     }
 
@@ -45,15 +56,16 @@ impl<C, A: Allocator> Acceptor<C, A> {
 
 impl<C: Payload, A: Allocator + Copy> Acceptor<C, A> {
     /// Hears `Message::P1a`: raises its ballot to this one, if this is higher, and tells what it
-    /// has accepted. After `Memory` the acceptor is as it was.
+    /// keeps, in slot order. After `Memory` the acceptor is as it was. In proportion to what it keeps.
     pub fn p1a(&mut self, ballot: Ballot) -> Result<Promise<C, A>, Memory>
         ensures state { OnOk result (self.new ≡ after_p1a self.old ballot) }
         ensures answer { IfOk result (λ promise. promise ≡ promise_for self.old ballot) }
+        ensures one_for_a_slot { IfOk result (λ promise. RiseBySlot promise.accepted) }
         ensures reaches { OnOk result (Reached self.new.ballot ballot) }
         ensures never_falls { (b : BallotNumber) → Reached self.old.ballot b → Reached self.new.ballot b }
         ensures err { OnErr result (self.new ≡ self.old) }
     {
-        let accepted = self.accepted.copy()?;
+        let accepted = copy_of(self.alloc, &self.accepted)?;
         let raised = higher(self.ballot, ballot);
         self.ballot = Some(raised);
         Ok(Promise {
@@ -63,22 +75,27 @@ impl<C: Payload, A: Allocator + Copy> Acceptor<C, A> {
         })
     }
 
-    /// Hears `Message::P2a`: accepts the pvalue, unless its ballot is below the acceptor's own.
-    /// After `Memory` the acceptor is as it was.
+    /// Hears `Message::P2a`: keeps the pvalue for its slot, unless its ballot is below the acceptor's
+    /// own or is that of the one that is kept there. After `Memory` the acceptor is as it was. Takes
+    /// memory only for a slot for which nothing is kept. Logarithmic in the number of slots.
     pub fn p2a(&mut self, pvalue: PValue<C>) -> Result<Vote, Memory>
-        ensures state { OnOk result (self.new ≡ after_p2a C.equal self.old pvalue) }
+        ensures state { OnOk result (self.new ≡ after_p2a self.old pvalue) }
         ensures answer { IfOk result (λ vote. vote ≡ vote_for self.old pvalue) }
         ensures votes { IfOk result (λ vote. (vote.ballot ≡ pvalue.ballot) ↔ IsTrue (takes self.old.ballot pvalue.ballot)) }
-        ensures accepts { OnOk result (takes self.old.ballot pvalue.ballot ≡ true → IsIn pvalue self.new.accepted) }
-        ensures refuses { OnOk result (takes self.old.ballot pvalue.ballot ≡ false → self.new ≡ self.old) }
+        ensures accepts { OnOk result (takes self.old.ballot pvalue.ballot ≡ true → Holds self.new.accepted pvalue.slot pvalue.ballot) }
+        ensures refuses { takes self.old.ballot pvalue.ballot ≡ false → self.new ≡ self.old }
         ensures never_falls { (b : BallotNumber) → Reached self.old.ballot b → Reached self.new.ballot b }
+
+        // Memory is wanted for a new slot alone.
+        ensures below { takes self.old.ballot pvalue.ballot ≡ false → IsOk result }
+        ensures slot_is_there { IsSome (kept_for pvalue.slot self.old.accepted) → IsOk result }
         ensures err { OnErr result (self.new ≡ self.old) }
     {
         let asked = pvalue.ballot;
         let slot = pvalue.slot;
         let ballot = higher(self.ballot, asked);
         if ballot == asked {
-            self.accepted.add(pvalue)?;
+            keep(&mut self.accepted, pvalue)?;
             self.ballot = Some(ballot);
         }
         Ok(Vote {
@@ -87,6 +104,49 @@ impl<C: Payload, A: Allocator + Copy> Acceptor<C, A> {
             ballot,
         })
     }
+}
+
+/// The pvalues that are kept, in slot order.
+fn copy_of<C: Payload, A: Allocator + Copy>(
+    alloc: A,
+    accepted: &BTreeMap<Slot, Accepted<C>, A>,
+) -> Result<Items<PValue<C>, A>, Memory>
+    ensures same { IfOk result (λ copies. copies ≡ pvalues_of accepted.now.entries) }
+    ensures rising { IfOk result RiseBySlot }
+{
+    let mut copies = Vec::with_capacity(alloc, accepted.len())?;
+    for (slot, kept) in accepted {
+        let pvalue = PValue {
+            ballot: kept.ballot,
+            slot: *slot,
+            command: kept.command.copy()?,
+        };
+        copies.push(pvalue)?;
+    }
+    Ok(Items::from_vec(copies))
+}
+
+/// Keeps the pvalue for its slot, unless the one that is kept there has the same ballot.
+fn keep<C: Payload, A: Allocator + Copy>(
+    accepted: &mut BTreeMap<Slot, Accepted<C>, A>,
+    pvalue: PValue<C>,
+) -> Result<(), Memory>
+    ensures ok { OnOk result (pvalues_of accepted.new.entries ≡ kept (pvalues_of accepted.old.entries) pvalue) }
+    ensures err { OnErr result (accepted.new.entries ≡ accepted.old.entries) }
+    ensures slot_is_there { IsSome (kept_for pvalue.slot (pvalues_of accepted.old.entries)) → IsOk result }
+{
+    let PValue {
+        ballot,
+        slot,
+        command,
+    } = pvalue;
+    if let Some(there) = accepted.get(&slot) {
+        if there.ballot == ballot {
+            return Ok(());
+        }
+    }
+    let _ = accepted.insert(slot, Accepted { ballot, command })?;
+    Ok(())
 }
 
 /// The higher of both, where none is below all.

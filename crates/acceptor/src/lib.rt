@@ -1,9 +1,9 @@
-//! Acceptors of Multi-Paxos. An acceptor promises ballots, accepts pvalues, and forgets nothing.
+//! Acceptors of Multi-Paxos. An acceptor promises ballots, and keeps for each slot the accepted
+//! pvalue of the highest ballot.
 #![tactic(auto)]
 
 mod acceptor;
+mod laws;
 
 pub use acceptor::Acceptor;
-
-#[cfg(test)]
-mod tests;
+pub use laws::{acceptors_reach_what_they_keep, what_is_kept_stays_or_is_topped};

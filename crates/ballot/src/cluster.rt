@@ -1,11 +1,12 @@
 //! How many nodes there are, and how many of them are a majority.
 ghost use Rattle.std.specs.Prelude.{◌≡◌, ℕ, ◌≤◌, ◌<◌, ◌*◌, ◌↔◌, IsTrue, IsSome, IfSome};
 ghost use Rattle.ballot.specs.Nodes.{in_cluster};
+ghost use Rattle.ballot.specs.declared.node_id.TheConstants.{LAST_NODE};
 
-use crate::node_id::NodeId;
+use crate::node_id::{LAST_NODE, NodeId};
 use std::marker::Model;
 
-/// A cluster of the nodes 1 to its size, which is 1 to 9.
+/// A cluster of the nodes 1 to its size, which is 1 to `LAST_NODE`.
 #[derive(Clone, Copy, Debug, PartialEq, Eq, Hash)]
 pub struct Cluster {
     size: u8,
@@ -16,18 +17,18 @@ impl Model for Cluster {
 
     ghost view = { λ c. c.size };
 
-    ghost invariant = { λ c. (1 ≤ c.size) × (c.size ≤ 9) };
+    ghost invariant = { λ c. (1 ≤ c.size) × (c.size ≤ LAST_NODE) };
 
     ghost inverse = { λ n. record { size = n } };
 }
 
 impl Cluster {
-    /// The cluster of this many nodes, if they are 1 to 9.
+    /// The cluster of this many nodes, if they are 1 to `LAST_NODE`.
     pub fn new(size: u8) -> Option<Self>
-        ensures valid { IsSome result ↔ ((1 ≤ size) × (size ≤ 9)) }
+        ensures valid { IsSome result ↔ ((1 ≤ size) × (size ≤ LAST_NODE)) }
         ensures value { IfSome result (λ c. c ≡ size) }
     {
-        if 1 <= size && size <= 9 {
+        if 1 <= size && size <= LAST_NODE {
             Some(Cluster { size })
         } else {
             None
@@ -37,7 +38,7 @@ impl Cluster {
     /// The number of nodes that the cluster was made of.
     pub fn get(self) -> u8
         ensures value { result ≡ self }
-        ensures range { (1 ≤ self) × (self ≤ 9) }
+        ensures range { (1 ≤ self) × (self ≤ LAST_NODE) }
     {
         self.size
     }

@@ -23,12 +23,9 @@ pub use laws::{
 };
 pub use memory::Memory;
 pub use message::{Envelope, Message, Promise, Vote};
-pub use node_id::NodeId;
+pub use node_id::{LAST_NODE, NodeId};
 pub use node_set::NodeSet;
 pub use outgoing::{Outgoing, Sends};
 pub use payload::Payload;
 pub use pvalue::PValue;
-pub use slot::Slot;
-
-#[cfg(test)]
-mod tests;
+pub use slot::{LAST_SLOT, Slot};

@@ -1,9 +1,13 @@
 //! The numbers of nodes.
 ghost use Rattle.std.specs.Prelude.{◌≡◌, ℕ, ◌≤◌, ◌↔◌, IsSome, IfSome};
+ghost use Rattle.ballot.specs.declared.node_id.TheConstants.{LAST_NODE};
 
 use std::marker::Model;
 
-/// The number of a node, 1 to 9.
+/// The highest number of a node, and so the most nodes of a cluster.
+pub const LAST_NODE: u8 = 9;
+
+/// The number of a node, 1 to `LAST_NODE`.
 #[derive(Clone, Copy, Debug, PartialEq, Eq, PartialOrd, Ord, Hash)]
 pub struct NodeId {
     number: u8,
@@ -14,27 +18,27 @@ impl Model for NodeId {
 
     ghost view = { λ n. n.number };
 
-    ghost invariant = { λ n. (1 ≤ n.number) × (n.number ≤ 9) };
+    ghost invariant = { λ n. (1 ≤ n.number) × (n.number ≤ LAST_NODE) };
 
     ghost inverse = { λ n. record { number = n } };
 }
 
 impl NodeId {
-    /// The node of this number, if it is 1 to 9.
+    /// The node of this number, if it is 1 to `LAST_NODE`.
     pub fn new(number: u8) -> Option<Self>
-        ensures valid { IsSome result ↔ ((1 ≤ number) × (number ≤ 9)) }
+        ensures valid { IsSome result ↔ ((1 ≤ number) × (number ≤ LAST_NODE)) }
         ensures value { IfSome result (λ n. n ≡ number) }
     {
-        if 1 <= number && number <= 9 {
+        if 1 <= number && number <= LAST_NODE {
             Some(NodeId { number })
         } else {
             None
         }
     }
 
-    /// The node of this number, which is 1 to 9.
+    /// The node of this number, which is 1 to `LAST_NODE`.
     pub(crate) fn numbered(number: u8) -> Self
-        requires { (1 ≤ number) × (number ≤ 9) }
+        requires { (1 ≤ number) × (number ≤ LAST_NODE) }
         ensures { result ≡ number }
     {
         NodeId { number }
@@ -43,7 +47,7 @@ impl NodeId {
     /// The number that the node was made of.
     pub fn get(self) -> u8
         ensures value { result ≡ self }
-        ensures range { (1 ≤ self) × (self ≤ 9) }
+        ensures range { (1 ≤ self) × (self ≤ LAST_NODE) }
     {
         self.number
     }

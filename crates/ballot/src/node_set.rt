@@ -2,26 +2,30 @@
 ghost use Rattle.std.specs.Prelude.{◌≡◌, ◌∷◌, [], false, length, ◌≤◌, ◌↔◌, IsTrue};
 ghost use Rattle.ballot.specs.Nodes.{is_among};
 
-use crate::node_id::NodeId;
+use crate::node_id::{LAST_NODE, NodeId};
 use arrayvec::ArrayVec;
 use std::marker::Model;
 
+/// How many nodes there are at most.
+const ROOM: usize = LAST_NODE as usize;
+
 /// A set of nodes, seen as the list of them, the one added last first. It takes no memory, since
-/// there are at most nine.
+/// it has room for all nodes.
 #[derive(Drop)]
 pub struct NodeSet {
-    numbers: ArrayVec<u8, 9>,
+    numbers: ArrayVec<u8, ROOM>,
 }
 
 impl Model for NodeSet {
     ghost use Rattle.std.specs.Prelude.{List, ℕ};
     ghost use Rattle.ballot.specs.Nodes.{AreDistinct};
+    ghost use Rattle.ballot.specs.declared.node_id.TheConstants.{LAST_NODE};
 
     ghost Value = { List ℕ };
 
     ghost view = { λ s. s.numbers.items };
 
-    ghost invariant = { λ s. AreDistinct 9 s.numbers.items };
+    ghost invariant = { λ s. AreDistinct LAST_NODE s.numbers.items };
 }
 
 impl NodeSet {
@@ -52,7 +56,7 @@ impl NodeSet {
     /// How many nodes are in the set.
     pub fn len(&self) -> usize
         ensures value { result ≡ length self.now }
-        ensures range { result ≤ 9 }
+        ensures range { result ≤ LAST_NODE }
     {
         self.numbers.len()
     }

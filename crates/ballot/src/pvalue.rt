@@ -1,6 +1,6 @@
 //! Pvalues: what an acceptor accepts.
-ghost use Rattle.std.specs.Prelude.{◌≡◌, IfOk, OnOk, OnErr};
-ghost use Rattle.ballot.specs.PValues.{same_pvalue, has_pvalue, added, joined};
+ghost use Rattle.std.specs.Prelude.{◌≡◌, IfOk};
+ghost use Rattle.ballot.specs.PValues.{same_pvalue};
 
 use crate::ballot::Ballot;
 use crate::items::Items;
@@ -48,39 +48,5 @@ impl<C: Payload, A: Allocator + Copy> Items<PValue<C>, A> {
             copies.push(pvalue.copy()?)?;
         }
         Ok(Items::from_vec(copies))
-    }
-
-    /// Whether one of the pvalues equals this one.
-    pub fn has(&self, pvalue: &PValue<C>) -> bool
-        ensures { result ≡ has_pvalue C.equal pvalue.now self.now }
-    {
-        self.get().iter().any(|other| pvalue.same(other))
-    }
-
-    /// Adds the pvalue at the end, unless an equal one is there. After `Memory` the list is as it
-    /// was.
-    pub fn add(&mut self, pvalue: PValue<C>) -> Result<(), Memory>
-        ensures ok { OnOk result (self.new ≡ added C.equal self.old pvalue) }
-        ensures err { OnErr result (self.new ≡ self.old) }
-    {
-        if self.has(&pvalue) {
-            return Ok(());
-        }
-        self.push(pvalue)
-    }
-
-    /// Adds each of the others in turn. After `Memory` the list is as it was.
-    pub fn join(&mut self, others: Items<PValue<C>, A>) -> Result<(), Memory>
-        ensures ok { OnOk result (self.new ≡ joined C.equal self.old others) }
-        ensures err { OnErr result (self.new ≡ self.old) }
-    {
-        let before = self.len();
-        for pvalue in others.into_vec() {
-            if self.add(pvalue).is_err() {
-                self.truncate(before);
-                return Err(Memory);
-            }
-        }
-        Ok(())
     }
 }

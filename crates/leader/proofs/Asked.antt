@@ -1,5 +1,5 @@
 -- What a leader asks for: its proposals, and one command for a slot with a ballot.
-use Rattle.std.proofs.Common.{◌≡◌, ◌≢◌, ◌⊎◌, ℕ, zero, suc, List, [], ◌∷◌, ◌++◌, Bool, true, false, Option, Some, None, refl, sym, ap, ◌∙◌, subst, inl, inr, ⊎_elim, cond, ◌+◌, ◌^◌, arith}
+use Rattle.std.proofs.Common.{◌≡◌, ◌≢◌, ◌⊎◌, ℕ, List, [], ◌∷◌, ◌++◌, Bool, true, false, Option, Some, None, refl, sym, ◌∙◌, subst, inl, inr, ⊎_elim, cond, ◌+◌, ◌^◌, arith}
 use Rattle.std.specs.Prelude.{nat_lt}
 use Rattle.std.specs.List.{flat_map}
 use Rattle.std.proofs.lemmas.Bool.{true≢false}
@@ -9,10 +9,10 @@ use Rattle.ballot.specs.Sends.{to_all}
 use Rattle.ballot.specs.declared.pvalue.PValue.{PValue}
 use Rattle.ballot.specs.declared.message.Promise.{Promise}
 use Rattle.ballot.specs.declared.message.Vote.{Vote}
-use Rattle.ballot.specs.declared.message.Message.{Message}
 use Rattle.ballot.specs.declared.message.Message.TheVariants.{P1a, P2a, Decision}
 use Rattle.ballot.specs.declared.outgoing.Outgoing.{Outgoing}
-use Rattle.ballot.proofs.Member.{in_either, in_push}
+use Rattle.ballot.proofs.Member.{in_either}
+use Rattle.ballot.proofs.Sends.{in_to_all}
 use Rattle.ballot.proofs.Order.{below-true, below_trans, not_below_itself}
 use Rattle.proposer.specs.Quorums.{Pending}
 use Rattle.proposer.specs.Scouts.{ScoutState, scout_step, progress_of}
@@ -22,9 +22,9 @@ use Rattle.proposer.specs.declared.scout.Progress.TheVariants.{Waiting, Adopted,
 use Rattle.proposer.specs.declared.commander.Verdict.{Verdict}
 use Rattle.proposer.specs.declared.commander.Verdict.TheVariants.{Decided}
 use Rattle.proposer.specs.declared.commander.Verdict.TheVariants as vote
-use Rattle.leader.specs.Leaders.{Phase, Passive, Scouting, Active, Over, LeaderState, Move, at_slot, with_slot, new_leader, in_phase, phase_is_active, best_pvalues, replaced, goes_on, yields_in, stays, p2a, p2a_again, keeps_proposal, proposed_at, proposed, campaigned, preempted, adopts, adopted, after_promise, on_progress, hears_promise, decision, after_vote, verdict_on, on_verdict, hears_vote, ticked}
+use Rattle.leader.specs.Leaders.{Phase, Passive, Scouting, Active, Over, LeaderState, Move, at_slot, with_slot, Rising, new_leader, in_phase, phase_is_active, best_pvalues, replaced, goes_on, yields_in, stays, p2a, p2a_again, keeps_proposal, proposed_at, proposed, campaigned, preempted, adopts, adopted, after_promise, on_progress, hears_promise, decision, after_vote, verdict_on, on_verdict, hears_vote, ticked}
 use Rattle.leader.specs.Calls.{Call, Proposes, HearsPromise, HearsVote, Adopts, IsPreempted, Campaigns, Ticks, called, all_called, Asks, IsAsked}
-use Rattle.leader.proofs.Slots.{at_slot-with_slot, at_slot-with_other, Rising, rising_with, rising_found}
+use Rattle.leader.proofs.Slots.{at_slot-with_slot, at_slot-with_other, rising_with, rising_found}
 
 module _ {C : Type 0} where
   -- a pvalue that was asked for is the proposal, as long as its ballot is the leader's and the leader has it
@@ -62,12 +62,6 @@ module _ {C : Type 0} where
       go Over a s = absurd (true≢false (sym a))
 
 module _ {C : Type 0} (A : Type 0) where
-  -- all that is sent to all nodes is this message
-  in_to_all : (n : ℕ) (m : Message C A) (o : Outgoing C A) → IsIn o (to_all n m) → m ≡ o.message
-  in_to_all zero m o h = absurd h
-  in_to_all (suc n) m o h =
-      ⊎_elim (λ l. in_to_all n m o l) (λ r. ap (λ (x : Outgoing C A). x.message) r) (in_push o _ (to_all n m) h)
-
   asks_to_all : (n : ℕ) (q p : PValue C) → Asks {A = A} (to_all n (P2a q)) p → q ≡ p
   asks_to_all n q p h = let e = in_to_all n (P2a q) _ h.1 in cc
 
@@ -77,7 +71,7 @@ module _ {C : Type 0} (A : Type 0) where
       ⊎_elim (λ l. (x, inl refl, l)) (λ r. let y = in_flat_map f xs o r in (y.0, inr y.1, y.2)) (in_either o (f x) (flat_map f xs) h)
 
   -- what a call does to a leader
-  record Kept (l : LeaderState C) (move : Move C A) : Type 0 where
+  pub record Kept (l : LeaderState C) (move : Move C A) : Type 0 where
     pub rising : Rising l.proposals → Rising move.leader.proposals
     pub asks : Rising l.proposals → (p : PValue C) → Asks move.sends p → IsAsked move.leader p
     pub keeps : (p : PValue C) → Past l p → Past move.leader p
@@ -173,7 +167,7 @@ module _ {C : Type 0} (A : Type 0) where
       go false e = stays_kept l
 
   -- a majority of promises, while a scout runs
-  rising_replaced : (proposals : List (ℕ × C)) (best : List (ℕ × PValue C)) → Rising proposals → Rising (replaced proposals best)
+  pub rising_replaced : (proposals : List (ℕ × C)) (best : List (ℕ × PValue C)) → Rising proposals → Rising (replaced proposals best)
   rising_replaced proposals [] h = h
   rising_replaced proposals (e ∷ best) h = rising_replaced (with_slot e.0 e.1.command proposals) best (rising_with e.0 e.1.command proposals h)
 
@@ -260,7 +254,7 @@ module _ {C : Type 0} (A : Type 0) where
       now = in_phase l (Active ks)
   ticked_kept l Over = stays_kept (in_phase l Over)
 
-  called_kept : (eq : C → C → Bool) (l : LeaderState C) (call : Call C A) → Kept l (called eq l call)
+  pub called_kept : (eq : C → C → Bool) (l : LeaderState C) (call : Call C A) → Kept l (called eq l call)
   called_kept eq l (Proposes s c) = proposed_kept l s c
   called_kept eq l (HearsPromise from p) = hears_promise_kept eq l l.phase from p
   called_kept eq l (HearsVote from v) = hears_vote_kept l l.phase from v

@@ -1,2 +1,5 @@
 pub mod Slots
 pub mod Asked
+pub mod Idle
+pub mod Adoption
+pub mod Orderly

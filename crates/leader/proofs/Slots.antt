@@ -1,12 +1,13 @@
 -- Lists in slot order: what stands at a slot once one is put in.
-use Rattle.std.proofs.Common.{◌≡◌, ◌≢◌, ℕ, ◌<◌, List, [], ◌∷◌, Bool, true, false, Some, refl, sym, ap, ◌∙◌, subst, inl, inr, ⊎_elim, arith, cond}
+use Rattle.std.proofs.Common.{◌≡◌, ◌≢◌, ℕ, ◌<◌, List, [], ◌∷◌, Bool, true, false, Some, IsSome, is_some, ◌⊎◌, refl, sym, ap, ◌∙◌, subst, inl, inr, ⊎_elim, arith, cond}
 use Rattle.std.specs.Ordering.{MatchOrdering, match_ordering, nat_cmp, is_eq}
 use Rattle.std.specs.Cmp.{nat_cmp_is}
 use Rattle.std.specs.declared.cmp.Ordering.{Ordering}
 use Rattle.std.specs.declared.cmp.Ordering.TheVariants.{Less, Equal, Greater}
+use Rattle.std.proofs.lemmas.Bool.{cases_eq}
 use Rattle.std.proofs.lemmas.Cmp.{ranked}
 use Rattle.ballot.specs.Lists.{IsIn}
-use Rattle.leader.specs.Leaders.{at_slot, with_slot}
+use Rattle.leader.specs.Leaders.{at_slot, with_slot, set_slot, without_slot, Above, Rising}
 
 same_slot : (s : ℕ) → nat_cmp s s ≡ Equal
 same_slot s = sym (nat_cmp_is s s Equal refl)
@@ -54,15 +55,6 @@ module _ {X : Type 0} where
       go Equal q h = let no : is_eq (nat_cmp t e.0) ≡ false = other_slot e.0 t (λ p. ne (p ∙ sym q)) in rw no refl
       go Greater q h = ap (λ o. cond (is_eq (nat_cmp t e.0)) (Some e.1) o) h
 
-  -- the slots rise strictly
-  abbrev pub Above : ℕ → List (ℕ × X) → Type 0
-  Above s [] = Unit {0}
-  Above s (e ∷ es) = (s < e.0) × Above s es
-
-  abbrev pub Rising : List (ℕ × X) → Type 0
-  Rising [] = Unit {0}
-  Rising (e ∷ es) = Above e.0 es × Rising es
-
   above_lower : (s t : ℕ) (es : List (ℕ × X)) → s < t → Above t es → Above s es
   above_lower s t [] l h = tt
   above_lower s t (e ∷ es) l h = let q : t < e.0 = h.0 in (omega arith, above_lower s t es l h.1)
@@ -87,7 +79,7 @@ module _ {X : Type 0} where
       go Equal q k = h
       go Greater q k = (above_with e.0 s x es q h.0, k)
 
-  above_apart : (s : ℕ) (es : List (ℕ × X)) (e : ℕ × X) → Above s es → IsIn e es → s < e.0
+  pub above_apart : (s : ℕ) (es : List (ℕ × X)) (e : ℕ × X) → Above s es → IsIn e es → s < e.0
   above_apart s [] e h i = absurd i
   above_apart s (x ∷ es) e h i = ⊎_elim (λ q. subst (λ (y : ℕ × X). s < y.0) q h.0) (λ k. above_apart s es e h.1 k) i
 
@@ -112,3 +104,42 @@ module _ {X : Type 0} where
       go : (t : Bool) → is_eq (nat_cmp s y.0) ≡ t → (at_slot s es ≡ Some x → IsIn (s, x) es) → cond t (Some y.1) (at_slot s es) ≡ Some x → IsIn (s, x) (y ∷ es)
       go true q k h = let same : y.0 ≡ s = sym (equal_slots s y.0 q) in let v : y.1 ≡ x = cc in inl (λ i. (same i, v i))
       go false q k h = inr (k h)
+
+  -- what is put in is there, and else only what was
+  pub in_with_slot : (s : ℕ) (x : X) (es : List (ℕ × X)) (y : ℕ × X) → IsIn y (with_slot s x es) → ((s, x) ≡ y) ⊎ IsIn y es
+  in_with_slot s x [] y h = ⊎_elim (λ e. inl e) (λ n. absurd n) h
+  in_with_slot s x (e ∷ es) y h =
+      go (nat_cmp s e.0) (ranked s e.0 (nat_cmp s e.0) refl) (in_with_slot s x es y) h
+    where
+      go : (o : Ordering) → MatchOrdering o (s < e.0) (s ≡ e.0) (e.0 < s) → (IsIn y (with_slot s x es) → ((s, x) ≡ y) ⊎ IsIn y es) →
+          IsIn y (match_ordering o ((s, x) ∷ e ∷ es) ((e.0, x) ∷ es) (e ∷ with_slot s x es)) → ((s, x) ≡ y) ⊎ IsIn y (e ∷ es)
+      go Less q ih i = i
+      go Equal q ih i = ⊎_elim (λ (p : (e.0, x) ≡ y). inl ((λ j. (q j, x)) ∙ p)) (λ n. inr (inr n)) i
+      go Greater q ih i = ⊎_elim (λ p. inr (inl p)) (λ n. ⊎_elim (λ a. inl a) (λ b. inr (inr b)) (ih n)) i
+
+  pub in_set_slot : (s : ℕ) (x : X) (es : List (ℕ × X)) (y : ℕ × X) → IsIn y (set_slot s x es) → ((s, x) ≡ y) ⊎ IsIn y es
+  in_set_slot s x [] y h = absurd h
+  in_set_slot s x (e ∷ es) y h =
+      go (is_eq (nat_cmp s e.0)) refl (in_set_slot s x es y) h
+    where
+      go : (t : Bool) → is_eq (nat_cmp s e.0) ≡ t → (IsIn y (set_slot s x es) → ((s, x) ≡ y) ⊎ IsIn y es) → IsIn y (cond t ((e.0, x) ∷ es) (e ∷ set_slot s x es)) → ((s, x) ≡ y) ⊎ IsIn y (e ∷ es)
+      go true q ih i = let same = equal_slots s e.0 q in ⊎_elim (λ (p : (e.0, x) ≡ y). inl ((λ j. (same j, x)) ∙ p)) (λ n. inr (inr n)) i
+      go false q ih i = ⊎_elim (λ p. inr (inl p)) (λ n. ⊎_elim (λ a. inl a) (λ b. inr (inr b)) (ih n)) i
+
+  -- what is written and taken out again leaves only what was
+  pub in_without_set : (s : ℕ) (x : X) (es : List (ℕ × X)) (y : ℕ × X) → IsIn y (without_slot s (set_slot s x es)) → IsIn y es
+  in_without_set s x [] y h = absurd h
+  in_without_set s x (e ∷ es) y h =
+      go (is_eq (nat_cmp s e.0)) refl (in_without_set s x es y) h
+    where
+      go : (t : Bool) → is_eq (nat_cmp s e.0) ≡ t → (IsIn y (without_slot s (set_slot s x es)) → IsIn y es) → IsIn y (without_slot s (cond t ((e.0, x) ∷ es) (e ∷ set_slot s x es))) → IsIn y (e ∷ es)
+      go true q ih i = inr (subst (λ t. IsIn y (cond t es ((e.0, x) ∷ without_slot s es))) q i)
+      go false q ih i = ⊎_elim (λ p. inl p) (λ n. inr (ih n)) (subst (λ t. IsIn y (cond t (set_slot s x es) (e ∷ without_slot s (set_slot s x es)))) q i)
+
+  -- a slot that has something keeps something
+  pub some_with_slot : (s t : ℕ) (x : X) (es : List (ℕ × X)) → IsSome (at_slot t es) → IsSome (at_slot t (with_slot s x es))
+  some_with_slot s t x es h =
+      ⊎_elim
+      (λ (e : t ≡ s). ap is_some (subst (λ k. at_slot k (with_slot s x es) ≡ Some x) (sym e) (at_slot-with_slot s x es)))
+      (λ (ne : t ≢ s). ap is_some (at_slot-with_other s t x es ne) ∙ h)
+      (cases_eq t s)

@@ -1,11 +1,12 @@
 -- Leaders: what each call sends, and what the leader then is. Commands are compared by eq.
-use Rattle.std.specs.Prelude.{◌≡◌, refl, ℕ, List, [], ◌∷◌, Option, Some, None, fold, Bool, true, false, if◌then◌else◌}
+use Rattle.std.specs.Prelude.{◌≡◌, refl, ℕ, ◌<◌, List, [], ◌∷◌, Option, Some, None, option_map, Result, OnOk, IfOk, IsErr, OnErr, fold, Bool, true, false, if◌then◌else◌}
 use Rattle.std.specs.List.{flat_map}
 use Rattle.std.specs.Map.{lookup, set_value, remove_entry}
 use Rattle.std.specs.BTreeMap.{insert_entry, is_at}
 use Rattle.std.specs.Ordering.{nat_cmp}
 use Rattle.ballot.specs.Ballots.{BallotNumber, below, same_ballot, next_ballot}
 use Rattle.ballot.specs.Sends.{to_all}
+use Rattle.ballot.specs.declared.memory.Memory.{Memory}
 use Rattle.ballot.specs.declared.pvalue.PValue.{PValue}
 use Rattle.ballot.specs.declared.message.Promise.{Promise}
 use Rattle.ballot.specs.declared.message.Vote.{Vote}
@@ -43,6 +44,13 @@ pub record Move (C A : Type 0) : Type 0 where
   pub leader : LeaderState C
   pub sends : List (Outgoing C A)
 
+-- a call of a leader, none where it is spent: where it answers, the leader and the sends are those of the move, else it is spent
+pub record IsMoved {C A : Type 0} (move : LeaderState C → Move C A) (old new : Option (LeaderState C)) (result : Result (List (Outgoing C A)) Memory) : Type 0 where
+  pub leader : OnOk result (new ≡ option_map (λ l. (move l).leader) old)
+  pub sends : (l : LeaderState C) → old ≡ Some l → IfOk result (λ sends. sends ≡ (move l).sends)
+  pub spent : old ≡ None → IsErr result
+  pub err : OnErr result (new ≡ None)
+
 -- lists in slot order, as an ordered map keeps them
 module _ {X : Type 0} where
   abbrev pub at_slot : ℕ → List (ℕ × X) → Option X
@@ -59,6 +67,16 @@ module _ {X : Type 0} where
   abbrev pub without_slot : ℕ → List (ℕ × X) → List (ℕ × X)
   without_slot s es = remove_entry (is_at (nat_cmp s)) es
 
+  -- each slot is above s
+  abbrev pub Above : ℕ → List (ℕ × X) → Type 0
+  Above s [] = Unit {0}
+  Above s (e ∷ es) = (s < e.0) × Above s es
+
+  -- the slots rise strictly
+  abbrev pub Rising : List (ℕ × X) → Type 0
+  Rising [] = Unit {0}
+  Rising (e ∷ es) = Above e.0 es × Rising es
+
 -- the commanders after a vote, given to the one that waits at its slot
 abbrev pub after_vote : List (ℕ × Pending CommanderState) → ℕ → Vote → Option (Pending CommanderState) → List (ℕ × Pending CommanderState)
 after_vote ks from v None = ks
@@ -67,6 +85,10 @@ after_vote ks from v (Some k) = set_slot v.slot (record { size = k.size; state =
 abbrev pub verdict_on : Option (Pending CommanderState) → ℕ → Vote → Verdict
 verdict_on None from v = vote.Stale
 verdict_on (Some k) from v = verdict_of (commander_step k from v)
+
+abbrev pub is_decided : Verdict → Bool
+is_decided Decided = true
+is_decided _ = false
 
 module _ {C : Type 0} where
   abbrev pub new_leader : ℕ → ℕ → LeaderState C
@@ -78,6 +100,25 @@ module _ {C : Type 0} where
   abbrev pub phase_is_active : Phase C → Bool
   phase_is_active (Active commanders) = true
   phase_is_active _ = false
+
+  abbrev pub phase_is_passive : Phase C → Bool
+  phase_is_passive Passive = true
+  phase_is_passive _ = false
+
+  abbrev pub phase_is_scouting : Phase C → Bool
+  phase_is_scouting (Scouting scout) = true
+  phase_is_scouting _ = false
+
+  -- whether the vote decides
+  abbrev pub decides_in : ℕ → Vote → Phase C → Bool
+  decides_in from v (Active ks) = is_decided (verdict_on (at_slot v.slot ks) from v)
+  decides_in from v _ = false
+
+  -- whether there is something to ask again
+  abbrev pub has_to_ask : Phase C → Bool
+  has_to_ask (Scouting scout) = true
+  has_to_ask (Active (k ∷ ks)) = true
+  has_to_ask _ = false
 
   abbrev pub with_proposals : LeaderState C → List (ℕ × C) → LeaderState C
   with_proposals l proposals = record { me = l.me; size = l.size; ballot = l.ballot; proposals = proposals; phase = l.phase }

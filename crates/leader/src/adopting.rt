@@ -1,12 +1,13 @@
 //! What a leader does when a majority promises its ballot.
-ghost use Rattle.std.specs.Prelude.{◌≡◌, ◌++◌, OnOk, IfOk};
-ghost use Rattle.leader.specs.Leaders.{with_slot, commander_for, p2a, keep_better, best_pvalues, replaced, leads, adopts, adopted, hears_promise};
+ghost use Rattle.std.specs.Prelude.{◌≡◌, ◌&&◌, false, IsOk, OnOk, IfOk};
+ghost use Rattle.ballot.specs.Ballots.{same_ballot};
+ghost use Rattle.leader.specs.Leaders.{phase_is_scouting, keep_better, best_pvalues, replaced, leads, adopts, adopted, hears_promise};
 ghost use Rattle.leader.specs.States.{state_of};
 
-use crate::phases::preempt;
-use crate::state::{Doing, State};
-use ballot::{Ballot, Items, Memory, Message, NodeId, PValue, Payload, Promise, Sends, Slot};
-use proposer::{Commander, Progress};
+use crate::events::{preempt, start};
+use crate::state::{Phase, State};
+use ballot::{Ballot, Items, Memory, NodeId, PValue, Payload, Promise, Sends, Slot};
+use proposer::Progress;
 use std::alloc::Allocator;
 use std::collections::BTreeMap;
 
@@ -53,7 +54,7 @@ fn replace<C: Payload, A: Allocator + Copy>(
     Ok(())
 }
 
-/// Makes the leader lead, with a commander for each proposal, and asks for all of them.
+/// Makes the leader active, with a commander for each proposal, and asks for all of them.
 fn lead<C: Payload, A: Allocator + Copy>(state: &mut State<C, A>) -> Result<Sends<C, A>, Memory>
     ensures leader { OnOk result (state_of state.new ≡ (leads {A = A} (state_of state.old)).leader) }
     ensures sends { IfOk result (λ sends. sends ≡ (leads (state_of state.old)).sends) }
@@ -61,32 +62,17 @@ fn lead<C: Payload, A: Allocator + Copy>(state: &mut State<C, A>) -> Result<Send
     let mut sends = Items::new(state.alloc);
     let mut commanders = BTreeMap::new(state.alloc);
     for (slot, command) in &state.proposals {
-        start(state, *slot, command, &mut commanders, &mut sends)?;
+        start(
+            state.cluster,
+            state.ballot,
+            *slot,
+            command,
+            &mut commanders,
+            &mut sends,
+        )?;
     }
-    state.commanders = commanders;
-    state.doing = Doing::Leading;
+    state.phase = Phase::Active(commanders);
     Ok(sends)
-}
-
-/// Starts a commander for a proposal, and asks for it.
-fn start<C: Payload, A: Allocator + Copy>(
-    state: &State<C, A>,
-    slot: Slot,
-    command: &C,
-    commanders: &mut BTreeMap<Slot, Commander, A>,
-    sends: &mut Sends<C, A>,
-) -> Result<(), Memory>
-    ensures commanders { OnOk result (commanders.new.entries ≡ with_slot slot (commander_for (state_of state.now) slot) commanders.old.entries) }
-    ensures sends { OnOk result (sends.new ≡ sends.old ++ p2a (state_of state.now) slot command.now) }
-{
-    let commander = Commander::start(state.cluster, state.ballot, slot);
-    let _ = commanders.insert(slot, commander)?;
-    let pvalue = PValue {
-        ballot: state.ballot,
-        slot,
-        command: command.copy()?,
-    };
-    sends.broadcast(state.cluster, Message::P2a(pvalue))
 }
 
 /// Adopts the pvalues of a majority of acceptors, and leads.
@@ -110,8 +96,9 @@ pub fn adopt_for<C: Payload, A: Allocator + Copy>(
 ) -> Result<Sends<C, A>, Memory>
     ensures leader { OnOk result (state_of state.new ≡ (adopted {A = A} (state_of state.old) ballot pvalues).leader) }
     ensures sends { IfOk result (λ sends. sends ≡ (adopted (state_of state.old) ballot pvalues).sends) }
+    ensures not_asked { (phase_is_scouting (state_of state.old).phase && same_ballot ballot state.old.ballot) ≡ false → IsOk result }
 {
-    if let Doing::Asking(_) = &state.doing {
+    if let Phase::Scouting(_) = &state.phase {
         if ballot == state.ballot {
             return adopt(state, pvalues);
         }
@@ -127,8 +114,9 @@ pub fn hear_promise<C: Payload, A: Allocator + Copy>(
 ) -> Result<Sends<C, A>, Memory>
     ensures leader { OnOk result (state_of state.new ≡ (hears_promise {A = A} C.equal (state_of state.old) from promise).leader) }
     ensures sends { IfOk result (λ sends. sends ≡ (hears_promise C.equal (state_of state.old) from promise).sends) }
+    ensures late { phase_is_scouting (state_of state.old).phase ≡ false → IsOk result }
 {
-    let Doing::Asking(scout) = &mut state.doing else {
+    let Phase::Scouting(scout) = &mut state.phase else {
         return Ok(Items::new(state.alloc));
     };
     match scout.hear(from, promise)? {

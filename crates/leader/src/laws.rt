@@ -1,8 +1,8 @@
 //! Laws of leaders over any calls. Each is a function that does nothing: its contract is the law.
 ghost use Rattle.std.specs.Prelude.{◌≡◌, ℕ, List, Some, true};
 ghost use Rattle.ballot.specs.declared.pvalue.PValue.{PValue};
-ghost use Rattle.leader.specs.Leaders.{LeaderState, new_leader, at_slot, phase_is_active};
-ghost use Rattle.leader.specs.Calls.{Call, called, all_called, Asks, IsAsked};
+ghost use Rattle.leader.specs.Leaders.{LeaderState, new_leader, adopts, at_slot, phase_is_active};
+ghost use Rattle.leader.specs.Calls.{Call, called, all_called, Asks, IsAsked, IsOrderly, HasHighest, KeepsOthers};
 
 use ballot::Payload;
 use std::alloc::Allocator;
@@ -21,4 +21,19 @@ pub fn proposals_stay<C: Payload, A: Allocator>()
 /// With one ballot a leader asks for at most one command in a slot, whatever is called.
 pub fn one_command_for_a_slot<C: Payload, A: Allocator>()
     ensures { (me size : ℕ) (calls : List (Call C A)) (p q : PValue C) → Asks (all_called C.equal (new_leader me size) calls).sends p → Asks (all_called C.equal (new_leader me size) calls).sends q → p.ballot ≡ q.ballot → p.slot ≡ q.slot → p.command ≡ q.command }
+{}
+
+/// An adoption gives each slot of the adopted pvalues the command of one of them, of that slot,
+/// whose ballot is at least that of each other of that slot. Every other slot keeps its proposal.
+pub fn adoptions_take_the_highest<C: Payload, A: Allocator>()
+    ensures highest { (l : LeaderState C) (pvalues : List (PValue C)) → HasHighest pvalues (adopts {A = A} l pvalues).leader.proposals }
+    ensures others { (l : LeaderState C) (pvalues : List (PValue C)) → KeepsOthers pvalues l.proposals (adopts {A = A} l pvalues).leader.proposals }
+{}
+
+/// Whatever was called: a leader's ballot is its own, its proposals rise strictly by slot, its scout
+/// waits for its ballot, each of its commanders waits for its ballot at a slot that has a proposal,
+/// and what these have heard are distinct nodes of the cluster.
+pub fn leaders_are_orderly<C: Payload, A: Allocator>()
+    ensures always { (me size : ℕ) (calls : List (Call C A)) → IsOrderly me size (all_called C.equal (new_leader me size) calls).leader }
+    ensures after_each_call { (me size : ℕ) (l : LeaderState C) (call : Call C A) → IsOrderly me size l → IsOrderly me size (called C.equal l call).leader }
 {}

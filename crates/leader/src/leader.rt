@@ -1,8 +1,10 @@
 //! The leader.
-ghost use Rattle.std.specs.Prelude.{◌≡◌, ◌↔◌, Some, None, option_map, IsErr, IfOk, IfSome, OnOk, OnErr};
+ghost use Rattle.std.specs.Prelude.{◌≡◌, ◌↔◌, ◌&&◌, Some, None, true, false, IsErr, IsOk, IsSome, IfSome};
+ghost use Rattle.std.specs.Option.{option_map_or};
+ghost use Rattle.ballot.specs.Ballots.{same_ballot};
 
-use crate::state::{Doing, State};
-use crate::{adopting, phases};
+use crate::state::{Phase, State};
+use crate::{adopting, events};
 use ballot::{Ballot, Cluster, Items, Memory, NodeId, PValue, Payload, Promise, Sends, Slot, Vote};
 use std::alloc::{Allocator, Global};
 use std::collections::BTreeMap;
@@ -27,7 +29,7 @@ impl<C, A: Allocator> Model for Leader<C, A> {
 }
 
 impl<C: Payload, A: Allocator + Copy> Leader<C, A> {
-    ghost use Rattle.leader.specs.Leaders.{LeaderState, new_leader, phase_is_active, proposed, hears_promise, hears_vote, adopted, preempted, campaigned, ticked};
+    ghost use Rattle.leader.specs.Leaders.{LeaderState, IsMoved, new_leader, at_slot, phase_is_active, phase_is_passive, phase_is_scouting, decides_in, has_to_ask, proposed, hears_promise, hears_vote, adopted, preempted, campaigned, ticked};
 
     /// A passive leader of the lowest ballot of this node, without proposals. Takes no memory.
     pub fn new(alloc: A, me: NodeId, cluster: Cluster) -> Self
@@ -43,8 +45,7 @@ impl<C: Payload, A: Allocator + Copy> Leader<C, A> {
                 cluster,
                 ballot,
                 proposals: BTreeMap::new(alloc),
-                commanders: BTreeMap::new(alloc),
-                doing: Doing::Waiting,
+                phase: Phase::Passive,
                 alloc,
             },
             spent: false,
@@ -54,16 +55,11 @@ impl<C: Payload, A: Allocator + Copy> Leader<C, A> {
     /// Hears `Message::Propose`: keeps the command for the slot, unless it has one for it, and if it
     /// is active asks the acceptors to accept it.
     pub fn propose(&mut self, slot: Slot, command: C) -> Result<Sends<C, A>, Memory>
-        ensures leader { OnOk result (self.new ≡ option_map (λ l. (proposed {A = A} l slot command).leader) self.old) }
-        ensures sends { (l : LeaderState C) → self.old ≡ Some l → IfOk result (λ sends. sends ≡ (proposed l slot command).sends) }
-        ensures spent { self.old ≡ None → IsErr result }
-        ensures err { OnErr result (self.new ≡ None) }
+        ensures moves { IsMoved (λ l. proposed l slot command) self.old self.new result }
+        ensures taken { (l : LeaderState C) → self.old ≡ Some l → IsSome (at_slot slot l.proposals) → IsOk result }
     {
-        if self.spent {
-            return Err(Memory);
-        }
-        self.spent = true;
-        let sends = phases::propose(&mut self.state, slot, command)?;
+        spend(&mut self.spent)?;
+        let sends = events::propose(&mut self.state, slot, command)?;
         self.spent = false;
         Ok(sends)
     }
@@ -71,15 +67,10 @@ impl<C: Payload, A: Allocator + Copy> Leader<C, A> {
     /// Hears `Message::P1b`: hands it to its scout, and does what `adopted` or `preempted` does where
     /// that ends.
     pub fn hear1(&mut self, from: NodeId, promise: Promise<C, A>) -> Result<Sends<C, A>, Memory>
-        ensures leader { OnOk result (self.new ≡ option_map (λ l. (hears_promise {A = A} C.equal l from promise).leader) self.old) }
-        ensures sends { (l : LeaderState C) → self.old ≡ Some l → IfOk result (λ sends. sends ≡ (hears_promise C.equal l from promise).sends) }
-        ensures spent { self.old ≡ None → IsErr result }
-        ensures err { OnErr result (self.new ≡ None) }
+        ensures moves { IsMoved (λ l. hears_promise C.equal l from promise) self.old self.new result }
+        ensures late { (l : LeaderState C) → self.old ≡ Some l → phase_is_scouting l.phase ≡ false → IsOk result }
     {
-        if self.spent {
-            return Err(Memory);
-        }
-        self.spent = true;
+        spend(&mut self.spent)?;
         let sends = adopting::hear_promise(&mut self.state, from, promise)?;
         self.spent = false;
         Ok(sends)
@@ -88,16 +79,11 @@ impl<C: Payload, A: Allocator + Copy> Leader<C, A> {
     /// Hears `Message::P2b`: hands it to the commander of its slot, sends the decision to all nodes
     /// where that decides, and does what `preempted` does where a higher ballot ends it.
     pub fn hear2(&mut self, from: NodeId, vote: Vote) -> Result<Sends<C, A>, Memory>
-        ensures leader { OnOk result (self.new ≡ option_map (λ l. (hears_vote {A = A} l from vote).leader) self.old) }
-        ensures sends { (l : LeaderState C) → self.old ≡ Some l → IfOk result (λ sends. sends ≡ (hears_vote l from vote).sends) }
-        ensures spent { self.old ≡ None → IsErr result }
-        ensures err { OnErr result (self.new ≡ None) }
+        ensures moves { IsMoved (λ l. hears_vote l from vote) self.old self.new result }
+        ensures undecided { (l : LeaderState C) → self.old ≡ Some l → decides_in from vote l.phase ≡ false → IsOk result }
     {
-        if self.spent {
-            return Err(Memory);
-        }
-        self.spent = true;
-        let sends = phases::hear_vote(&mut self.state, from, vote)?;
+        spend(&mut self.spent)?;
+        let sends = events::hear_vote(&mut self.state, from, vote)?;
         self.spent = false;
         Ok(sends)
     }
@@ -110,15 +96,10 @@ impl<C: Payload, A: Allocator + Copy> Leader<C, A> {
         ballot: Ballot,
         pvalues: Items<PValue<C>, A>,
     ) -> Result<Sends<C, A>, Memory>
-        ensures leader { OnOk result (self.new ≡ option_map (λ l. (adopted {A = A} l ballot pvalues).leader) self.old) }
-        ensures sends { (l : LeaderState C) → self.old ≡ Some l → IfOk result (λ sends. sends ≡ (adopted l ballot pvalues).sends) }
-        ensures spent { self.old ≡ None → IsErr result }
-        ensures err { OnErr result (self.new ≡ None) }
+        ensures moves { IsMoved (λ l. adopted l ballot pvalues) self.old self.new result }
+        ensures not_asked { (l : LeaderState C) → self.old ≡ Some l → (phase_is_scouting l.phase && same_ballot ballot l.ballot) ≡ false → IsOk result }
     {
-        if self.spent {
-            return Err(Memory);
-        }
-        self.spent = true;
+        spend(&mut self.spent)?;
         let sends = adopting::adopt_for(&mut self.state, ballot, pvalues)?;
         self.spent = false;
         Ok(sends)
@@ -128,16 +109,11 @@ impl<C: Payload, A: Allocator + Copy> Leader<C, A> {
     /// round after. Where there is no round after, it keeps its ballot and is passive for ever.
     /// Takes no memory: it answers `Memory` only where the leader is spent.
     pub fn preempted(&mut self, ballot: Ballot) -> Result<Sends<C, A>, Memory>
-        ensures leader { OnOk result (self.new ≡ option_map (λ l. (preempted {A = A} l ballot).leader) self.old) }
-        ensures sends { (l : LeaderState C) → self.old ≡ Some l → IfOk result (λ sends. sends ≡ (preempted l ballot).sends) }
+        ensures moves { IsMoved (λ l. preempted l ballot) self.old self.new result }
         ensures spent { IsErr result ↔ (self.old ≡ None) }
-        ensures err { OnErr result (self.new ≡ None) }
     {
-        if self.spent {
-            return Err(Memory);
-        }
-        self.spent = true;
-        phases::preempt(&mut self.state, ballot);
+        spend(&mut self.spent)?;
+        events::preempt(&mut self.state, ballot);
         let sends = Items::new(self.state.alloc);
         self.spent = false;
         Ok(sends)
@@ -145,41 +121,32 @@ impl<C: Payload, A: Allocator + Copy> Leader<C, A> {
 
     /// Starts a scout for its ballot, if the leader is passive and has none.
     pub fn campaign(&mut self) -> Result<Sends<C, A>, Memory>
-        ensures leader { OnOk result (self.new ≡ option_map (λ l. (campaigned {A = A} l).leader) self.old) }
-        ensures sends { (l : LeaderState C) → self.old ≡ Some l → IfOk result (λ sends. sends ≡ (campaigned l).sends) }
-        ensures spent { self.old ≡ None → IsErr result }
-        ensures err { OnErr result (self.new ≡ None) }
+        ensures moves { IsMoved (λ l. campaigned l) self.old self.new result }
+        ensures not_passive { (l : LeaderState C) → self.old ≡ Some l → phase_is_passive l.phase ≡ false → IsOk result }
     {
-        if self.spent {
-            return Err(Memory);
-        }
-        self.spent = true;
-        let sends = phases::campaign(&mut self.state)?;
+        spend(&mut self.spent)?;
+        let sends = events::campaign(&mut self.state)?;
         self.spent = false;
         Ok(sends)
     }
 
     /// Sends again what its scout asks, or what its commanders ask, in slot order.
     pub fn tick(&mut self) -> Result<Sends<C, A>, Memory>
-        ensures leader { OnOk result (self.new ≡ option_map (λ l. (ticked {A = A} l).leader) self.old) }
-        ensures sends { (l : LeaderState C) → self.old ≡ Some l → IfOk result (λ sends. sends ≡ (ticked l).sends) }
-        ensures spent { self.old ≡ None → IsErr result }
-        ensures err { OnErr result (self.new ≡ None) }
+        ensures moves { IsMoved (λ l. ticked l) self.old self.new result }
+        ensures nothing_to_ask { (l : LeaderState C) → self.old ≡ Some l → has_to_ask l.phase ≡ false → IsOk result }
     {
-        if self.spent {
-            return Err(Memory);
-        }
-        self.spent = true;
-        let sends = phases::tick(&self.state)?;
+        spend(&mut self.spent)?;
+        let sends = events::tick(&self.state)?;
         self.spent = false;
         Ok(sends)
     }
 
-    /// Whether a majority has promised its ballot, and no higher ballot has preempted it.
+    /// Whether a majority has promised its ballot, and no higher ballot has preempted it. A spent
+    /// leader isn't active.
     pub fn is_active(&self) -> bool
-        ensures { IfSome self.now (λ l. result ≡ phase_is_active l.phase) }
+        ensures { result ≡ option_map_or (λ l. phase_is_active l.phase) self.now false }
     {
-        matches!(&self.state.doing, Doing::Leading)
+        !self.spent && matches!(&self.state.phase, Phase::Active(_))
     }
 
     /// Its ballot.
@@ -188,4 +155,16 @@ impl<C: Payload, A: Allocator + Copy> Leader<C, A> {
     {
         self.state.ballot
     }
+}
+
+/// Marks a leader as spent, until its call has an answer.
+fn spend(spent: &mut bool) -> Result<(), Memory>
+    ensures once { IsOk result ↔ (spent.old ≡ false) }
+    ensures marked { spent.new ≡ true }
+{
+    if *spent {
+        return Err(Memory);
+    }
+    *spent = true;
+    Ok(())
 }

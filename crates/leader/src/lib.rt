@@ -3,13 +3,13 @@
 #![tactic(auto)]
 
 mod adopting;
+mod events;
 mod laws;
 mod leader;
-mod phases;
 mod state;
 
-pub use laws::{leaders_ask_for_their_proposals, one_command_for_a_slot, proposals_stay};
+pub use laws::{
+    adoptions_take_the_highest, leaders_are_orderly, leaders_ask_for_their_proposals,
+    one_command_for_a_slot, proposals_stay,
+};
 pub use leader::Leader;
-
-#[cfg(test)]
-mod tests;

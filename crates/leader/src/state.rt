@@ -4,17 +4,20 @@ use proposer::{Commander, Scout};
 use std::alloc::Allocator;
 use std::collections::BTreeMap;
 
+/// The commanders that wait, by slot.
+pub type Commanders<A> = BTreeMap<Slot, Commander, A>;
+
 /// What a leader is doing.
 #[derive(Drop)]
-pub enum Doing<C, A: Allocator> {
+pub enum Phase<C, A: Allocator> {
     /// Nothing, until it campaigns.
-    Waiting,
+    Passive,
     /// Its scout asks for its ballot.
-    Asking(Scout<C, A>),
-    /// It has its ballot, and its commanders ask for its proposals.
-    Leading,
+    Scouting(Scout<C, A>),
+    /// It has its ballot, and these commanders ask for its proposals.
+    Active(Commanders<A>),
     /// Nothing, for ever: no ballot is left to it.
-    Ended,
+    Over,
 }
 
 /// A leader that isn't spent.
@@ -26,8 +29,6 @@ pub struct State<C, A: Allocator> {
     /// What it proposes for each slot. A proposal is replaced at an adoption alone, and never
     /// taken out.
     pub proposals: BTreeMap<Slot, C, A>,
-    /// The commanders that wait. There are none unless it leads.
-    pub commanders: BTreeMap<Slot, Commander, A>,
-    pub doing: Doing<C, A>,
+    pub phase: Phase<C, A>,
     pub alloc: A,
 }

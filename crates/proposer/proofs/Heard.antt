@@ -1,24 +1,23 @@
 -- What a scout or a commander that waits has heard in all the answers so far.
 use Rattle.std.proofs.Common.{◌≡◌, ◌⊎◌, ℕ, List, [], ◌∷◌, ◌++◌, Bool, true, false, Option, Some, None, refl, sym, ap, ◌∙◌, subst, inl, inr, ⊎_elim, cond, eqb, append_assoc}
 use mathlib.Core.Bool.{not, ◌&&◌, ◌||◌}
-use Rattle.std.proofs.lemmas.Bool.{and_parts, or_cases, eqb-true}
+use Rattle.std.proofs.lemmas.Bool.{and_parts, or_cases, eqb-true, eq-eqb}
 use Rattle.std.proofs.lemmas.List.{append-nil}
 use Rattle.ballot.specs.Ballots.{BallotNumber, below, same_ballot}
 use Rattle.ballot.specs.Lists.{IsIn}
 use Rattle.ballot.specs.Nodes.{in_cluster, is_among}
-use Rattle.ballot.specs.PValues.{joined}
 use Rattle.ballot.specs.declared.pvalue.PValue.{PValue}
 use Rattle.ballot.specs.declared.message.Promise.{Promise}
 use Rattle.ballot.specs.declared.message.Vote.{Vote}
 use Rattle.ballot.proofs.Member.{IsEquality, in_left, in_last, joined_old, joined_new, joined_cases}
 use Rattle.ballot.proofs.Order.{same_ballot-true}
 use Rattle.proposer.specs.Quorums.{Pending, Step, Waits, Wins, Yields, Ignores, while_waiting, left_by, answered, is_quorum}
-use Rattle.proposer.specs.Scouts.{ScoutState, new_scout, scout_counts, scout_hears, with_promise, scout_after, HasPromises}
+use Rattle.proposer.specs.Scouts.{ScoutState, new_scout, scout_counts, scout_hears, with_promise, scout_after, scout_step, HasPromises, IsAdoption}
 use Rattle.proposer.specs.Commanders.{CommanderState, new_commander, commander_counts, commander_hears, with_vote, commander_after, HasVotes}
-use Rattle.proposer.proofs.Wins.{Counts, same_height}
+use Rattle.proposer.proofs.Wins.{Counts, is_win, same_height, answered_counts, answered_wins, quorum_majority}
 
 -- what waits after an answer that changes something has counted it
-answered_waits : {S R : Type 0} (size : ℕ) (mine : BallotNumber) (heard : List ℕ) (from : ℕ) (fits : Bool) (b : BallotNumber) (counted : Step S R) (s : S) →
+pub answered_waits : {S R : Type 0} (size : ℕ) (mine : BallotNumber) (heard : List ℕ) (from : ℕ) (fits : Bool) (b : BallotNumber) (counted : Step S R) (s : S) →
     answered size mine heard from fits b counted ≡ Waits s → Counts size mine heard from fits b × (counted ≡ Waits s)
 answered_waits {S} {R} size mine heard from fits b counted s =
     go (in_cluster size from && fits) (below mine b) (below b mine) (is_among from heard) refl refl refl refl
@@ -31,13 +30,44 @@ answered_waits {S} {R} size mine heard from fits b counted s =
     go true false false true p q r x e = absurd (cc)
     go true false false false p q r x e = let a = and_parts _ _ p in ((a.0, a.1, same_height mine b q r, x), e)
 
-waits_if : {S R : Type 0} (t : Bool) (s u : S) (r : R) → ◌≡◌ {A = Step S R} (cond t (Wins r) (Waits s)) (Waits u) → s ≡ u
+pub waits_if : {S R : Type 0} (t : Bool) (s u : S) (r : R) → ◌≡◌ {A = Step S R} (cond t (Wins r) (Waits s)) (Waits u) → s ≡ u
 waits_if true s u r e = absurd (cc)
 waits_if false s u r e = cc
 
+-- only a higher ballot ends the wait
+pub answered_yields : {S R : Type 0} (size : ℕ) (mine : BallotNumber) (heard : List ℕ) (from : ℕ) (fits : Bool) (b : BallotNumber) (counted : Step S R) (c : BallotNumber) →
+    (counted ≡ Yields c → ⊥) → answered size mine heard from fits b counted ≡ Yields c → below mine c ≡ true
+answered_yields {S} {R} size mine heard from fits b counted c never =
+    go (in_cluster size from && fits) (below mine b) (below b mine || is_among from heard) refl
+  where
+    go : (t u v : Bool) → below mine b ≡ u → ◌≡◌ {A = Step S R} (cond (not t) Ignores (cond u (Yields b) (cond v Ignores counted))) (Yields c) → below mine c ≡ true
+    go false u v q e = absurd (cc)
+    go true true v q e = let same : b ≡ c = cc in subst (λ x. below mine x ≡ true) same q
+    go true false true q e = absurd (cc)
+    go true false false q e = absurd (never e)
+
+pub never_yields : {S R : Type 0} (t : Bool) (s : S) (r : R) (c : BallotNumber) → ◌≡◌ {A = Step S R} (cond t (Wins r) (Waits s)) (Yields c) → ⊥
+never_yields true s r c e = absurd (cc)
+never_yields false s r c e = absurd (cc)
+
 -- a node among those counted is the new one or an old one
-among_cases : (node from : ℕ) (heard : List ℕ) → is_among node (from ∷ heard) ≡ true → (node ≡ from) ⊎ (is_among node heard ≡ true)
+pub among_cases : (node from : ℕ) (heard : List ℕ) → is_among node (from ∷ heard) ≡ true → (node ≡ from) ⊎ (is_among node heard ≡ true)
 among_cases node from heard e = ⊎_elim (λ q. inl (eqb-true node from q)) (λ q. inr q) (or_cases _ _ e)
+
+wins_if_quorum : {C : Type 0} (t : Bool) (s : ScoutState C) (ps qs : List (PValue C)) → ◌≡◌ {A = Step (ScoutState C) (List (PValue C))} (cond t (Wins qs) (Waits s)) (Wins ps) → (t ≡ true) × (qs ≡ ps)
+wins_if_quorum true s ps qs e = (refl, cc)
+wins_if_quorum false s ps qs e = absurd (cc)
+
+among_first : (from : ℕ) (heard : List ℕ) → is_among from (from ∷ heard) ≡ true
+among_first from heard = rw (eq-eqb from from refl) refl
+
+among_more : (node from : ℕ) (heard : List ℕ) → is_among node heard ≡ true → is_among node (from ∷ heard) ≡ true
+among_more node from heard e =
+    go (eqb node from)
+  where
+    go : (t : Bool) → (t || is_among node heard) ≡ true
+    go true = refl
+    go false = e
 
 module _ {C A : Type 0} (eq : C → C → Bool) (law : IsEquality eq) (size : ℕ) (b : BallotNumber) where
   more_promises : (answers : List (ℕ × Promise C A)) (a : ℕ × Promise C A) (s : ScoutState C) → HasPromises answers size b s → HasPromises (answers ++ a ∷ []) size b s
@@ -46,7 +76,7 @@ module _ {C A : Type 0} (eq : C → C → Bool) (law : IsEquality eq) (size : �
         mine = h.mine;
         distinct = h.distinct;
         promised = λ node q. let x = h.promised node q in (x.0, in_left _ answers (a ∷ []) x.1, x.2, x.3, x.4);
-        told = λ x q. let y = h.told x q in (y.0, y.1, in_left _ answers (a ∷ []) y.2, y.3);
+        told = λ x q. let y = h.told x q in (y.0, y.1, in_left _ answers (a ∷ []) y.2, y.3, y.4, y.5, y.6);
       }
 
   one_promise : (answers : List (ℕ × Promise C A)) (s : ScoutState C) (from : ℕ) (p : Promise C A) → HasPromises answers size b s →
@@ -62,8 +92,8 @@ module _ {C A : Type 0} (eq : C → C → Bool) (law : IsEquality eq) (size : �
             (among_cases node from s.heard q);
         told = λ x q.
             ⊎_elim
-            (λ (i : IsIn x s.pvalues). let y = h.told x i in (y.0, y.1, in_left _ answers _ y.2, y.3))
-            (λ (i : IsIn x p.accepted). (from, p, in_last (from, p) answers, i))
+            (λ (i : IsIn x s.pvalues). let y = h.told x i in (y.0, y.1, in_left _ answers _ y.2, among_more y.0 from s.heard y.3, y.4, y.5, y.6))
+            (λ (i : IsIn x p.accepted). (from, p, in_last (from, p) answers, among_first from s.heard, same_ballot-true p.asked s.ballot c.1 ∙ h.mine, c.2 ∙ h.mine, i))
             (joined_cases eq law s.pvalues p.accepted x q);
       }
 
@@ -100,6 +130,29 @@ module _ {C A : Type 0} (eq : C → C → Bool) (law : IsEquality eq) (size : �
       all_promises [] answers (Some (new_scout b))
       (λ s q. let same : new_scout b ≡ s = cc in subst (HasPromises [] size b) same (record { mine = refl; distinct = tt; promised = λ node r. absurd (cc); told = λ x r. absurd r }))
       t e
+
+  size_stays : (old : Option (ScoutState C)) (answers : List (ℕ × Promise C A)) → (scout_after eq (record { size = size; state = old }) answers).size ≡ size
+  size_stays old [] = refl
+  size_stays old (a ∷ answers) = size_stays (left_by old (while_waiting old (λ s. scout_hears eq size s a.0 a.1))) answers
+
+  last_promise : (answers : List (ℕ × Promise C A)) (from : ℕ) (p : Promise C A) (ps : List (PValue C)) (old : Option (ScoutState C)) →
+      ((s : ScoutState C) → old ≡ Some s → HasPromises answers size b s) → while_waiting old (λ s. scout_hears eq size s from p) ≡ Wins ps → IsAdoption (answers ++ (from, p) ∷ []) size b ps
+  last_promise answers from p ps None h e = absurd (cc)
+  last_promise answers from p ps (Some s) h e =
+      let now : ScoutState C = with_promise eq s from p in
+      let fits : Bool = same_ballot p.asked s.ballot in
+      let counted = answered_wins size s.ballot s.heard from fits p.ballot (scout_counts size now) (ap is_win e) in
+      let wins = wins_if_quorum (is_quorum size now.heard) now ps now.pvalues (sym (answered_counts size s.ballot s.heard from fits p.ballot (scout_counts size now) counted.0) ∙ e) in
+      let has = one_promise answers s from p (h s refl) counted.0 in
+      (now, wins.1, has, (quorum_majority size now.heard has.distinct).0 wins.0)
+
+  -- what a scout adopts are the pvalues of a majority that promised its ballot
+  pub adoptions_are_promised : (answers : List (ℕ × Promise C A)) (from : ℕ) (p : Promise C A) (ps : List (PValue C)) →
+      scout_step eq (scout_after eq (record { size = size; state = Some (new_scout b) }) answers) from p ≡ Wins ps → IsAdoption (answers ++ (from, p) ∷ []) size b ps
+  adoptions_are_promised answers from p ps e =
+      let scout : Pending (ScoutState C) = scout_after eq (record { size = size; state = Some (new_scout b) }) answers in
+      last_promise answers from p ps scout.state (scouts_count answers)
+      (subst (λ n. while_waiting scout.state (λ s. scout_hears eq n s from p) ≡ Wins ps) (size_stays (Some (new_scout b)) answers) e)
 
 module _ (size : ℕ) (b : BallotNumber) (slot : ℕ) where
   more_votes : (answers : List (ℕ × Vote)) (a : ℕ × Vote) (k : CommanderState) → HasVotes answers size b slot k → HasVotes (answers ++ a ∷ []) size b slot k

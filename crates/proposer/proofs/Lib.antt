@@ -1,2 +1,3 @@
 pub mod Wins
 pub mod Heard
+pub mod Places

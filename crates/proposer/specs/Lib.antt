@@ -1,3 +1,4 @@
 pub mod Quorums
 pub mod Scouts
 pub mod Commanders
+pub mod Unions

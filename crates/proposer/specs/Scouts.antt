@@ -2,7 +2,7 @@
 use Rattle.std.specs.Prelude.{◌≡◌, refl, ℕ, List, [], ◌∷◌, Bool, true, false, Some, if◌then◌else◌}
 use Rattle.ballot.specs.Ballots.{BallotNumber, same_ballot}
 use Rattle.ballot.specs.Lists.{IsIn}
-use Rattle.ballot.specs.Nodes.{in_cluster, is_among, AreDistinct}
+use Rattle.ballot.specs.Nodes.{in_cluster, is_among, AreDistinct, IsMajority}
 use Rattle.ballot.specs.PValues.{joined}
 use Rattle.ballot.specs.declared.pvalue.PValue.{PValue}
 use Rattle.ballot.specs.declared.message.Promise.{Promise}
@@ -55,13 +55,19 @@ module _ {C A : Type 0} where
   scout_after eq scout [] = scout
   scout_after eq scout (a ∷ answers) = scout_after eq (record { size = scout.size; state = left_by scout.state (scout_step eq scout a.0 a.1) }) answers
 
-  -- a scout for b that waits after these answers: each acceptor that it counts promised b in one of them, and it holds what they told
+  -- these answers of the acceptors that s counts: each is of the cluster, none is counted twice, each promised b in one of them, and s holds what
+  -- those promises told and nothing else
   pub record HasPromises (answers : List (ℕ × Promise C A)) (size : ℕ) (b : BallotNumber) (s : ScoutState C) : Type 0 where
     pub mine : s.ballot ≡ b
     pub distinct : AreDistinct size s.heard
     pub promised : (node : ℕ) → is_among node s.heard ≡ true →
         (p : Promise C A) × IsIn (node, p) answers × (p.asked ≡ b) × (p.ballot ≡ b) × ((x : PValue C) → IsIn x p.accepted → IsIn x s.pvalues)
-    pub told : (x : PValue C) → IsIn x s.pvalues → (node : ℕ) × (p : Promise C A) × IsIn (node, p) answers × IsIn x p.accepted
+    pub told : (x : PValue C) → IsIn x s.pvalues →
+        (node : ℕ) × (p : Promise C A) × IsIn (node, p) answers × (is_among node s.heard ≡ true) × (p.asked ≡ b) × (p.ballot ≡ b) × IsIn x p.accepted
+
+  -- a majority has promised b in these answers, and the pvalues are those that it told
+  abbrev pub IsAdoption : List (ℕ × Promise C A) → ℕ → BallotNumber → List (PValue C) → Type 0
+  IsAdoption answers size b ps = (s : ScoutState C) × (s.pvalues ≡ ps) × HasPromises answers size b s × IsMajority size (λ node. is_among node s.heard)
 
 -- a worked example: the scout for (0, 1) yields to (0, 2)
 yields : {C A : Type 0} (eq : C → C → Bool) →

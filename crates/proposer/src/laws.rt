@@ -1,10 +1,12 @@
 //! Laws of scouts and commanders over any list of answers. Each is a function that does nothing: its
 //! contract is the law.
-ghost use Rattle.std.specs.Prelude.{◌≡◌, ℕ, List, Some};
+ghost use Rattle.std.specs.Prelude.{◌≡◌, ℕ, List, [], ◌∷◌, ◌++◌, Some};
 ghost use Rattle.ballot.specs.Ballots.{BallotNumber};
+ghost use Rattle.ballot.specs.declared.pvalue.PValue.{PValue};
 ghost use Rattle.ballot.specs.declared.message.Promise.{Promise};
 ghost use Rattle.ballot.specs.declared.message.Vote.{Vote};
-ghost use Rattle.proposer.specs.Scouts.{ScoutState, new_scout, scout_after, HasPromises};
+ghost use Rattle.proposer.specs.Scouts.{ScoutState, new_scout, scout_step, scout_after, HasPromises, IsAdoption};
+ghost use Rattle.proposer.specs.Quorums.{Wins};
 ghost use Rattle.proposer.specs.Commanders.{CommanderState, new_commander, commander_after, HasVotes};
 
 use ballot::Payload;
@@ -14,6 +16,12 @@ use std::alloc::Allocator;
 /// ballot among the answers, and holds what those promises told.
 pub fn scouts_count_promises<C: Payload, A: Allocator>()
     ensures { (size : ℕ) (b : BallotNumber) (answers : List (ℕ × Promise C A)) (s : ScoutState C) → (scout_after C.equal (record { size = size; state = Some (new_scout b) }) answers).state ≡ Some s → HasPromises answers size b s }
+{}
+
+/// What a scout adopts are the pvalues of distinct acceptors of the cluster that are more than half
+/// of it, each by a promise of its ballot among the answers, and nothing else.
+pub fn scouts_adopt_what_a_majority_told<C: Payload, A: Allocator>()
+    ensures { (size : ℕ) (b : BallotNumber) (answers : List (ℕ × Promise C A)) (from : ℕ) (p : Promise C A) (pvalues : List (PValue C)) → scout_step C.equal (scout_after C.equal (record { size = size; state = Some (new_scout b) }) answers) from p ≡ Wins pvalues → IsAdoption (answers ++ (from, p) ∷ []) size b pvalues }
 {}
 
 /// A commander that waits has counted distinct acceptors of the cluster, each by a vote for its

@@ -1,8 +1,10 @@
 //! The first phase: a leader's ballot, and who promised it.
-ghost use Rattle.std.specs.Prelude.{◌≡◌, ◌↔◌, ◌∷◌, Some, IsTrue, OnOk, OnErr, IfOk};
+ghost use Rattle.std.specs.Prelude.{◌≡◌, ◌↔◌, ◌∷◌, Some, Ok, IsTrue, OnOk, OnErr, IfOk};
+ghost use Rattle.ballot.specs.Ballots.{BallotNumber};
 ghost use Rattle.ballot.specs.Nodes.{is_among, IsMajority};
-ghost use Rattle.proposer.specs.Quorums.{left_by};
+ghost use Rattle.proposer.specs.Quorums.{Ignores, Yields, left_by};
 
+use crate::union::Union;
 use ballot::{Ballot, Cluster, Items, Memory, NodeId, NodeSet, PValue, Payload, Promise};
 use std::alloc::{Allocator, Global};
 use std::marker::Model;
@@ -28,7 +30,7 @@ pub struct Scout<C, A: Allocator = Global> {
     cluster: Cluster,
     ballot: Ballot,
     heard: NodeSet,
-    pvalues: Items<PValue<C>, A>,
+    pvalues: Union<C, A>,
     ended: bool,
 }
 
@@ -56,16 +58,19 @@ impl<C: Payload, A: Allocator + Copy> Scout<C, A> {
             cluster,
             ballot,
             heard: NodeSet::new(),
-            pvalues: Items::new(alloc),
+            pvalues: Union::new(alloc),
             ended: false,
         }
     }
 
-    /// Hears a promise. After `Memory` the scout is as it was.
+    /// Hears a promise. After `Memory` the scout is as it was. A promise that isn't counted takes no
+    /// memory.
     pub fn hear(&mut self, from: NodeId, promise: Promise<C, A>) -> Result<Progress<C, A>, Memory>
         ensures state { OnOk result (self.new ≡ record self.old { state = left_by self.old.state (scout_step C.equal self.old from promise) }) }
         ensures progress { IfOk result (λ progress. progress ≡ progress_of (scout_step C.equal self.old from promise)) }
         ensures adopted { (s : ScoutState C) → self.old.state ≡ Some s → IfOk result (λ progress. IsTrue (is_adopted progress) ↔ (IsCounted self.old.size s from promise × IsMajority self.old.size (λ node. is_among node (from ∷ s.heard)))) }
+        ensures stale { scout_step C.equal self.old from promise ≡ Ignores → result ≡ Ok Progress.Stale }
+        ensures preempted { (b : BallotNumber) → scout_step C.equal self.old from promise ≡ Yields b → result ≡ Ok (Progress.Preempted b) }
         ensures err { OnErr result (self.new ≡ self.old) }
     {
         if self.ended || !self.cluster.contains(from) || promise.asked != self.ballot {

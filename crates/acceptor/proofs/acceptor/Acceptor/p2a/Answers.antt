@@ -1,22 +1,24 @@
-use Rattle.std.proofs.Common.{◌≡◌, true, sym, ◌∙◌, subst}
+use Rattle.std.proofs.Common.{◌≡◌, true, List, sym, ◌∙◌, subst}
 use Rattle.std.proofs.lemmas.Bool.{true≢false}
 use Rattle.ballot.specs.Ballots.{BallotNumber, same_ballot}
-use Rattle.ballot.specs.Lists.{IsIn}
-use Rattle.ballot.proofs.Member.{added_new}
+use Rattle.ballot.specs.declared.pvalue.PValue.{PValue}
 use Rattle.ballot.proofs.Order.{same_ballot_itself}
-use Rattle.acceptor.specs.Acceptors.{AcceptorState, takes}
+use Rattle.acceptor.specs.Acceptors.{AcceptorState, Holds, takes}
+use Rattle.acceptor.specs.Fields.{pvalues_of}
 use Rattle.acceptor.proofs.Raised.{taken_raises}
+use Rattle.acceptor.proofs.Kept.{kept_new}
 use Rattle.acceptor.proofs.acceptor.Acceptor.p2a.Goals as goal
-use Rattle.acceptor.proofs.acceptor.Acceptor.p2a.Goals.{then-eq+in_ok-add, else-eq}
+use Rattle.acceptor.proofs.acceptor.Acceptor.p2a.Goals.{then-eq+in_ok-keep, else-eq}
 
 pub returns-clause-accepts : goal.returns-clause-accepts
 returns-clause-accepts g c =
+    let slot = c.args.pvalue.slot in
+    let b : BallotNumber = c.args.pvalue.ballot in
     λ taken. elim c.if-eq.branch [
-      | then-eq+in_ok-add w ↦
-          subst (λ (s : AcceptorState g.row.C.Denot). IsIn c.args.pvalue s.accepted) (sym w.self-is)
-          (subst (IsIn c.args.pvalue) (sym w.in_ok-add.ensures.ok) (added_new g.C.Payload.equal g.met.C.Payload.equality c.self.inside.accepted c.args.pvalue))
+      | then-eq+in_ok-keep w ↦
+          subst (λ (s : AcceptorState g.row.C.Denot). Holds s.accepted slot b) (sym w.self-is)
+          (subst (λ (ps : List (PValue g.row.C.Denot)). Holds ps slot b) (sym w.in_ok-keep.ensures.ok) (kept_new (pvalues_of c.self.inside.accepted.entries) c.args.pvalue))
       | else-eq w ↦
-          let b : BallotNumber = c.args.pvalue.ballot in
           let open_to : takes c.self.inside.ballot b ≡ true = subst (λ (s : AcceptorState g.row.C.Denot). takes s.ballot b ≡ true) (sym c.self.view_is) taken in
           let answer : c.higher-ballot.result ≡ b = c.higher-ballot.ensures ∙ taken_raises c.self.inside.ballot b open_to in
           let equal : same_ballot c.higher-ballot.result b ≡ true = subst (λ (x : BallotNumber). same_ballot x b ≡ true) (sym answer) (same_ballot_itself b) in
