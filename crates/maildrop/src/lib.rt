@@ -27,7 +27,7 @@ pub use laws::{keys_stay_few, maildrops_are_isolated};
 pub use limits::Limits;
 pub use lines::Lines;
 pub use message::Message;
-pub use name::Name;
+pub use name::{Name, are_different};
 pub use office::Office;
 pub use op::Op;
 pub use outcome::Outcome;

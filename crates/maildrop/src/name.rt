@@ -1,5 +1,6 @@
 //! The names of users.
-ghost use Rattle.std.specs.Prelude.{◌≡◌, ◌↔◌, ℕ, ◌++◌, ◌-◌, ◌≤◌, List, length, take, replicate, IsSome, IfSome};
+ghost use Rattle.std.specs.Prelude.{◌≡◌, ◌↔◌, ℕ, ◌++◌, ◌-◌, ◌≤◌, List, length, take, replicate, not, IsSome, IfSome};
+ghost use Rattle.std.specs.List.{list_all};
 ghost use Rattle.std.specs.Str.{bytes_eq};
 ghost use Rattle.std.specs.Cmp.{partial_order_from_own_ties};
 ghost use Rattle.std.specs.Cmp.Rules.{comparing, hashing};
@@ -8,6 +9,7 @@ ghost use Rattle.std.specs.Cmp.Lexicographic.{slice_cmp};
 ghost use Rattle.std.specs.Ordering.{nat_cmp, as_partial_cmp};
 ghost use Rattle.std.proofs.Common.{rules};
 ghost use Rattle.maildrop.specs.Name.{IsName};
+ghost use Rattle.maildrop.specs.Name as spec;
 
 use crate::visible::are_visible;
 use std::cmp::Ordering;
@@ -109,4 +111,22 @@ impl Hash for Name {
         state.write(self.get());
         state.write_u8(0xFF);
     }
+}
+
+fn is_absent(name: &Name, others: &[Name]) -> bool
+    ensures { result ≡ list_all (λ other. not (bytes_eq name.now other)) others.now }
+{
+    others.iter().all(|other| *name != *other)
+}
+
+/// Whether no name is there twice: what an `Office` asks of its names. Compares each with each.
+pub fn are_different(names: &[Name]) -> bool
+    ensures { result ≡ spec.are_different names.now }
+{
+    for i in 0..names.len() {
+        if !is_absent(&names[i], &names[i + 1..]) {
+            return false;
+        }
+    }
+    true
 }

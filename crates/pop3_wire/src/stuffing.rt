@@ -8,8 +8,13 @@ use ballot::Memory;
 use maildrop::{Lines, Text};
 use std::alloc::Allocator;
 
-/// Room for a dot is taken with this many octets of a text.
-const DOTS_PER_OCTETS: u128 = 64;
+/// Room is taken for so many dots that come in front of lines, and for one more with each so many octets.
+const DOTS_AT_LEAST: u128 = 16;
+
+const OCTETS_PER_DOT: u128 = 64;
+
+/// What ends a text on the wire.
+const END: &[u8] = b".\r\n";
 
 pub(crate) fn begins_with_dot(line: &[u8]) -> bool
     ensures { result ≡ starts_with_dot line.now }
@@ -23,9 +28,8 @@ pub(crate) fn begins_with_dot(line: &[u8]) -> bool
 /// About how many octets the wire form of a text has: its own, and some for dots. A guess too low costs a growth.
 pub(crate) fn wire_room<A: Allocator + Copy>(text: &Text<A>) -> u128 {
     let octets = text.octets();
-    octets
-        .saturating_add(octets / DOTS_PER_OCTETS)
-        .saturating_add(3)
+    let dots = DOTS_AT_LEAST + octets / OCTETS_PER_DOT;
+    octets.saturating_add(dots).saturating_add(3)
 }
 
 fn put_stuffed<A: Allocator>(bytes: &mut Vec<u8, A>, line: &[u8]) -> Result<(), Memory>
@@ -55,7 +59,7 @@ pub(crate) fn put_wire<A: Allocator + Copy>(
     for line in text.get() {
         put_line(bytes, line)?;
     }
-    put(bytes, b".\r\n")
+    put(bytes, END)
 }
 
 /// The wire form of a text: each line that begins with a dot gets one more, and a dot alone ends it.
@@ -112,5 +116,5 @@ pub(crate) fn put_top<A: Allocator + Copy>(
     ensures { OnOk result (bytes.new.items ≡ bytes.old.items ++ wire_form (top_lines count text.now)) }
 {
     put_top_lines(bytes, text.get(), count)?;
-    put(bytes, b".\r\n")
+    put(bytes, END)
 }
