@@ -1,5 +1,5 @@
 -- What a reader of mailboxes keeps, and what one more piece makes of it.
-use Rattle.std.proofs.Common.{◌≡◌, ◌≢◌, ℕ, zero, suc, ◌+◌, ◌-◌, ◌<◌, ◌≤◌, ◌==◌, ◌&&◌, Bool, true, false, not, cond, Option, None, Some, List, [], ◌∷◌, ◌++◌, length, take, drop, get_or, map, min, codes, is_some, Result, Ok, Err, inl, inr, ◌⊎◌, refl, sym, ap, ◌∙◌, arith, append_assoc, append-nil, length-append, slice_index}
+use Rattle.std.proofs.Common.{◌≡◌, ◌≢◌, ℕ, zero, suc, ◌+◌, ◌-◌, ◌<◌, ◌≤◌, ◌==◌, Bool, true, false, not, cond, Option, None, Some, List, [], ◌∷◌, ◌++◌, length, take, drop, get_or, map, min, codes, is_some, Result, Ok, Err, inl, inr, ◌⊎◌, refl, sym, ap, ◌∙◌, arith, append_assoc, append-nil, slice_index}
 use Rattle.std.specs.Prelude.{IsErr, IsErrAnd, IsErrOf}
 use Rattle.std.specs.List.{All, list_all, slice_split, onto_first}
 use Rattle.std.specs.Str.Lines.{lines, lines_of_parts, strip_carriage_return}
@@ -7,7 +7,7 @@ use Rattle.std.proofs.lemmas.Bool.{cases_Bool, eqb-true, and_parts}
 use Rattle.std.proofs.lemmas.Bool.Decides.{nat_tests}
 use Rattle.std.specs.Option.{option_map}
 use Rattle.std.proofs.lemmas.List.{map_push, take-append-drop, drop_more, drop_all}
-use Rattle.std.proofs.lemmas.List.Elements.{All-nil, All-head, All-tail, All-append}
+use Rattle.std.proofs.lemmas.List.Elements.{All-append}
 use Rattle.std.proofs.lemmas.List.Splits.{slice_split_none, slice_split-cons_yes, slice_split-cons_no, length-slice_split}
 use Rattle.std.proofs.lemmas.List.Folds.{list_all-append}
 use Rattle.std.proofs.lemmas.List.Sums.{AllPass-from_list_all}
@@ -15,7 +15,7 @@ use Rattle.std.proofs.lemmas.Slice.Eq.{bytes_eq-Decides}
 use Rattle.maildrop.specs.Text.{IsLine}
 use Rattle.memchr.specs.Find.{IsFirstByte, is_byte}
 use Rattle.maildrop.proofs.TextLemmas.{tests-from_IsLine, first_line_feed}
-use Rattle.mboxrd.specs.Mailbox.{begins_message, unquoted, without_last_empty, text_of, texts_of, are_messages, read_of}
+use Rattle.mboxrd.specs.Mailbox.{begins_message, unquoted, text_of, texts_of, are_messages, read_of}
 use Rattle.mboxrd.specs.Reader.{Kept, Reading, Failed, ended_parts, open_part, parts_of, ended_lines, messages_of, open_text, agree, kept_of, kept_after, ended_text, texts_with, text_with, all_texts, is_begun, goes_on, kept_by, IsKept}
 use Rattle.mboxrd.specs.declared.error.MboxError.{MboxError}
 use Rattle.mboxrd.specs.declared.error.MboxError.TheVariants.{NoFromLine, Memory}

@@ -1,11 +1,8 @@
 -- What is known of a mailbox while its lines are read.
-use Rattle.std.proofs.Common.{◌≡◌, ◌≢◌, ℕ, ◌+◌, ◌-◌, ◌<◌, ◌==◌, Bool, true, false, cond, List, [], ◌∷◌, ◌++◌, length, take, get_or, map, refl, sym, ap, ◌∙◌, arith, append_assoc, append-nil}
-use Rattle.std.specs.List.{All, slice_split}
-use Rattle.std.proofs.lemmas.List.{map_push, take_all, take_more}
-use Rattle.std.proofs.lemmas.List.Elements.{All-nil, All-cons, All-head, All-tail, All-push}
-use Rattle.std.proofs.lemmas.List.Splits.{slice_split_at, slice_split_none}
+use Rattle.std.proofs.Common.{◌≡◌, ◌≢◌, ℕ, ◌<◌, ◌==◌, Bool, true, false, cond, List, [], ◌∷◌, ◌++◌, length, map, refl, sym, ap, ◌∙◌, arith}
+use Rattle.std.proofs.lemmas.List.Elements.{All-tail}
 use Rattle.maildrop.specs.Text.{IsLine}
-use Rattle.mboxrd.specs.Mailbox.{begins_message, is_quotable, unquoted, without_last_empty, text_of}
+use Rattle.mboxrd.specs.Mailbox.{is_quotable, unquoted, without_last_empty}
 
 -- a line with another behind it stays
 without_last_empty-more : (line next : List ℕ) (more : List (List ℕ)) → without_last_empty (line ∷ next ∷ more) ≡ line ∷ without_last_empty (next ∷ more)

@@ -4,7 +4,7 @@ use Rattle.std.proofs.lemmas.List.Elements.{All-nil}
 use Rattle.std.proofs.Common.{◌≢◌}
 use Rattle.maildrop.proofs.TextLemmas.{IsLine-first}
 use Rattle.maildrop.proofs.FileLemmas.{no_line_feed, IsLine-from_tests}
-use Rattle.mboxrd.proofs.ReaderLemmas.{HasTaken-none, HasTaken-line, HasTaken-all, cut_at, IsLine-append}
+use Rattle.mboxrd.proofs.ReaderLemmas.{HasTaken-line, HasTaken-all, cut_at, IsLine-append}
 use Rattle.mboxrd.proofs.reader.take_in.Goals as goal
 
 pub loop-end-preserved : goal.loop-end-preserved

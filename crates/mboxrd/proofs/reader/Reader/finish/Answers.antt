@@ -1,7 +1,5 @@
 use Rattle.std.proofs.Common.{◌≡◌, true, false, Ok, Err, sym, ap, ◌∙◌, refl}
-use Rattle.mboxrd.specs.Mailbox.{read_of}
 use Rattle.mboxrd.specs.Reader.{is_begun, all_texts}
-use Rattle.mboxrd.specs.declared.error.MboxError.TheVariants.{NoFromLine}
 use Rattle.mboxrd.proofs.ReaderLemmas.{opened_by, failed_by, failed, read_of-disagree, read_of-refused, read_of-begun, not_memory}
 use Rattle.mboxrd.proofs.reader.Reader.finish.Goals as goal
 
