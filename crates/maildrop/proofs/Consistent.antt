@@ -1,8 +1,7 @@
 -- What an operation leaves consistent.
-use Rattle.std.proofs.Common.{◌≡◌, ℕ, ◌+◌, ◌<◌, ◌≤◌, true, false, not, Bool, List, [], ◌∷◌, ◌++◌, length, get_or, Option, Some, None, arith, inl, inr, sym, ap, refl, subst, ◌∙◌, cond}
-use Rattle.std.specs.Prelude.{◌==◌, map, filter, sum_by}
-use Rattle.std.specs.List.{list_any, All}
-use Rattle.std.specs.List.Sorted.{IsStrictlyIncreasing}
+use Rattle.std.proofs.Common.{◌≡◌, ℕ, ◌+◌, ◌<◌, ◌≤◌, not, Bool, List, [], ◌∷◌, ◌++◌, length, Option, Some, None, arith, refl}
+use Rattle.std.specs.Prelude.{◌==◌, filter}
+use Rattle.std.specs.List.{list_any}
 use Rattle.std.proofs.lemmas.List.{map-append}
 use Rattle.std.proofs.lemmas.List.Elements.{All-filter, All-map}
 use Rattle.std.proofs.lemmas.List.Kept.{IsStrictlyIncreasing-filter}
@@ -11,7 +10,7 @@ use Rattle.std.proofs.lemmas.Grind.{common_steps}
 use Rattle.std.proofs.lemmas.Bool.Decides.{nat_tests}
 use Rattle.maildrop.specs.Text.{octets_of}
 use Rattle.maildrop.specs.Key.{with_key}
-use Rattle.maildrop.specs.Limits.{Limits, AreLimits}
+use Rattle.maildrop.specs.Limits.{AreLimits}
 use Rattle.maildrop.specs.Ticket.{Ticket}
 use Rattle.maildrop.specs.Taken.{message_octets, unique_ids, AreTaken}
 use Rattle.maildrop.specs.Maildrop.{Maildrop, IsConsistent, without, with_message, refusal_of}

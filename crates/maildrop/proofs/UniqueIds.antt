@@ -1,5 +1,5 @@
 -- Unique ids that ascend strictly: how one is found, and how one more comes to the end.
-use Rattle.std.proofs.Common.{◌≡◌, ℕ, ◌+◌, ◌<◌, ◌≤◌, true, false, List, [], ◌∷◌, ◌++◌, length, get_or, Result, Ok, Err, arith, inl, inr, sym}
+use Rattle.std.proofs.Common.{◌≡◌, ℕ, ◌+◌, ◌<◌, true, false, List, [], ◌∷◌, ◌++◌, length, get_or, Result, Ok, Err, arith, inl, inr, sym}
 use Rattle.std.specs.Prelude.{◌==◌, is_ok}
 use Rattle.std.specs.List.{list_any, All}
 use Rattle.std.specs.List.Sorted.{IsStrictlyIncreasing, IsSearchInRange, IsBinarySearchResult, IsNonDecreasingBy, IsSortedBy}

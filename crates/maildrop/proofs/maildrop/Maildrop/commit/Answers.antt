@@ -1,6 +1,6 @@
-use Rattle.std.proofs.Common.{◌≡◌, ◌≤◌, ◌^◌, None, arith, ◌∙◌, sym, ap, rules}
+use Rattle.std.proofs.Common.{None, ◌∙◌, ap, rules}
 use Rattle.maildrop.specs.Taken.{message_octets}
-use Rattle.maildrop.specs.Maildrop.{Maildrop, without}
+use Rattle.maildrop.specs.Maildrop.{Maildrop}
 use Rattle.maildrop.proofs.Consistent.{consistent_without, message_octets-without}
 use Rattle.maildrop.proofs.maildrop.Maildrop.commit.Goals as goal
 
