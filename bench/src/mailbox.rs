@@ -1,4 +1,4 @@
-//! The reader of mailboxes. Each of its runs has a process of its own, so that the memory of one is not counted for the
+//! The readers of mailboxes. Each of its runs has a process of its own, so that the memory of one is not counted for the
 //! other.
 use crate::measure::timed;
 use crate::shared::{find, line_value};
@@ -7,6 +7,7 @@ use std::sync::Arc;
 
 unsafe extern "C" {
     fn bench_mailbox(bytes: *const u8, len: usize) -> u64;
+    fn bench_reader(bytes: *const u8, len: usize) -> u64;
 }
 
 type Text = Arc<Vec<Vec<u8>>>;
@@ -101,6 +102,7 @@ pub fn measure(reader: &str) {
     let before = memory("VmRSS").expect("a status of the process");
     let (time, value) = match reader {
         "rattle" => timed(|| unsafe { bench_mailbox(bytes.as_ptr(), bytes.len()) }),
+        "pieces" => timed(|| unsafe { bench_reader(bytes.as_ptr(), bytes.len()) }),
         _ => timed(|| rust_mailbox(&bytes)),
     };
     let peak = memory("VmHWM").expect("a status of the process");
@@ -125,29 +127,32 @@ fn run(reader: &str) -> (f64, f64, u64) {
 
 /// The shortest of five times of each, in turn, and the most memory.
 pub fn compare() {
-    let mut times = [f64::MAX; 2];
-    let mut peaks = [0f64; 2];
-    let mut values = [0; 2];
+    let mut times = [f64::MAX; 3];
+    let mut peaks = [0f64; 3];
+    let mut values = [0; 3];
     for _ in 0..5 {
-        for (i, reader) in ["rattle", "rust"].into_iter().enumerate() {
+        for (i, reader) in ["rattle", "rust", "pieces"].into_iter().enumerate() {
             let (time, peak, value) = run(reader);
             times[i] = times[i].min(time);
             peaks[i] = peaks[i].max(peak);
             values[i] = value;
         }
         assert_eq!(values[0], values[1], "mboxrd::read: the two differ");
+        assert_eq!(values[0], values[2], "mboxrd::Reader: another value");
     }
-    println!(
-        "{:<40} rattle {:>10.3} ms   rust {:>10.3} ms   ratio {:.2}",
-        "mboxrd::read, 100 MB in lines of 60",
-        times[0],
-        times[1],
-        times[0] / times[1]
-    );
-    println!(
-        "{:<40} rattle {:>10.2}      rust {:>10.2}      (parts of the file's size, besides the file)",
-        "its memory",
-        peaks[0] / 1e8,
-        peaks[1] / 1e8
-    );
+    for (name, i) in [("mboxrd::read", 0), ("mboxrd::Reader, by 4,096 bytes", 2)] {
+        println!(
+            "{:<40} rattle {:>10.3} ms   rust {:>10.3} ms   ratio {:.2}",
+            format!("{name}, 100 MB"),
+            times[i],
+            times[1],
+            times[i] / times[1]
+        );
+        println!(
+            "{:<40} rattle {:>10.2}      rust {:>10.2}      (parts of the file's size, besides the file)",
+            "its memory",
+            peaks[i] / 1e8,
+            peaks[1] / 1e8
+        );
+    }
 }
