@@ -1,6 +1,5 @@
-use Rattle.std.proofs.Common.{◌≡◌, Bool, true, false, Option, None, Some, List, ℕ, [], ◌∷◌, ◌++◌, Bor, is_some, refl, sym, ap, ◌∙◌}
+use Rattle.std.proofs.Common.{◌≡◌, true, false, Option, None, Some, List, ℕ, [], ◌∷◌, ◌++◌, Bor, is_some, sym}
 use Rattle.std.specs.Option.{option_copied}
-use Rattle.pop3_wire.specs.Stuffing.{unstuffed_line}
 use Rattle.pop3_wire.proofs.WireForms.{read_nothing, read_more, read_all, read_wrong, read_open}
 use Rattle.pop3_wire.proofs.unstuffing.split_wire_form.Goals as goal
 

@@ -1,4 +1,4 @@
-use Rattle.std.proofs.Common.{◌≡◌, ◌++◌, ℕ, List, length}
+use Rattle.std.proofs.Common.{◌≡◌, ◌++◌, length}
 use Rattle.std.specs.List.{All, flat_map}
 use Rattle.maildrop.specs.Text.{IsLine}
 use Rattle.pop3_wire.specs.Stuffing.{wire_line, AreStuffed}
