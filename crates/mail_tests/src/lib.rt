@@ -1,5 +1,5 @@
-//! Tests of maildrops, mailbox files, accounts and texts on the wire that no clause and no case of text can say. There is
-//! nothing here but tests.
+//! Tests of maildrops, mailboxes, accounts and the wire of what no clause says: the rows of operations, requests for
+//! memory that are refused, and the tables beside plain lists. There is nothing here but tests.
 #![tactic(auto)]
 
 #[cfg(test)]
@@ -7,6 +7,12 @@ mod accounts_tests;
 #[cfg(test)]
 mod mailbox_tests;
 #[cfg(test)]
-mod maildrop_tests;
+mod office_tests;
+#[cfg(test)]
+mod operation_tests;
+#[cfg(test)]
+mod plain;
+#[cfg(test)]
+mod short;
 #[cfg(test)]
 mod wire_tests;

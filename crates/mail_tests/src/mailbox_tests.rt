@@ -1,60 +1,140 @@
-//! Mailboxes, read and written.
+//! Mailboxes, read whole and in pieces, and written.
+ghost use Rattle.std.specs.Prelude.{◌<◌};
 
+use ballot::Memory;
 use maildrop::Text;
-use mboxrd::{MboxError, read, write};
+use mboxrd::{MboxError, Reader, read, write};
 use refusing::Refusal;
 use samples::{Heap, Scenario, check, requests, text};
+use std::alloc::{Allocator, Global};
 use std::test::Fail;
 
 const FROM_LINE: &str = "From a@b Thu Jan  1 00:00:00 1970";
 
 const MAILBOX: &str = "From a@b Thu Jan  1 00:00:00 1970\nSubject: x\n\nhi\n.\n>From me\n\n";
 
-const NO_TEXT: &[&[&str]] = &[];
-
-const NO_LINE: &[&str] = &[];
-
 const LINES: &[&str] = &["Subject: x", "", "hi", ".", "From me"];
 
-/// A mailbox that is read: the lines of each text, or nothing where it is refused for its first line.
-#[derive(Clone, Copy)]
-struct Read {
-    mailbox: &'static str,
-    texts: Option<&'static [&'static [&'static str]]>,
+/// Mailboxes, the lines of their texts, each with a line feed behind it and a line `--` behind each text, or why they
+/// are refused, and how many requests for memory they take at most, whole.
+const ROWS: &[(&str, Result<&str, MboxError>, u64)] = &[
+    (MAILBOX, Ok("Subject: x\n\nhi\n.\nFrom me\n--\n"), 6),
+    ("", Ok(""), 0),
+    ("hello\n", Err(MboxError::NoFromLine), 0),
+    ("\nFrom x\n", Err(MboxError::NoFromLine), 0),
+    (">From x\n", Err(MboxError::NoFromLine), 0),
+    ("from x\n", Err(MboxError::NoFromLine), 0),
+    ("Fr", Err(MboxError::NoFromLine), 0),
+    ("From\n", Err(MboxError::NoFromLine), 0),
+    ("From x", Ok("--\n"), 3),
+    ("From x\r\n>>From a\r\n", Ok(">From a\n--\n"), 4),
+    ("From x\n\n\n", Ok("\n--\n"), 4),
+    ("From x\na\n\nFrom y\nb", Ok("a\n--\nb\n--\n"), 6),
+    ("From x\nFrom y\n", Ok("--\n--\n"), 4),
+    ("From x\na\rb\r\r\nc\r", Ok("a\rb\r\nc\r\n--\n"), 6),
+    (
+        "From x\n>hi\n> From a\nfrom b\nFrom:c\n From d",
+        Ok(">hi\n> From a\nfrom b\nFrom:c\n From d\n--\n"),
+        8,
+    ),
+];
+
+/// The texts of a mailbox that is fed so many bytes at a time.
+fn read_in_pieces<A: Allocator + Copy>(
+    alloc: A,
+    bytes: &[u8],
+    size: usize,
+) -> Result<Vec<Text<A>, A>, MboxError>
+    requires { 0 < size }
+{
+    let mut reader = Reader::new(alloc);
+    for piece in bytes.chunks(size) {
+        reader.feed(piece)?;
+    }
+    reader.finish()
 }
 
-/// Whether the texts have these lines.
-fn are_texts<'h>(
-    heap: Heap<'h>,
-    found: &[Text<Heap<'h>>],
-    texts: &[&[&str]],
-) -> Result<bool, Fail> {
-    if found.len() != texts.len() {
-        return Ok(false);
+/// The lines of the texts, each with a line feed behind it, and a line `--` behind each text.
+fn shown<A: Allocator + Copy>(alloc: Global, texts: &[Text<A>]) -> Result<Vec<u8>, Memory> {
+    let mut bytes = Vec::new(alloc);
+    for text in texts {
+        for line in text.get() {
+            bytes.extend_from_slice(line)?;
+            bytes.push(b'\n')?;
+        }
+        bytes.extend_from_slice(b"--\n")?;
     }
-    for (one, lines) in found.iter().zip(texts) {
-        if !one.same(&text(heap, lines)?) {
-            return Ok(false);
+    Ok(bytes)
+}
+
+/// Whether these are the texts, or the refusal, that a row wants.
+fn is_right<A: Allocator + Copy>(
+    alloc: Global,
+    answer: &Result<Vec<Text<A>, A>, MboxError>,
+    wanted: Result<&str, MboxError>,
+) -> Result<bool, Memory> {
+    match (answer, wanted) {
+        (Ok(texts), Ok(wanted)) => Ok(shown(alloc, texts)?.as_slice() == wanted.as_bytes()),
+        (Err(error), Err(wanted)) => Ok(*error == wanted),
+        _ => Ok(false),
+    }
+}
+
+#[test]
+fn mailboxes_however_cut(rt: HostRuntime) -> Result<(), Fail> {
+    let alloc = rt.alloc();
+    for (mailbox, wanted, _) in ROWS {
+        for size in 1..70 {
+            let answer = read_in_pieces(alloc, mailbox.as_bytes(), size);
+            assert!(rt; is_right(alloc, &answer, *wanted)?, "{mailbox:?} by {size}");
         }
     }
-    Ok(true)
+    Ok(())
+}
+
+/// A mailbox that is read, whole or so many bytes at a time. Where a request is refused that only gives memory back, it
+/// is read all the same.
+#[derive(Clone, Copy)]
+struct Read {
+    alloc: Global,
+    mailbox: &'static str,
+    wanted: Result<&'static str, MboxError>,
+    size: usize,
 }
 
 impl Scenario for Read {
     fn run(&self, heap: Heap, refusal: Refusal) -> Result<(), Fail> {
         heap.refuse(refusal);
-        let answer = read(heap, self.mailbox.as_bytes());
-        heap.grant_all();
-        let is_refused = heap.has_refused();
-        let is_right = match (&answer, self.texts) {
-            // A text gives back what room it does not need, and stays as it is where it can't.
-            (Ok(found), Some(texts)) => are_texts(heap, found, texts)?,
-            (Err(MboxError::Memory), _) => is_refused,
-            (Err(MboxError::NoFromLine), None) => !is_refused,
-            _ => false,
+        let answer = if self.size == 0 {
+            read(heap, self.mailbox.as_bytes())
+        } else {
+            read_in_pieces(heap, self.mailbox.as_bytes(), self.size)
         };
-        check(is_right, "another answer")
+        heap.grant_all();
+        if matches!(&answer, Err(MboxError::Memory)) {
+            return check(heap.has_refused(), "no memory");
+        }
+        check(is_right(self.alloc, &answer, self.wanted)?, "other texts")
     }
+}
+
+#[test]
+fn a_mailbox_is_refused_or_read_whole(rt: HostRuntime) -> Result<(), Fail> {
+    let alloc = rt.alloc();
+    for (mailbox, wanted, most) in ROWS {
+        for size in [0usize, 1] {
+            let reading = Read {
+                alloc,
+                mailbox,
+                wanted: *wanted,
+                size,
+            };
+            let most = most.saturating_add(size as u64).saturating_mul(2);
+            let requests = requests(alloc, &reading, most)?;
+            println!(rt; "mboxrd, {mailbox:?} by {size}: {requests}")?;
+        }
+    }
+    Ok(())
 }
 
 /// The mailbox of one text.
@@ -67,33 +147,16 @@ impl Scenario for Written {
         heap.refuse(refusal);
         let answer = write(heap, FROM_LINE.as_bytes(), &texts);
         heap.grant_all();
-        let is_right = match &answer {
-            Ok(bytes) => !heap.has_refused() && bytes.as_slice() == MAILBOX.as_bytes(),
-            Err(_) => heap.has_refused(),
-        };
-        check(is_right, "another mailbox")
+        match answer {
+            Ok(bytes) => check(bytes.as_slice() == MAILBOX.as_bytes(), "another mailbox"),
+            Err(Memory) => check(heap.has_refused(), "no memory"),
+        }
     }
-}
-
-#[test]
-fn a_mailbox_is_refused_or_read_whole(rt: HostRuntime) -> Result<(), Fail> {
-    let rows: [(&str, Option<&[&[&str]]>, u64); 5] = [
-        (MAILBOX, Some(&[LINES]), 12),
-        ("", Some(NO_TEXT), 0),
-        ("hello\n", None, 0),
-        ("From x", Some(&[NO_LINE]), 3),
-        ("From x\r\n>>From a\r\n", Some(&[&[">From a"]]), 5),
-    ];
-    for (mailbox, texts, most) in rows {
-        let count = requests(rt.alloc(), &Read { mailbox, texts }, most)?;
-        println!(rt; "mboxrd::read, {mailbox:?}: {count}")?;
-    }
-    Ok(())
 }
 
 #[test]
 fn a_mailbox_is_refused_or_written_whole(rt: HostRuntime) -> Result<(), Fail> {
-    let count = requests(rt.alloc(), &Written, 2)?;
-    println!(rt; "mboxrd::write: {count}")?;
+    let requests = requests(rt.alloc(), &Written, 5)?;
+    println!(rt; "mboxrd::write: {requests}")?;
     Ok(())
 }

@@ -1,4 +1,4 @@
-//! A text, its reply, and its wire form forth and back.
+//! A text, its replies, and its wire form forth and back.
 
 use ballot::Items;
 use maildrop::Text;
@@ -11,123 +11,126 @@ const LINES: [&str; 5] = ["Subject: x", "", "hi", ".", "From me"];
 
 const WIRE: &str = "Subject: x\r\n\r\nhi\r\n..\r\nFrom me\r\n.\r\n";
 
-const RETR: &str = "+OK 30 octets\r\nSubject: x\r\n\r\nhi\r\n..\r\nFrom me\r\n.\r\n";
+/// What a scenario does with the text.
+#[derive(Clone, Copy, Debug)]
+enum Call {
+    /// It is made of its lines.
+    New,
+    Stuffed,
+    Unstuffed,
+    Retr,
+    Top(u32),
+}
 
-/// A text of given lines.
+/// The calls, what they give, and how many requests for memory they make at most.
+const ROWS: [(Call, &str, u64); 7] = [
+    (Call::New, WIRE, 6),
+    (Call::Stuffed, WIRE, 1),
+    (Call::Unstuffed, WIRE, 6),
+    (
+        Call::Retr,
+        "+OK 30 octets\r\nSubject: x\r\n\r\nhi\r\n..\r\nFrom me\r\n.\r\n",
+        1,
+    ),
+    (Call::Top(0), "+OK\r\nSubject: x\r\n\r\n.\r\n", 2),
+    (Call::Top(1), "+OK\r\nSubject: x\r\n\r\nhi\r\n.\r\n", 2),
+    (
+        Call::Top(99),
+        "+OK\r\nSubject: x\r\n\r\nhi\r\n..\r\nFrom me\r\n.\r\n",
+        2,
+    ),
+];
+
+/// A call with memory refused. Where a request is refused that only gives memory back, it answers all the same.
 #[derive(Clone, Copy)]
-struct Made;
+struct Called {
+    call: Call,
+    wanted: &'static str,
+}
 
-impl Scenario for Made {
+/// The wire form of the text that is made, or nothing where memory was refused.
+fn made(heap: Heap, refusal: Refusal) -> Result<Option<Vec<u8, Heap>>, Fail> {
+    let mut lines = Vec::new(heap);
+    for line in LINES {
+        lines.push(Items::from_bytes(heap, line.as_bytes())?)?;
+    }
+    heap.refuse(refusal);
+    let answer = Text::new(heap, &lines);
+    heap.grant_all();
+    let Ok(text) = answer else {
+        return Ok(None);
+    };
+    Ok(Some(stuffed(heap, &text.ok_or("a line feed")?)?))
+}
+
+/// The wire form of the text that is read off the wire, with something behind it.
+fn read_back(heap: Heap, refusal: Refusal) -> Result<Option<Vec<u8, Heap>>, Fail> {
+    let mut bytes = Vec::from_slice(heap, WIRE.as_bytes())?;
+    bytes.extend_from_slice(b"+OK\r\n")?;
+    heap.refuse(refusal);
+    let answer = unstuffed(heap, &bytes);
+    heap.grant_all();
+    let Ok(found) = answer else {
+        return Ok(None);
+    };
+    let (text, rest) = found.ok_or("no wire form")?;
+    check(rest == b"+OK\r\n".as_slice(), "another rest")?;
+    Ok(Some(stuffed(heap, &text)?))
+}
+
+fn told(heap: Heap, refusal: Refusal, call: Call) -> Result<Option<Vec<u8, Heap>>, Fail> {
+    let text = &text(heap, &LINES)?;
+    heap.refuse(refusal);
+    let answer = match call {
+        Call::Retr => Reply::Message { octets: 30, text }.text(heap),
+        Call::Top(lines) => Reply::Top { text, lines }.text(heap),
+        _ => stuffed(heap, text),
+    };
+    heap.grant_all();
+    Ok(answer.ok())
+}
+
+impl Scenario for Called {
     fn run(&self, heap: Heap, refusal: Refusal) -> Result<(), Fail> {
-        let mut lines = Vec::new(heap);
-        for line in LINES {
-            lines.push(Items::from_bytes(heap, line.as_bytes())?)?;
+        let answer = match self.call {
+            Call::New => made(heap, refusal)?,
+            Call::Unstuffed => read_back(heap, refusal)?,
+            call => told(heap, refusal, call)?,
+        };
+        match answer {
+            Some(bytes) => check(bytes.as_slice() == self.wanted.as_bytes(), "other bytes"),
+            None => check(heap.has_refused(), "no memory"),
         }
-        let expected = text(heap, &LINES)?;
-        heap.refuse(refusal);
-        let answer = Text::new(heap, &lines);
-        heap.grant_all();
-        let is_right = match &answer {
-            // A text gives back what room it does not need, and stays as it is where it can't.
-            Ok(Some(made)) => made.octets() == 30 && made.same(&expected),
-            Ok(None) => false,
-            Err(_) => heap.has_refused(),
-        };
-        check(is_right, "another text")
-    }
-}
-
-/// The wire form of a text.
-#[derive(Clone, Copy)]
-struct Stuffed;
-
-impl Scenario for Stuffed {
-    fn run(&self, heap: Heap, refusal: Refusal) -> Result<(), Fail> {
-        let text = text(heap, &LINES)?;
-        heap.refuse(refusal);
-        let answer = stuffed(heap, &text);
-        heap.grant_all();
-        let is_right = match &answer {
-            Ok(bytes) => !heap.has_refused() && bytes.as_slice() == WIRE.as_bytes(),
-            Err(_) => heap.has_refused(),
-        };
-        check(is_right, "another wire form")
-    }
-}
-
-/// The text of a wire form, with something behind it, or of bytes that have none.
-#[derive(Clone, Copy)]
-struct Unstuffed {
-    behind: &'static str,
-    is_wire_form: bool,
-}
-
-impl Scenario for Unstuffed {
-    fn run(&self, heap: Heap, refusal: Refusal) -> Result<(), Fail> {
-        let mut bytes = Vec::from_slice(heap, WIRE.as_bytes())?;
-        if !self.is_wire_form {
-            bytes.truncate(WIRE.len() - 3);
-        }
-        bytes.extend_from_slice(self.behind.as_bytes())?;
-        let expected = text(heap, &LINES)?;
-        heap.refuse(refusal);
-        let answer = unstuffed(heap, &bytes);
-        heap.grant_all();
-        let is_right = match &answer {
-            Ok(None) => !self.is_wire_form && !heap.has_refused(),
-            Ok(Some((found, rest))) => {
-                self.is_wire_form && found.same(&expected) && *rest == self.behind.as_bytes()
-            }
-            Err(_) => heap.has_refused(),
-        };
-        check(is_right, "another text")
-    }
-}
-
-/// The reply to RETR.
-#[derive(Clone, Copy)]
-struct Told;
-
-impl Scenario for Told {
-    fn run(&self, heap: Heap, refusal: Refusal) -> Result<(), Fail> {
-        let text = text(heap, &LINES)?;
-        let reply = Reply::Message {
-            octets: 30,
-            text: &text,
-        };
-        heap.refuse(refusal);
-        let answer = reply.text(heap);
-        heap.grant_all();
-        let is_right = match &answer {
-            Ok(bytes) => !heap.has_refused() && bytes.as_slice() == RETR.as_bytes(),
-            Err(_) => heap.has_refused(),
-        };
-        check(is_right, "another reply")
     }
 }
 
 #[test]
 fn a_text_is_refused_or_whole(rt: HostRuntime) -> Result<(), Fail> {
-    // The block of 25 bytes grows from nothing, at last gives back its spare room, and is shared.
-    let made = requests(rt.alloc(), &Made, 5)?;
-    println!(rt; "Text::new: {made}")?;
-    // A guess, and a growth where more dots are doubled than it allows for.
-    let stuffed = requests(rt.alloc(), &Stuffed, 2)?;
-    println!(rt; "stuffed: {stuffed}")?;
-    let told = requests(rt.alloc(), &Told, 1)?;
-    println!(rt; "Reply::text, RETR: {told}")?;
+    for (call, wanted, most) in ROWS {
+        let requests = requests(rt.alloc(), &Called { call, wanted }, most)?;
+        println!(rt; "pop3_wire, {call:?}: {requests}")?;
+    }
     Ok(())
 }
 
+/// Bytes that begin with no wire form take no memory.
 #[test]
-fn a_wire_form_is_refused_or_read_whole(rt: HostRuntime) -> Result<(), Fail> {
-    for (behind, is_wire_form, most) in [("+OK\r\n", true, 5), ("", false, 0)] {
-        let unstuffed = Unstuffed {
-            behind,
-            is_wire_form,
-        };
-        let count = requests(rt.alloc(), &unstuffed, most)?;
-        println!(rt; "unstuffed, {is_wire_form}: {count}")?;
+fn no_wire_form(rt: HostRuntime) -> Result<(), Fail> {
+    let alloc = rt.alloc();
+    for bytes in [
+        "",
+        ".",
+        ".\r",
+        ".\n",
+        "a\r\n",
+        "a\n.\r\n",
+        ".a\r\n.\r\n",
+        "a\r\n.\n",
+        "..\r\n",
+    ] {
+        assert!(rt; unstuffed(alloc, bytes.as_bytes())?.is_none(), "{bytes:?}");
     }
+    let (text, rest) = unstuffed(alloc, b".\r\n.\r\n")?.ok_or("no wire form")?;
+    assert_eq!(rt; (text.octets(), rest), (0, b".\r\n".as_slice()));
     Ok(())
 }
