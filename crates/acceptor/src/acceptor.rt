@@ -1,5 +1,5 @@
 //! The acceptor.
-ghost use Rattle.std.specs.Prelude.{◌≡◌, ◌↔◌, true, false, IsTrue, IsSome, IsOk, OnOk, OnErr, IfOk};
+ghost use Rattle.std.specs.Prelude.{◌≡◌, ◌↔◌, [], Some, true, false, IsTrue, IsSome, IsOk, OnOk, OnErr, IfOk};
 ghost use Rattle.ballot.specs.Ballots.{BallotNumber};
 ghost use Rattle.acceptor.specs.Fields.{pvalues_of};
 ghost use Rattle.acceptor.specs.Acceptors.{Reached, RiseBySlot, Holds, new_acceptor, raised, takes, kept, kept_for, after_p1a, after_p2a, promise_for, vote_for};
@@ -63,6 +63,7 @@ impl<C: Payload, A: Allocator + Copy> Acceptor<C, A> {
         ensures one_for_a_slot { IfOk result (λ promise. RiseBySlot promise.accepted) }
         ensures reaches { OnOk result (Reached self.new.ballot ballot) }
         ensures never_falls { (b : BallotNumber) → Reached self.old.ballot b → Reached self.new.ballot b }
+        ensures nothing_kept { self.old.accepted ≡ [] → IsOk result }
         ensures err { OnErr result (self.new ≡ self.old) }
     {
         let accepted = copy_of(self.alloc, &self.accepted)?;
@@ -83,6 +84,7 @@ impl<C: Payload, A: Allocator + Copy> Acceptor<C, A> {
         ensures answer { IfOk result (λ vote. vote ≡ vote_for self.old pvalue) }
         ensures votes { IfOk result (λ vote. (vote.ballot ≡ pvalue.ballot) ↔ IsTrue (takes self.old.ballot pvalue.ballot)) }
         ensures accepts { OnOk result (takes self.old.ballot pvalue.ballot ≡ true → Holds self.new.accepted pvalue.slot pvalue.ballot) }
+        ensures raises { OnOk result (takes self.old.ballot pvalue.ballot ≡ true → self.new.ballot ≡ Some pvalue.ballot) }
         ensures refuses { takes self.old.ballot pvalue.ballot ≡ false → self.new ≡ self.old }
         ensures never_falls { (b : BallotNumber) → Reached self.old.ballot b → Reached self.new.ballot b }
 
@@ -113,7 +115,11 @@ fn copy_of<C: Payload, A: Allocator + Copy>(
 ) -> Result<Items<PValue<C>, A>, Memory>
     ensures same { IfOk result (λ copies. copies ≡ pvalues_of accepted.now.entries) }
     ensures rising { IfOk result RiseBySlot }
+    ensures nothing_kept { pvalues_of accepted.now.entries ≡ [] → IsOk result }
 {
+    if accepted.is_empty() {
+        return Ok(Items::new(alloc));
+    }
     let mut copies = Vec::with_capacity(alloc, accepted.len())?;
     for (slot, kept) in accepted {
         let pvalue = PValue {
