@@ -37,7 +37,7 @@ module _ {C : Type 0} where
   abbrev pub Past : LeaderState C → PValue C → Type 0
   Past l p = Below p.ballot l.ballot ⊎ ((p.ballot ≡ l.ballot) × Standing l.phase l.proposals p)
 
-  asked_stands : (l : LeaderState C) (p : PValue C) → IsAsked l p → Past l p
+  pub asked_stands : (l : LeaderState C) (p : PValue C) → IsAsked l p → Past l p
   asked_stands l p h =
       inr (h.0, go l.phase h.1)
     where
@@ -48,7 +48,7 @@ module _ {C : Type 0} where
       go Over e = tt
 
   -- what stands of a ballot that an active leader has is its proposal
-  stands_active : (l : LeaderState C) (p : PValue C) → Past l p → p.ballot ≡ l.ballot → phase_is_active l.phase ≡ true → at_slot p.slot l.proposals ≡ Some p.command
+  pub stands_active : (l : LeaderState C) (p : PValue C) → Past l p → p.ballot ≡ l.ballot → phase_is_active l.phase ≡ true → at_slot p.slot l.proposals ≡ Some p.command
   stands_active l p h e active =
       ⊎_elim
       (λ (b : Below p.ballot l.ballot). absurd (not_below_itself l.ballot (subst (λ x. Below x l.ballot) e b)))
@@ -62,10 +62,10 @@ module _ {C : Type 0} where
       go Over a s = absurd (true≢false (sym a))
 
 module _ {C : Type 0} (A : Type 0) where
-  asks_to_all : (n : ℕ) (q p : PValue C) → Asks {A = A} (to_all n (P2a q)) p → q ≡ p
+  pub asks_to_all : (n : ℕ) (q p : PValue C) → Asks {A = A} (to_all n (P2a q)) p → q ≡ p
   asks_to_all n q p h = let e = in_to_all n (P2a q) _ h.1 in cc
 
-  in_flat_map : {X : Type 0} (f : X → List (Outgoing C A)) (xs : List X) (o : Outgoing C A) → IsIn o (flat_map f xs) → (x : X) × IsIn x xs × IsIn o (f x)
+  pub in_flat_map : {X : Type 0} (f : X → List (Outgoing C A)) (xs : List X) (o : Outgoing C A) → IsIn o (flat_map f xs) → (x : X) × IsIn x xs × IsIn o (f x)
   in_flat_map f [] o h = absurd h
   in_flat_map f (x ∷ xs) o h =
       ⊎_elim (λ l. (x, inl refl, l)) (λ r. let y = in_flat_map f xs o r in (y.0, inr y.1, y.2)) (in_either o (f x) (flat_map f xs) h)
@@ -263,13 +263,13 @@ module _ {C : Type 0} (A : Type 0) where
   called_kept eq l Campaigns = campaigned_kept l l.phase
   called_kept eq l Ticks = ticked_kept l l.phase
 
-  one_command : (l : LeaderState C) (p q : PValue C) → IsAsked l p → IsAsked l q → p.slot ≡ q.slot → p.command ≡ q.command
+  pub one_command : (l : LeaderState C) (p q : PValue C) → IsAsked l p → IsAsked l q → p.slot ≡ q.slot → p.command ≡ q.command
   one_command l p q a b e =
       let mine : at_slot q.slot l.proposals ≡ Some p.command = subst (λ s. at_slot s l.proposals ≡ Some p.command) e a.2 in
       let its : at_slot q.slot l.proposals ≡ Some q.command = b.2 in
       cc
 
-  asks_either : (xs ys : List (Outgoing C A)) (p : PValue C) → Asks (xs ++ ys) p → Asks xs p ⊎ Asks ys p
+  pub asks_either : (xs ys : List (Outgoing C A)) (p : PValue C) → Asks (xs ++ ys) p → Asks xs p ⊎ Asks ys p
   asks_either xs ys p h = ⊎_elim (λ l. inl (h.0, l)) (λ r. inr (h.0, r)) (in_either _ xs ys h.1)
 
   -- what calls do to a leader, one after another

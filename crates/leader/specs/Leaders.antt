@@ -12,7 +12,7 @@ use Rattle.ballot.specs.declared.message.Promise.{Promise}
 use Rattle.ballot.specs.declared.message.Vote.{Vote}
 use Rattle.ballot.specs.declared.message.Message.TheVariants.{P1a, P2a, Decision}
 use Rattle.ballot.specs.declared.outgoing.Outgoing.{Outgoing}
-use Rattle.proposer.specs.Quorums.{Pending, left_by}
+use Rattle.proposer.specs.Quorums.{Pending, left_by, is_counted}
 use Rattle.proposer.specs.Scouts.{ScoutState, new_scout, scout_step, progress_of}
 use Rattle.proposer.specs.Commanders.{CommanderState, new_commander, commander_step, verdict_of}
 use Rattle.proposer.specs.declared.scout.Progress.{Progress}
@@ -113,6 +113,11 @@ module _ {C : Type 0} where
   abbrev pub decides_in : ℕ → Vote → Phase C → Bool
   decides_in from v (Active ks) = is_decided (verdict_on (at_slot v.slot ks) from v)
   decides_in from v _ = false
+
+  -- whether its scout counts the promise
+  abbrev pub counts_in : {A : Type 0} → (C → C → Bool) → ℕ → Promise C A → Phase C → Bool
+  counts_in eq from p (Scouting scout) = is_counted (scout_step eq scout from p)
+  counts_in eq from p _ = false
 
   -- whether there is something to ask again
   abbrev pub has_to_ask : Phase C → Bool

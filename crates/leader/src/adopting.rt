@@ -1,7 +1,7 @@
 //! What a leader does when a majority promises its ballot.
 ghost use Rattle.std.specs.Prelude.{◌≡◌, ◌&&◌, false, IsOk, OnOk, IfOk};
 ghost use Rattle.ballot.specs.Ballots.{same_ballot};
-ghost use Rattle.leader.specs.Leaders.{phase_is_scouting, keep_better, best_pvalues, replaced, leads, adopts, adopted, hears_promise};
+ghost use Rattle.leader.specs.Leaders.{phase_is_scouting, counts_in, keep_better, best_pvalues, replaced, leads, adopts, adopted, hears_promise};
 ghost use Rattle.leader.specs.States.{state_of};
 
 use crate::events::{preempt, start};
@@ -114,7 +114,7 @@ pub fn hear_promise<C: Payload, A: Allocator + Copy>(
 ) -> Result<Sends<C, A>, Memory>
     ensures leader { OnOk result (state_of state.new ≡ (hears_promise {A = A} C.equal (state_of state.old) from promise).leader) }
     ensures sends { IfOk result (λ sends. sends ≡ (hears_promise C.equal (state_of state.old) from promise).sends) }
-    ensures late { phase_is_scouting (state_of state.old).phase ≡ false → IsOk result }
+    ensures uncounted { counts_in C.equal from promise (state_of state.old).phase ≡ false → IsOk result }
 {
     let Phase::Scouting(scout) = &mut state.phase else {
         return Ok(Items::new(state.alloc));

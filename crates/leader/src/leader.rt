@@ -29,7 +29,7 @@ impl<C, A: Allocator> Model for Leader<C, A> {
 }
 
 impl<C: Payload, A: Allocator + Copy> Leader<C, A> {
-    ghost use Rattle.leader.specs.Leaders.{LeaderState, IsMoved, new_leader, at_slot, phase_is_active, phase_is_passive, phase_is_scouting, decides_in, has_to_ask, proposed, hears_promise, hears_vote, adopted, preempted, campaigned, ticked};
+    ghost use Rattle.leader.specs.Leaders.{LeaderState, IsMoved, new_leader, at_slot, phase_is_active, phase_is_passive, phase_is_scouting, counts_in, decides_in, has_to_ask, proposed, hears_promise, hears_vote, adopted, preempted, campaigned, ticked};
 
     /// A passive leader of the lowest ballot of this node, without proposals. Takes no memory.
     pub fn new(alloc: A, me: NodeId, cluster: Cluster) -> Self
@@ -68,7 +68,7 @@ impl<C: Payload, A: Allocator + Copy> Leader<C, A> {
     /// that ends.
     pub fn hear1(&mut self, from: NodeId, promise: Promise<C, A>) -> Result<Sends<C, A>, Memory>
         ensures moves { IsMoved (λ l. hears_promise C.equal l from promise) self.old self.new result }
-        ensures late { (l : LeaderState C) → self.old ≡ Some l → phase_is_scouting l.phase ≡ false → IsOk result }
+        ensures uncounted { (l : LeaderState C) → self.old ≡ Some l → counts_in C.equal from promise l.phase ≡ false → IsOk result }
     {
         spend(&mut self.spent)?;
         let sends = adopting::hear_promise(&mut self.state, from, promise)?;

@@ -54,14 +54,14 @@ never_yields false s r c e = absurd (cc)
 pub among_cases : (node from : ℕ) (heard : List ℕ) → is_among node (from ∷ heard) ≡ true → (node ≡ from) ⊎ (is_among node heard ≡ true)
 among_cases node from heard e = ⊎_elim (λ q. inl (eqb-true node from q)) (λ q. inr q) (or_cases _ _ e)
 
-wins_if_quorum : {C : Type 0} (t : Bool) (s : ScoutState C) (ps qs : List (PValue C)) → ◌≡◌ {A = Step (ScoutState C) (List (PValue C))} (cond t (Wins qs) (Waits s)) (Wins ps) → (t ≡ true) × (qs ≡ ps)
+pub wins_if_quorum : {C : Type 0} (t : Bool) (s : ScoutState C) (ps qs : List (PValue C)) → ◌≡◌ {A = Step (ScoutState C) (List (PValue C))} (cond t (Wins qs) (Waits s)) (Wins ps) → (t ≡ true) × (qs ≡ ps)
 wins_if_quorum true s ps qs e = (refl, cc)
 wins_if_quorum false s ps qs e = absurd (cc)
 
-among_first : (from : ℕ) (heard : List ℕ) → is_among from (from ∷ heard) ≡ true
+pub among_first : (from : ℕ) (heard : List ℕ) → is_among from (from ∷ heard) ≡ true
 among_first from heard = rw (eq-eqb from from refl) refl
 
-among_more : (node from : ℕ) (heard : List ℕ) → is_among node heard ≡ true → is_among node (from ∷ heard) ≡ true
+pub among_more : (node from : ℕ) (heard : List ℕ) → is_among node heard ≡ true → is_among node (from ∷ heard) ≡ true
 among_more node from heard e =
     go (eqb node from)
   where

@@ -1,5 +1,5 @@
 -- Waiting for the answers of more than half of the acceptors.
-use Rattle.std.specs.Prelude.{ℕ, ◌*◌, List, length, Bool, not, Option, Some, None, ◌&&◌, ◌||◌, nat_lt, if◌then◌else◌}
+use Rattle.std.specs.Prelude.{ℕ, ◌*◌, List, length, Bool, true, false, not, Option, Some, None, ◌&&◌, ◌||◌, nat_lt, if◌then◌else◌}
 use Rattle.ballot.specs.Ballots.{BallotNumber, below}
 use Rattle.ballot.specs.Nodes.{in_cluster, is_among}
 
@@ -31,6 +31,12 @@ module _ {S R : Type 0} where
   left_by old (Wins r) = None
   left_by old (Yields b) = None
   left_by old Ignores = old
+
+  -- whether the answer is counted
+  abbrev pub is_counted : Step S R → Bool
+  is_counted (Waits s) = true
+  is_counted (Wins r) = true
+  is_counted _ = false
 
   -- the tests of an answer, in their order: mine is the ballot that waits, heard are the acceptors counted, fits says whether what was asked is
   -- what the answer is to, and b is the answer's ballot

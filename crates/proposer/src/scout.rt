@@ -1,8 +1,8 @@
 //! The first phase: a leader's ballot, and who promised it.
-ghost use Rattle.std.specs.Prelude.{◌≡◌, ◌↔◌, ◌∷◌, Some, Ok, IsTrue, OnOk, OnErr, IfOk};
+ghost use Rattle.std.specs.Prelude.{◌≡◌, ◌↔◌, ◌∷◌, Some, Ok, [], false, IsOk, IsTrue, OnOk, OnErr, IfOk};
 ghost use Rattle.ballot.specs.Ballots.{BallotNumber};
 ghost use Rattle.ballot.specs.Nodes.{is_among, IsMajority};
-ghost use Rattle.proposer.specs.Quorums.{Ignores, Yields, left_by};
+ghost use Rattle.proposer.specs.Quorums.{Ignores, Yields, left_by, is_counted};
 
 use crate::union::Union;
 use ballot::{Ballot, Cluster, Items, Memory, NodeId, NodeSet, PValue, Payload, Promise};
@@ -71,6 +71,8 @@ impl<C: Payload, A: Allocator + Copy> Scout<C, A> {
         ensures adopted { (s : ScoutState C) → self.old.state ≡ Some s → IfOk result (λ progress. IsTrue (is_adopted progress) ↔ (IsCounted self.old.size s from promise × IsMajority self.old.size (λ node. is_among node (from ∷ s.heard)))) }
         ensures stale { scout_step C.equal self.old from promise ≡ Ignores → result ≡ Ok Progress.Stale }
         ensures preempted { (b : BallotNumber) → scout_step C.equal self.old from promise ≡ Yields b → result ≡ Ok (Progress.Preempted b) }
+        ensures uncounted { is_counted (scout_step C.equal self.old from promise) ≡ false → IsOk result }
+        ensures nothing_told { promise.accepted ≡ [] → IsOk result }
         ensures err { OnErr result (self.new ≡ self.old) }
     {
         if self.ended || !self.cluster.contains(from) || promise.asked != self.ballot {

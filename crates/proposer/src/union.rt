@@ -1,5 +1,5 @@
 //! The union of what promises told.
-ghost use Rattle.std.specs.Prelude.{◌≡◌, [], take, OnOk, OnErr};
+ghost use Rattle.std.specs.Prelude.{◌≡◌, [], take, IsOk, OnOk, OnErr};
 ghost use Rattle.ballot.specs.PValues.{has_pvalue, added, joined};
 
 use ballot::{Ballot, Items, Memory, PValue, Payload, Slot};
@@ -77,6 +77,7 @@ impl<C: Payload, A: Allocator + Copy> Union<C, A> {
 
     /// Adds each of the others in turn. After `Memory` the union is as it was.
     pub fn join(&mut self, others: Items<PValue<C>, A>) -> Result<(), Memory>
+        ensures nothing_told { others ≡ [] → IsOk result }
         ensures ok { OnOk result (self.new ≡ joined C.equal self.old others) }
         ensures err { OnErr result (self.new ≡ self.old) }
     {
