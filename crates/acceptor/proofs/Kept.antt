@@ -136,10 +136,11 @@ module _ {C : Type 0} where
   pub taken_held : (a : AcceptorState C) (p : PValue C) → takes a.ballot p.ballot ≡ true → Holds (after_p2a a p).accepted p.slot p.ballot
   taken_held a p e = rw e (kept_new a.accepted p)
 
-  pub accepted_cases : (a : AcceptorState C) (p x : PValue C) → IsIn x (after_p2a a p).accepted → IsIn x a.accepted ⊎ (p ≡ x)
+  -- what is kept then is an old one, or the new one, which was taken
+  pub accepted_cases : (a : AcceptorState C) (p x : PValue C) → IsIn x (after_p2a a p).accepted → IsIn x a.accepted ⊎ ((p ≡ x) × (takes a.ballot p.ballot ≡ true))
   accepted_cases a p x =
       go (takes a.ballot p.ballot)
     where
-      go : (t : Bool) → IsIn x (cond t (kept a.accepted p) a.accepted) → IsIn x a.accepted ⊎ (p ≡ x)
-      go true h = kept_cases a.accepted p x h
+      go : (t : Bool) → IsIn x (cond t (kept a.accepted p) a.accepted) → IsIn x a.accepted ⊎ ((p ≡ x) × (t ≡ true))
+      go true h = ⊎_elim (λ old. inl old) (λ is. inr (is, refl)) (kept_cases a.accepted p x h)
       go false h = inl h

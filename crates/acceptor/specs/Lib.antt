@@ -1,2 +1,3 @@
 pub mod Acceptors
+pub mod Calls
 pub mod Fields
