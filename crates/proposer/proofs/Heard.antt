@@ -13,8 +13,9 @@ use Rattle.ballot.proofs.Member.{IsEquality, in_left, in_last, joined_old, joine
 use Rattle.ballot.proofs.Order.{same_ballot-true}
 use Rattle.proposer.specs.Quorums.{Pending, Step, Waits, Wins, Yields, Ignores, while_waiting, left_by, answered, is_quorum}
 use Rattle.proposer.specs.Scouts.{ScoutState, new_scout, scout_counts, scout_hears, with_promise, scout_after, scout_step, HasPromises, IsAdoption}
-use Rattle.proposer.specs.Commanders.{CommanderState, new_commander, commander_counts, commander_hears, with_vote, commander_after, HasVotes}
-use Rattle.proposer.proofs.Wins.{Counts, is_win, same_height, answered_counts, answered_wins, quorum_majority}
+use Rattle.proposer.specs.Commanders.{CommanderState, new_commander, commander_counts, commander_hears, commander_step, verdict_of, with_vote, commander_after, HasVotes, IsDecision}
+use Rattle.proposer.specs.declared.commander.Verdict.TheVariants.{Decided}
+use Rattle.proposer.proofs.Wins.{Counts, is_win, same_height, answered_counts, answered_wins, quorum_majority, wins_if, verdict_win}
 
 -- what waits after an answer that changes something has counted it
 pub answered_waits : {S R : Type 0} (size : ℕ) (mine : BallotNumber) (heard : List ℕ) (from : ℕ) (fits : Bool) (b : BallotNumber) (counted : Step S R) (s : S) →
@@ -212,3 +213,25 @@ module _ (size : ℕ) (b : BallotNumber) (slot : ℕ) where
       all_votes [] answers (Some (new_commander b slot))
       (λ k q. let same : new_commander b slot ≡ k = cc in subst (HasVotes [] size b slot) same (record { mine = refl; its_slot = refl; distinct = tt; voted = λ node r. absurd (cc) }))
       t e
+
+  cluster_stays : (old : Option CommanderState) (answers : List (ℕ × Vote)) → (commander_after (record { size = size; state = old }) answers).size ≡ size
+  cluster_stays old [] = refl
+  cluster_stays old (a ∷ answers) = cluster_stays (left_by old (while_waiting old (λ k. commander_hears size k a.0 a.1))) answers
+
+  last_vote : (answers : List (ℕ × Vote)) (from : ℕ) (v : Vote) (old : Option CommanderState) →
+      ((k : CommanderState) → old ≡ Some k → HasVotes answers size b slot k) → is_win (while_waiting old (λ k. commander_hears size k from v)) ≡ true → IsDecision (answers ++ (from, v) ∷ []) size b slot
+  last_vote answers from v None h e = absurd (cc)
+  last_vote answers from v (Some k) h e =
+      let now : CommanderState = with_vote k from in
+      let counted = answered_wins size k.ballot k.heard from (same_ballot v.asked k.ballot && eqb v.slot k.slot) v.ballot (commander_counts size now) e in
+      let has = one_vote answers k from v (h k refl) counted.0 in
+      (now, has, (quorum_majority size now.heard has.distinct).0 ((wins_if (is_quorum size now.heard) now tt).0 counted.1))
+
+  -- what decides is a majority of votes for its ballot and slot
+  pub decisions_are_voted : (answers : List (ℕ × Vote)) (from : ℕ) (v : Vote) →
+      verdict_of (commander_step (commander_after (record { size = size; state = Some (new_commander b slot) }) answers) from v) ≡ Decided → IsDecision (answers ++ (from, v) ∷ []) size b slot
+  decisions_are_voted answers from v e =
+      let commander : Pending CommanderState = commander_after (record { size = size; state = Some (new_commander b slot) }) answers in
+      last_vote answers from v commander.state (commanders_count answers)
+      (subst (λ n. is_win (while_waiting commander.state (λ k. commander_hears n k from v)) ≡ true) (cluster_stays (Some (new_commander b slot)) answers)
+      ((verdict_win (commander_step commander from v)).0 e))

@@ -59,11 +59,11 @@ quorum_majority size heard h =
       λ m. lt-ltb size (2 * length heard) (subst (λ n. size < 2 * n) e m),
     )
 
-wins_if : {S R : Type 0} (t : Bool) (s : S) (r : R) → (is_win {S = S} {R = R} (cond t (Wins r) (Waits s)) ≡ true) ↔ (t ≡ true)
+pub wins_if : {S R : Type 0} (t : Bool) (s : S) (r : R) → (is_win {S = S} {R = R} (cond t (Wins r) (Waits s)) ≡ true) ↔ (t ≡ true)
 wins_if true s r = ((λ e. refl), λ e. refl)
 wins_if false s r = ((λ e. e), λ e. e)
 
-verdict_win : (s : Step CommanderState (Unit {0})) → (verdict_of s ≡ Decided) ↔ (is_win s ≡ true)
+pub verdict_win : (s : Step CommanderState (Unit {0})) → (verdict_of s ≡ Decided) ↔ (is_win s ≡ true)
 verdict_win (Waits k) = ((λ e. absurd (cc)), λ e. absurd (true≢false (sym e)))
 verdict_win (Wins r) = ((λ e. refl), λ e. refl)
 verdict_win (Yields b) = ((λ e. absurd (cc)), λ e. absurd (true≢false (sym e)))

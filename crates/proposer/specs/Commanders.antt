@@ -2,7 +2,7 @@
 use Rattle.std.specs.Prelude.{◌≡◌, refl, ℕ, List, [], ◌∷◌, true, false, Some, ◌==◌, ◌&&◌, if◌then◌else◌}
 use Rattle.ballot.specs.Ballots.{BallotNumber, same_ballot}
 use Rattle.ballot.specs.Lists.{IsIn}
-use Rattle.ballot.specs.Nodes.{in_cluster, is_among, AreDistinct}
+use Rattle.ballot.specs.Nodes.{in_cluster, is_among, AreDistinct, IsMajority}
 use Rattle.ballot.specs.declared.message.Vote.{Vote}
 use Rattle.proposer.specs.declared.commander.Verdict.{Verdict}
 use Rattle.proposer.specs.declared.commander.Verdict.TheVariants.{Waiting, Decided, Preempted, Stale}
@@ -48,12 +48,16 @@ commander_after commander [] = commander
 commander_after commander (a ∷ answers) =
     commander_after (record { size = commander.size; state = left_by commander.state (commander_step commander a.0 a.1) }) answers
 
--- a commander for b and the slot that waits after these answers: each acceptor that it counts voted for both in one of them
+-- these answers of the acceptors that k counts: each is of the cluster, none is counted twice, and each voted for b and the slot in one of them
 pub record HasVotes (answers : List (ℕ × Vote)) (size : ℕ) (b : BallotNumber) (slot : ℕ) (k : CommanderState) : Type 0 where
   pub mine : k.ballot ≡ b
   pub its_slot : k.slot ≡ slot
   pub distinct : AreDistinct size k.heard
   pub voted : (node : ℕ) → is_among node k.heard ≡ true → (v : Vote) × IsIn (node, v) answers × (v.asked ≡ b) × (v.slot ≡ slot) × (v.ballot ≡ b)
+
+-- a majority has voted for b and the slot in these answers
+abbrev pub IsDecision : List (ℕ × Vote) → ℕ → BallotNumber → ℕ → Type 0
+IsDecision answers size b slot = (k : CommanderState) × HasVotes answers size b slot k × IsMajority size (λ node. is_among node k.heard)
 
 -- a worked example: of the votes of 2, 2, 3 and 1 of three nodes the third decides
 abbrev opening : Pending CommanderState

@@ -7,7 +7,8 @@ ghost use Rattle.ballot.specs.declared.message.Promise.{Promise};
 ghost use Rattle.ballot.specs.declared.message.Vote.{Vote};
 ghost use Rattle.proposer.specs.Scouts.{ScoutState, new_scout, scout_step, scout_after, HasPromises, IsAdoption};
 ghost use Rattle.proposer.specs.Quorums.{Wins};
-ghost use Rattle.proposer.specs.Commanders.{CommanderState, new_commander, commander_after, HasVotes};
+ghost use Rattle.proposer.specs.Commanders.{CommanderState, new_commander, commander_step, commander_after, verdict_of, HasVotes, IsDecision};
+ghost use Rattle.proposer.specs.declared.commander.Verdict.TheVariants.{Decided};
 
 use ballot::Payload;
 use std::alloc::Allocator;
@@ -28,4 +29,10 @@ pub fn scouts_adopt_what_a_majority_told<C: Payload, A: Allocator>()
 /// ballot and slot among the answers.
 pub fn commanders_count_votes()
     ensures { (size : ℕ) (b : BallotNumber) (slot : ℕ) (answers : List (ℕ × Vote)) (k : CommanderState) → (commander_after (record { size = size; state = Some (new_commander b slot) }) answers).state ≡ Some k → HasVotes answers size b slot k }
+{}
+
+/// Where a commander decides, distinct acceptors of the cluster that are more than half of it have
+/// voted, each for its ballot and slot among the answers.
+pub fn commanders_decide_what_a_majority_voted()
+    ensures { (size : ℕ) (b : BallotNumber) (slot : ℕ) (answers : List (ℕ × Vote)) (from : ℕ) (v : Vote) → verdict_of (commander_step (commander_after (record { size = size; state = Some (new_commander b slot) }) answers) from v) ≡ Decided → IsDecision (answers ++ (from, v) ∷ []) size b slot }
 {}
