@@ -14,7 +14,7 @@ use Rattle.proposer.specs.Commanders.{CommanderState, commander_counts, commande
 use Rattle.proposer.proofs.Heard.{answered_waits, answered_yields, never_yields, waits_if}
 use Rattle.leader.specs.Leaders.{Phase, Passive, Scouting, Active, Over, LeaderState, at_slot, with_slot, set_slot, without_slot, Rising, new_leader, in_phase, commander_for, best_pvalues, replaced, goes_on, yields_in, stays, keeps_proposal, proposed_at, proposed, campaigned, preempted, adopts, adopted, on_progress, hears_promise, after_vote, verdict_on, on_verdict, hears_vote}
 use Rattle.leader.specs.Calls.{Call, Proposes, HearsPromise, HearsVote, Adopts, IsPreempted, Campaigns, Ticks, called, all_called, IsItsCommander, FitsPhase, IsOrderly}
-use Rattle.leader.proofs.Slots.{at_slot-with_slot, at_slot-among, rising_with, rising_found, in_with_slot, in_set_slot, in_without_set, some_with_slot}
+use Rattle.leader.proofs.Slots.{at_slot-with_slot, at_slot-among, rising_with, rising_found, in_with_slot, in_set_slot, in_without_set, some_with_slot, rising_set, rising_without}
 use Rattle.leader.proofs.Asked.{rising_replaced}
 
 module _ {C : Type 0} (A : Type 0) (me size : ℕ) where
@@ -36,9 +36,9 @@ module _ {C : Type 0} (A : Type 0) (me size : ℕ) where
   keeps_orderly l (Scouting scout) s c h fits = changed l (with_slot s c l.proposals) (Scouting scout) h (rising_with s c l.proposals h.rising) fits
   keeps_orderly l (Active ks) s c h fits =
       changed l (with_slot s c l.proposals) (Active (with_slot s (commander_for l s) ks)) h (rising_with s c l.proposals h.rising)
-      (λ k i. ⊎_elim
+      (rising_with s (commander_for l s) ks fits.0, λ k i. ⊎_elim
       (λ (e : (s, commander_for l s) ≡ k). subst (IsItsCommander size l.ballot (with_slot s c l.proposals)) e (new_commander_fits l s (with_slot s c l.proposals) h.its_cluster (ap is_some (at_slot-with_slot s c l.proposals))))
-      (λ (old : IsIn k ks). let f = fits k old in (f.0, some_with_slot s k.0 c l.proposals f.1, f.2))
+      (λ (old : IsIn k ks). let f = fits.1 k old in (f.0, some_with_slot s k.0 c l.proposals f.1, f.2))
       (in_with_slot s (commander_for l s) ks k i))
   keeps_orderly l Over s c h fits = changed l (with_slot s c l.proposals) Over h (rising_with s c l.proposals h.rising) tt
 
@@ -95,6 +95,10 @@ module _ {C : Type 0} (A : Type 0) (me size : ℕ) where
       (λ (x : (f : ℕ × C) × IsIn f es × ((f.0, commander_for l f.0) ≡ k)). inr (x.0, inr x.1, x.2))
       (in_commanders l es (with_slot e.0 (commander_for l e.0) all) k h)
 
+  rising_commanders : (l : LeaderState C) (es : List (ℕ × C)) (all : List (ℕ × Pending CommanderState)) → Rising all → Rising (fold (λ all e. with_slot e.0 (commander_for l e.0) all) all es)
+  rising_commanders l [] all h = h
+  rising_commanders l (e ∷ es) all h = rising_commanders l es (with_slot e.0 (commander_for l e.0) all) (rising_with e.0 (commander_for l e.0) all h)
+
   adopts_orderly : (l : LeaderState C) (phase : Phase C) (ps : List (PValue C)) → IsOrderly me size l → IsOrderly me size (adopts {A = A} (in_phase l phase) ps).leader
   adopts_orderly l phase ps h =
       let proposals : List (ℕ × C) = replaced l.proposals (best_pvalues ps) in
@@ -105,12 +109,12 @@ module _ {C : Type 0} (A : Type 0) (me size : ℕ) where
         its_cluster = h.its_cluster;
         own_ballot = h.own_ballot;
         rising = rising;
-        waits = λ k i.
+        waits = (rising_commanders leads proposals [] tt, λ k i.
             ⊎_elim
             (λ (n : IsIn k []). absurd n)
             (λ (x : (e : ℕ × C) × IsIn e proposals × ((e.0, commander_for leads e.0) ≡ k)).
             subst (IsItsCommander size l.ballot proposals) x.2 (new_commander_fits leads x.0.0 proposals h.its_cluster (ap is_some (rising_found proposals x.0 rising x.1))))
-            (in_commanders leads proposals [] k i);
+            (in_commanders leads proposals [] k i));
       }
 
   adopted_orderly : (l : LeaderState C) (phase : Phase C) (b : BallotNumber) (ps : List (PValue C)) → IsOrderly me size (in_phase l phase) → IsOrderly me size (adopted {A = A} (in_phase l phase) b ps).leader
@@ -160,23 +164,23 @@ module _ {C : Type 0} (A : Type 0) (me size : ℕ) where
       let a = answered_waits size c.ballot c.heard from (same_ballot v.asked c.ballot && eqb v.slot c.slot) v.ballot (commander_counts size (with_vote c from)) t e in
       let is : with_vote c from ≡ t = waits_if (is_quorum size (from ∷ c.heard)) (with_vote c from) t tt a.1 in
       changed (in_phase l (Active ks)) l.proposals (Active (set_slot v.slot (record { size = size; state = Some t }) ks)) h h.rising
-      (λ k i. ⊎_elim
+      (rising_set v.slot (record { size = size; state = Some t }) ks h.waits.0, λ k i. ⊎_elim
       (λ (q : (v.slot, record { size = size; state = Some t }) ≡ k). subst (IsItsCommander size l.ballot l.proposals) q
       (refl, has, (t, refl, subst (λ (x : CommanderState). x.ballot ≡ l.ballot) is mine, subst (λ (x : CommanderState). x.slot ≡ v.slot) is here, subst (λ (x : CommanderState). AreDistinct size x.heard) is (a.0.0, a.0.3, distinct))))
-      (λ old. h.waits k old)
+      (λ old. h.waits.1 k old)
       (in_set_slot v.slot (record { size = size; state = Some t }) ks k i))
   on_vote_orderly l ks c from v h has mine here distinct (Wins r) e =
       changed (in_phase l (Active ks)) l.proposals (Active (without_slot v.slot (set_slot v.slot (record { size = size; state = None }) ks))) h h.rising
-      (λ k i. h.waits k (in_without_set v.slot (record { size = size; state = None }) ks k i))
+      (rising_without v.slot (set_slot v.slot (record { size = size; state = None }) ks) (rising_set v.slot (record { size = size; state = None }) ks h.waits.0), λ k i. h.waits.1 k (in_without_set v.slot (record { size = size; state = None }) ks k i))
   on_vote_orderly l ks c from v h has mine here distinct (Yields b) e =
       let up = answered_yields size c.ballot c.heard from (same_ballot v.asked c.ballot && eqb v.slot c.slot) v.ballot (commander_counts size (with_vote c from)) b
       (never_yields (is_quorum size (from ∷ c.heard)) (with_vote c from) tt b) e in
       higher_orderly (in_phase l (Active ks)) (Active (set_slot v.slot (record { size = size; state = None }) ks)) b h (subst (λ x. below x b ≡ true) mine up)
   on_vote_orderly l ks c from v h has mine here distinct Ignores e =
       changed (in_phase l (Active ks)) l.proposals (Active (set_slot v.slot (record { size = size; state = Some c }) ks)) h h.rising
-      (λ k i. ⊎_elim
+      (rising_set v.slot (record { size = size; state = Some c }) ks h.waits.0, λ k i. ⊎_elim
       (λ (q : (v.slot, record { size = size; state = Some c }) ≡ k). subst (IsItsCommander size l.ballot l.proposals) q (refl, has, (c, refl, mine, here, distinct)))
-      (λ old. h.waits k old)
+      (λ old. h.waits.1 k old)
       (in_set_slot v.slot (record { size = size; state = Some c }) ks k i))
 
   hears_vote_orderly : (l : LeaderState C) (phase : Phase C) (from : ℕ) (v : Vote) → IsOrderly me size (in_phase l phase) → IsOrderly me size (hears_vote {A = A} (in_phase l phase) from v).leader
@@ -188,7 +192,7 @@ module _ {C : Type 0} (A : Type 0) (me size : ℕ) where
       go : (o : Option (Pending CommanderState)) → at_slot v.slot ks ≡ o → IsOrderly me size (on_verdict {A = A} (in_phase l (Active ks)) (after_vote ks from v o) v.slot (verdict_on o from v)).leader
       go None e = h
       go (Some k) e =
-          let f = h.waits (v.slot, k) (at_slot-among v.slot k ks e) in
+          let f = h.waits.1 (v.slot, k) (at_slot-among v.slot k ks e) in
           let is : record { size = size; state = Some f.2.0 } ≡ k = λ i. record { size = sym f.0 i; state = sym f.2.1 i } in
           subst (λ (x : Pending CommanderState). IsOrderly me size (on_verdict {A = A} (in_phase l (Active ks)) (after_vote ks from v (Some x)) v.slot (verdict_on (Some x) from v)).leader) is
           (on_vote_orderly l ks f.2.0 from v h f.1 f.2.2 f.2.3 f.2.4 (commander_hears size f.2.0 from v) refl)

@@ -143,3 +143,40 @@ module _ {X : Type 0} where
       (λ (e : t ≡ s). ap is_some (subst (λ k. at_slot k (with_slot s x es) ≡ Some x) (sym e) (at_slot-with_slot s x es)))
       (λ (ne : t ≢ s). ap is_some (at_slot-with_other s t x es ne) ∙ h)
       (cases_eq t s)
+
+  -- what is written or taken out leaves the slots rising
+  above_set : (s t : ℕ) (x : X) (es : List (ℕ × X)) → Above t es → Above t (set_slot s x es)
+  above_set s t x [] h = tt
+  above_set s t x (e ∷ es) h =
+      go (is_eq (nat_cmp s e.0)) (above_set s t x es h.1)
+    where
+      go : (u : Bool) → Above t (set_slot s x es) → Above t (cond u ((e.0, x) ∷ es) (e ∷ set_slot s x es))
+      go true k = h
+      go false k = (h.0, k)
+
+  pub rising_set : (s : ℕ) (x : X) (es : List (ℕ × X)) → Rising es → Rising (set_slot s x es)
+  rising_set s x [] h = tt
+  rising_set s x (e ∷ es) h =
+      go (is_eq (nat_cmp s e.0)) (rising_set s x es h.1)
+    where
+      go : (u : Bool) → Rising (set_slot s x es) → Rising (cond u ((e.0, x) ∷ es) (e ∷ set_slot s x es))
+      go true k = h
+      go false k = (above_set s e.0 x es h.0, k)
+
+  above_without : (s t : ℕ) (es : List (ℕ × X)) → Above t es → Above t (without_slot s es)
+  above_without s t [] h = tt
+  above_without s t (e ∷ es) h =
+      go (is_eq (nat_cmp s e.0)) (above_without s t es h.1)
+    where
+      go : (u : Bool) → Above t (without_slot s es) → Above t (cond u es (e ∷ without_slot s es))
+      go true k = h.1
+      go false k = (h.0, k)
+
+  pub rising_without : (s : ℕ) (es : List (ℕ × X)) → Rising es → Rising (without_slot s es)
+  rising_without s [] h = tt
+  rising_without s (e ∷ es) h =
+      go (is_eq (nat_cmp s e.0)) (rising_without s es h.1)
+    where
+      go : (u : Bool) → Rising (without_slot s es) → Rising (cond u es (e ∷ without_slot s es))
+      go true k = h.1
+      go false k = (above_without s e.0 es h.0, k)

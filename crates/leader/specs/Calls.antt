@@ -60,7 +60,8 @@ module _ {C : Type 0} where
 
   abbrev pub FitsPhase : ℕ → BallotNumber → List (ℕ × C) → Phase C → Type 0
   FitsPhase size ballot proposals (Scouting scout) = IsItsScout size ballot scout
-  FitsPhase size ballot proposals (Active commanders) = (k : ℕ × Pending CommanderState) → IsIn k commanders → IsItsCommander size ballot proposals k
+  FitsPhase size ballot proposals (Active commanders) =
+      Rising commanders × ((k : ℕ × Pending CommanderState) → IsIn k commanders → IsItsCommander size ballot proposals k)
   FitsPhase size ballot proposals _ = Unit {0}
 
   -- what holds of the leader of node me in a cluster of this size, whatever was called

@@ -367,3 +367,28 @@ module _ {C : Type 0} (A : Type 0) (c : C) where
 
   seventh_sends : seventh.sends ≡ record { to = 1; message = P1a (ballot_of 2 1) } ∷ record { to = 2; message = P1a (ballot_of 2 1) } ∷ record { to = 3; message = P1a (ballot_of 2 1) } ∷ []
   seventh_sends = refl
+
+-- node 1 of three adopts two commands that were told for slot 1 with one ballot: it asks for the first
+module _ {C : Type 0} (A : Type 0) (c d : C) where
+  abbrev of_one_ballot : C → PValue C
+  of_one_ballot command = record { ballot = ballot_of 0 2; slot = 1; command = command }
+
+  first_at_a_tie : (adopted {A = A} (campaigned {A = A} (new_leader 1 3)).leader (ballot_of 0 1) (of_one_ballot c ∷ of_one_ballot d ∷ [])).leader.proposals ≡ (1, c) ∷ []
+  first_at_a_tie = refl
+
+-- (2^64 - 1, 2) is above each ballot of node 1: it keeps its ballot, and neither campaigns nor is preempted any more
+module _ (C A : Type 0) where
+  abbrev last_round : BallotNumber
+  last_round = ballot_of 18446744073709551615 2
+
+  abbrev out_of_ballots : LeaderState C
+  out_of_ballots = (preempted {A = A} (new_leader 1 3) last_round).leader
+
+  keeps_its_last : out_of_ballots.ballot ≡ ballot_of 0 1
+  keeps_its_last = refl
+
+  never_campaigns : campaigned {A = A} out_of_ballots ≡ stays out_of_ballots
+  never_campaigns = refl
+
+  never_preempted : preempted {A = A} out_of_ballots last_round ≡ stays out_of_ballots
+  never_preempted = refl

@@ -30,9 +30,9 @@ pub fn adoptions_take_the_highest<C: Payload, A: Allocator>()
     ensures others { (l : LeaderState C) (pvalues : List (PValue C)) → KeepsOthers pvalues l.proposals (adopts {A = A} l pvalues).leader.proposals }
 {}
 
-/// Whatever was called: a leader's ballot is its own, its proposals rise strictly by slot, its scout
-/// waits for its ballot, each of its commanders waits for its ballot at a slot that has a proposal,
-/// and what these have heard are distinct nodes of the cluster.
+/// Whatever was called: a leader's ballot is its own, its proposals and its commanders rise strictly
+/// by slot, its scout waits for its ballot, each of its commanders waits for its ballot at a slot that
+/// has a proposal, and what these have heard are distinct nodes of the cluster.
 pub fn leaders_are_orderly<C: Payload, A: Allocator>()
     ensures always { (me size : ℕ) (calls : List (Call C A)) → IsOrderly me size (all_called C.equal (new_leader me size) calls).leader }
     ensures after_each_call { (me size : ℕ) (l : LeaderState C) (call : Call C A) → IsOrderly me size l → IsOrderly me size (called C.equal l call).leader }
