@@ -1,6 +1,7 @@
 -- The lines of a stream.
 use Rattle.std.specs.Prelude.{ℕ, ◌==◌, nat_lt, Bool, List, [], ◌∷◌, length, map, if◌then◌else◌}
 use Rattle.std.specs.List.{slice_split}
+use Rattle.pop3_wire.specs.Limits.{longest_line}
 use Rattle.pop3_wire.specs.declared.line.Line.{Line}
 use Rattle.pop3_wire.specs.declared.line.Line.TheVariants.{Whole, TooLong}
 
@@ -25,7 +26,7 @@ without_cr (b ∷ c ∷ bytes) = b ∷ without_cr (c ∷ bytes)
 
 -- with its LF a line has at most 512 octets
 abbrev pub line_of : List ℕ → Line
-line_of bytes = if nat_lt 511 (length bytes) then TooLong else Whole (without_cr bytes)
+line_of bytes = if nat_lt longest_line (length bytes) then TooLong else Whole (without_cr bytes)
 
 abbrev pub lines_of : List ℕ → List Line
 lines_of stream = map line_of (ended_lines stream)

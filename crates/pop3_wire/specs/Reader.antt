@@ -1,21 +1,22 @@
 -- What is kept of a stream that comes in pieces.
-use Rattle.std.specs.Prelude.{◌≡◌, ℕ, List, [], ◌∷◌, ◌++◌, length, take, fold, Option, None, Some, if◌then◌else◌}
+use Rattle.std.specs.Prelude.{◌≡◌, ℕ, ◌+◌, List, [], ◌∷◌, ◌++◌, length, take, fold, Option, None, Some, if◌then◌else◌}
 use Rattle.std.specs.Option.{option_to_list}
 use Rattle.std.specs.Io.BufRead.{take_through}
 use Rattle.std.specs.List.{list_any, before_first, slice_split}
+use Rattle.pop3_wire.specs.Limits.{longest_line}
 use Rattle.pop3_wire.specs.declared.line.Line.{Line}
 use Rattle.pop3_wire.specs.Lines.{is_lf, line_of, lines_of}
 
 -- the open line, or a finished one that waits to be taken out
 pub data Kept : Type 0 where
-  -- the first 512 bytes of a line that has not ended: one of so many is too long, whatever comes
+  -- of a line that has not ended the first bytes, one more than the longest has: such a line is too long, whatever comes
   Open : List ℕ → Kept
   Finished : Line → Kept
 
 -- of the parts between LFs the last is the open line; where it is empty, the part before it has just ended
 abbrev pub kept_of : List (List ℕ) → Kept
 kept_of [] = Open []
-kept_of (part ∷ []) = Open (take 512 part)
+kept_of (part ∷ []) = Open (take (longest_line + 1) part)
 kept_of (part ∷ [] ∷ []) = Finished (line_of part)
 kept_of (part ∷ next ∷ parts) = kept_of (next ∷ parts)
 
@@ -32,7 +33,7 @@ taken (Finished line) piece = 0
 abbrev pub fed : Kept → List ℕ → Kept
 fed (Open bytes) piece =
     if list_any is_lf piece then Finished (line_of (bytes ++ before_first is_lf piece))
-    else Open (take 512 (bytes ++ piece))
+    else Open (take (longest_line + 1) (bytes ++ piece))
 fed (Finished line) piece = Finished line
 
 -- the line that waits

@@ -2,6 +2,7 @@
 use Rattle.std.specs.Prelude.{ℕ, ◌≤◌, nat_eq, Bool, true, false, ◌||◌, List, ◌++◌, length, codes, decimal}
 use Rattle.std.specs.Io.BufRead.{take_through}
 use Rattle.std.specs.List.{flat_map, starts_with}
+use Rattle.pop3_wire.specs.Limits.{longest_reply_line}
 use Rattle.pop3_wire.specs.Stuffing.{wire_form, top_lines}
 use Rattle.pop3_wire.specs.declared.listed.Listed.{Listed}
 use Rattle.pop3_wire.specs.declared.listed.Identified.{Identified}
@@ -96,9 +97,9 @@ not_removed = codes "-ERR some deleted messages not removed\r\n"
 abbrev pub has_response_code : List ℕ → Bool
 has_response_code bytes = starts_with nat_eq bytes (codes "+OK [") || starts_with nat_eq bytes (codes "-ERR [")
 
--- the bytes up to and including the first LF are at most 512 (RFC 1939 section 3)
+-- the bytes up to and including the first LF are no more than a reply's line has
 abbrev pub HasShortFirstLine : List ℕ → Type 0
-HasShortFirstLine bytes = length (take_through 10 bytes) ≤ 512
+HasShortFirstLine bytes = length (take_through 10 bytes) ≤ longest_reply_line
 
 module _ {A : Type 0} where
   -- the parts of a greeting's timestamp have the lengths that they may have

@@ -15,7 +15,7 @@ mod verb;
 mod writing;
 
 pub use line::Line;
-pub use line_bytes::LineBytes;
+pub use line_bytes::{LONGEST_LINE, LineBytes};
 pub use line_reader::{LineReader, reader_cuts_lines};
 pub use listed::{Identified, Listed};
 pub use parsing::parse;

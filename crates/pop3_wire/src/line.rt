@@ -2,7 +2,7 @@
 ghost use Rattle.std.specs.Prelude.{◌≡◌, ◌≤◌, length};
 ghost use Rattle.pop3_wire.specs.Lines.{line_of as line_in, without_cr as without_cr_in};
 
-use crate::line_bytes::LineBytes;
+use crate::line_bytes::{LONGEST_LINE, LineBytes};
 
 /// A line of a client, or one that was longer than 512 octets, its end included.
 #[derive(Drop)]
@@ -25,7 +25,7 @@ fn without_cr(bytes: &[u8]) -> &[u8]
 pub(crate) fn line_of(bytes: &[u8]) -> Line
     ensures { result ≡ line_in bytes.now }
 {
-    if bytes.len() > 511 {
+    if bytes.len() > LONGEST_LINE {
         return Line::TooLong;
     }
     Line::Whole(LineBytes::copied(without_cr(bytes)))

@@ -1,18 +1,23 @@
 //! Lines out of a stream that comes in pieces.
-ghost use Rattle.std.specs.Prelude.{◌≡◌, ◌<◌, ◌≤◌, ℕ, List, [], ◌∷◌, ◌++◌, length, take, MatchOption, IfNone};
+ghost use Rattle.std.specs.Prelude.{◌≡◌, ◌+◌, ◌<◌, ◌≤◌, ℕ, List, [], ◌∷◌, ◌++◌, length, take, MatchOption, IfNone};
+ghost use Rattle.pop3_wire.specs.Limits.{longest_line};
 ghost use Rattle.pop3_wire.specs.Reader as spec;
 ghost use Rattle.pop3_wire.specs.Reader.{Open};
 
 use crate::line::{Line, line_of};
+use crate::line_bytes::LONGEST_LINE;
 use arrayvec::ArrayVec;
 use memchr::memchr;
 use std::marker::Model;
 
-/// Cuts a stream into lines, however its bytes come in. It keeps at most 512 bytes and takes no memory.
+/// As many bytes of an open line are kept: so many are too long, whatever comes.
+const KEPT: usize = LONGEST_LINE + 1;
+
+/// Cuts a stream into lines, however its bytes come in. It keeps one line at most and takes no memory.
 #[derive(Drop)]
 pub struct LineReader {
     /// What the open line, or the finished one, begins with.
-    bytes: ArrayVec<u8, 512>,
+    bytes: ArrayVec<u8, { KEPT }>,
     is_finished: bool,
 }
 
@@ -30,8 +35,8 @@ impl Model for LineReader {
 }
 
 /// Adds as many of the bytes as there is room for.
-fn keep(kept: &mut ArrayVec<u8, 512>, bytes: &[u8])
-    ensures { kept.new.items ≡ take 512 (kept.old.items ++ bytes.now) }
+fn keep(kept: &mut ArrayVec<u8, { KEPT }>, bytes: &[u8])
+    ensures { kept.new.items ≡ take (longest_line + 1) (kept.old.items ++ bytes.now) }
 {
     let fitting = kept.remaining_capacity().min(bytes.len());
     kept.try_extend_from_slice(&bytes[..fitting]).unwrap();
