@@ -39,7 +39,7 @@ pub struct Case {
     pub wanted: Vec<u8>,
     /// The exit status that is wanted.
     pub status: u8,
-    /// What is to be told on standard error, without its line end.
+    /// What is to be told on standard error.
     pub told: Vec<u8>,
     /// The unique ids that are to be left in a free maildrop, where the case says so.
     pub left: Option<String>,
@@ -86,6 +86,11 @@ impl Case {
             told: Vec::new(alloc),
             left: None,
         })
+    }
+
+    /// Whether it wants something that one session over a desk can't tell.
+    pub fn wants_a_run(&self) -> bool {
+        self.status != 0 || !self.told.is_empty() || self.settings.mbox.is_some()
     }
 
     /// Whether others than the session come to its maildrop.

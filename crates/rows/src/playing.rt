@@ -104,7 +104,7 @@ fn cut(alloc: Global, case: &Case, at: usize) -> Result<Option<String>, AllocErr
     };
     let broken = Wanted {
         status: 1,
-        told: b"maildropd: read failed",
+        told: b"maildropd: read failed\n",
         replies: case.wanted.as_slice(),
         is_front: true,
     };
@@ -129,7 +129,7 @@ fn cramped(alloc: Global, case: &Case, room: usize) -> Result<Option<String>, Al
     };
     let wanted = Wanted {
         status: 1,
-        told: b"maildropd: write failed",
+        told: b"maildropd: write failed\n",
         replies: front,
         is_front: false,
     };

@@ -1,5 +1,19 @@
-//! The cases of a file: lines of a key, a colon and a value. A key may say how often its value stands there, as in
-//! `C x 3: NOOP`. Empty lines, and lines that begin with `#`, say nothing.
+//! The cases of a file: lines of a key, a colon and a value. Empty lines, and lines that begin with `#`, say nothing.
+//!
+//! | Key | Value |
+//! |---|---|
+//! | `case` | the name of a case, which goes on to the next one |
+//! | `user`, `method`, `secret`, `nonce`, `host` | an option of `lone`, where it isn't the usual one |
+//! | `mbox` | bytes of the mailbox file |
+//! | `C` | a line of the client, which first awaits all replies before it |
+//! | `raw` | bytes that the client sends without waiting |
+//! | `S` | a line of the server |
+//! | `status`, `told` | the exit status, if it isn't 0, and a line on standard error |
+//! | `meanwhile` | what others do to the maildrop at this place: `mail LINES`, `take` or `break` |
+//! | `left` | the unique ids that the next session gets, or `locked` |
+//!
+//! `mbox`, `C`, `raw`, `S` and `told` may say how often their value stands there, as in `C x 3: NOOP`. A case with
+//! `meanwhile` or `left` is one session over a desk, with the limits of nine messages and 1,000 octets.
 
 use crate::case::{Case, Turn};
 use crate::escapes::bytes_of;
@@ -45,6 +59,7 @@ fn add_bytes(case: &mut Case, key: &str, count: u32, bytes: &[u8]) -> Result<boo
         }
         "raw" => extend(&mut case.sent, count, bytes, b"")?,
         "S" => extend(&mut case.wanted, count, bytes, b"\r\n")?,
+        "told" => extend(&mut case.told, count, bytes, b"\n")?,
         _ => return Ok(false),
     }
     Ok(true)
@@ -66,7 +81,6 @@ fn set(case: &mut Case, key: &str, bytes: Vec<u8>) -> bool {
         "secret" => case.settings.secret = bytes,
         "nonce" => case.settings.nonce = bytes,
         "host" => case.settings.host = bytes,
-        "told" => case.told = bytes,
         _ => return false,
     }
     true
@@ -90,7 +104,13 @@ fn add(case: &mut Case, alloc: Global, line: &str) -> Result<(), Fail> {
     if key == "mbox" {
         return add_mbox(case, alloc, count, bytes.as_slice());
     }
-    if add_bytes(case, key, count, bytes.as_slice())? || set(case, key, bytes) {
+    if add_bytes(case, key, count, bytes.as_slice())? {
+        return Ok(());
+    }
+    if count != 1 {
+        Err("this key stands once")?;
+    }
+    if set(case, key, bytes) {
         return Ok(());
     }
     add_words(case, alloc, key, value)

@@ -39,7 +39,7 @@ pub struct Run<'a> {
 #[derive(Clone, Copy)]
 pub struct Wanted<'a> {
     pub status: u8,
-    /// What is told on standard error, without its line end.
+    /// What is told on standard error.
     pub told: &'a [u8],
     pub replies: &'a [u8],
     /// Whether a front of the replies is as good as all of them.
@@ -117,7 +117,7 @@ impl Run<'_> {
         if status != other {
             return Ok(Some(format!(in alloc; "the status is {status}, not {other}")?));
         }
-        let told = self.told.as_str().trim_end_matches('\n').as_bytes();
+        let told = self.told.as_str().as_bytes();
         if told != wanted.told {
             return difference_of_bytes(alloc, "standard error", told, wanted.told);
         }

@@ -71,6 +71,9 @@ fn left_by(alloc: Global, desk: LoneDesk, user: Name) -> Result<String, Fail> {
 
 /// What the run of a case does that is not wanted.
 pub fn difference(alloc: Global, case: &Case) -> Result<Option<String>, Fail> {
+    if case.wants_a_run() {
+        Err("a case with others has no status, no fault and no mailbox file")?;
+    }
     let user = Name::new(case.settings.user.as_slice()).ok_or("no name")?;
     let limits = Limits::new(9, 1_000, 9).ok_or("no limits")?;
     let desk = RefCell::new(LoneDesk::new(alloc, user, limits)?);
