@@ -56,7 +56,8 @@ impl<C, A: Allocator + Copy> Acceptor<C, A> {
 
 impl<C: Payload, A: Allocator + Copy> Acceptor<C, A> {
     /// Hears `Message::P1a`: raises its ballot to this one, if this is higher, and tells what it
-    /// keeps, in slot order. After `Memory` the acceptor is as it was. In proportion to what it keeps.
+    /// keeps, in slot order. After `Memory` the acceptor is as it was. Takes no memory where nothing is
+    /// kept. In proportion to what it keeps.
     pub fn p1a(&mut self, ballot: Ballot) -> Result<Promise<C, A>, Memory>
         ensures state { OnOk result (self.new ≡ after_p1a self.old ballot) }
         ensures answer { IfOk result (λ promise. promise ≡ promise_for self.old ballot) }

@@ -63,8 +63,8 @@ impl<C: Payload, A: Allocator + Copy> Scout<C, A> {
         }
     }
 
-    /// Hears a promise. After `Memory` the scout is as it was. A promise that isn't counted takes no
-    /// memory.
+    /// Hears a promise. After `Memory` the scout is as it was. A promise that isn't counted, or that
+    /// tells nothing, takes no memory.
     pub fn hear(&mut self, from: NodeId, promise: Promise<C, A>) -> Result<Progress<C, A>, Memory>
         ensures state { OnOk result (self.new ≡ record self.old { state = left_by self.old.state (scout_step C.equal self.old from promise) }) }
         ensures progress { IfOk result (λ progress. progress ≡ progress_of (scout_step C.equal self.old from promise)) }
