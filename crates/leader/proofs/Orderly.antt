@@ -35,11 +35,13 @@ module _ {C : Type 0} (A : Type 0) (me size : ℕ) where
   keeps_orderly l Passive s c h fits = changed l (with_slot s c l.proposals) Passive h (rising_with s c l.proposals h.rising) tt
   keeps_orderly l (Scouting scout) s c h fits = changed l (with_slot s c l.proposals) (Scouting scout) h (rising_with s c l.proposals h.rising) fits
   keeps_orderly l (Active ks) s c h fits =
-      changed l (with_slot s c l.proposals) (Active (with_slot s (commander_for l s) ks)) h (rising_with s c l.proposals h.rising)
-      (rising_with s (commander_for l s) ks fits.0, λ k i. ⊎_elim
-      (λ (e : (s, commander_for l s) ≡ k). subst (IsItsCommander size l.ballot (with_slot s c l.proposals)) e (new_commander_fits l s (with_slot s c l.proposals) h.its_cluster (ap is_some (at_slot-with_slot s c l.proposals))))
-      (λ (old : IsIn k ks). let f = fits.1 k old in (f.0, some_with_slot s k.0 c l.proposals f.1, f.2))
-      (in_with_slot s (commander_for l s) ks k i))
+      changed l (with_slot s c l.proposals) (Active (with_slot s (commander_for l s) ks)) h (rising_with s c l.proposals h.rising) (
+        rising_with s (commander_for l s) ks fits.0,
+        λ k i. ⊎_elim
+            (λ (e : (s, commander_for l s) ≡ k). subst (IsItsCommander size l.ballot (with_slot s c l.proposals)) e (new_commander_fits l s (with_slot s c l.proposals) h.its_cluster (ap is_some (at_slot-with_slot s c l.proposals))))
+            (λ (old : IsIn k ks). let f = fits.1 k old in (f.0, some_with_slot s k.0 c l.proposals f.1, f.2))
+            (in_with_slot s (commander_for l s) ks k i),
+      )
   keeps_orderly l Over s c h fits = changed l (with_slot s c l.proposals) Over h (rising_with s c l.proposals h.rising) tt
 
   proposed_orderly : (l : LeaderState C) (s : ℕ) (c : C) → IsOrderly me size l → IsOrderly me size (proposed {A = A} l s c).leader
@@ -109,12 +111,15 @@ module _ {C : Type 0} (A : Type 0) (me size : ℕ) where
         its_cluster = h.its_cluster;
         own_ballot = h.own_ballot;
         rising = rising;
-        waits = (rising_commanders leads proposals [] tt, λ k i.
-            ⊎_elim
-            (λ (n : IsIn k []). absurd n)
-            (λ (x : (e : ℕ × C) × IsIn e proposals × ((e.0, commander_for leads e.0) ≡ k)).
-            subst (IsItsCommander size l.ballot proposals) x.2 (new_commander_fits leads x.0.0 proposals h.its_cluster (ap is_some (rising_found proposals x.0 rising x.1))))
-            (in_commanders leads proposals [] k i));
+        waits = (
+          rising_commanders leads proposals [] tt,
+          λ k i.
+              ⊎_elim
+              (λ (n : IsIn k []). absurd n)
+              (λ (x : (e : ℕ × C) × IsIn e proposals × ((e.0, commander_for leads e.0) ≡ k)).
+              subst (IsItsCommander size l.ballot proposals) x.2 (new_commander_fits leads x.0.0 proposals h.its_cluster (ap is_some (rising_found proposals x.0 rising x.1))))
+              (in_commanders leads proposals [] k i),
+        );
       }
 
   adopted_orderly : (l : LeaderState C) (phase : Phase C) (b : BallotNumber) (ps : List (PValue C)) → IsOrderly me size (in_phase l phase) → IsOrderly me size (adopted {A = A} (in_phase l phase) b ps).leader
@@ -163,12 +168,14 @@ module _ {C : Type 0} (A : Type 0) (me size : ℕ) where
   on_vote_orderly l ks c from v h has mine here distinct (Waits t) e =
       let a = answered_waits size c.ballot c.heard from (same_ballot v.asked c.ballot && eqb v.slot c.slot) v.ballot (commander_counts size (with_vote c from)) t e in
       let is : with_vote c from ≡ t = waits_if (is_quorum size (from ∷ c.heard)) (with_vote c from) t tt a.1 in
-      changed (in_phase l (Active ks)) l.proposals (Active (set_slot v.slot (record { size = size; state = Some t }) ks)) h h.rising
-      (rising_set v.slot (record { size = size; state = Some t }) ks h.waits.0, λ k i. ⊎_elim
-      (λ (q : (v.slot, record { size = size; state = Some t }) ≡ k). subst (IsItsCommander size l.ballot l.proposals) q
-      (refl, has, (t, refl, subst (λ (x : CommanderState). x.ballot ≡ l.ballot) is mine, subst (λ (x : CommanderState). x.slot ≡ v.slot) is here, subst (λ (x : CommanderState). AreDistinct size x.heard) is (a.0.0, a.0.3, distinct))))
-      (λ old. h.waits.1 k old)
-      (in_set_slot v.slot (record { size = size; state = Some t }) ks k i))
+      changed (in_phase l (Active ks)) l.proposals (Active (set_slot v.slot (record { size = size; state = Some t }) ks)) h h.rising (
+        rising_set v.slot (record { size = size; state = Some t }) ks h.waits.0,
+        λ k i. ⊎_elim
+            (λ (q : (v.slot, record { size = size; state = Some t }) ≡ k). subst (IsItsCommander size l.ballot l.proposals) q
+            (refl, has, (t, refl, subst (λ (x : CommanderState). x.ballot ≡ l.ballot) is mine, subst (λ (x : CommanderState). x.slot ≡ v.slot) is here, subst (λ (x : CommanderState). AreDistinct size x.heard) is (a.0.0, a.0.3, distinct))))
+            (λ old. h.waits.1 k old)
+            (in_set_slot v.slot (record { size = size; state = Some t }) ks k i),
+      )
   on_vote_orderly l ks c from v h has mine here distinct (Wins r) e =
       changed (in_phase l (Active ks)) l.proposals (Active (without_slot v.slot (set_slot v.slot (record { size = size; state = None }) ks))) h h.rising
       (rising_without v.slot (set_slot v.slot (record { size = size; state = None }) ks) (rising_set v.slot (record { size = size; state = None }) ks h.waits.0), λ k i. h.waits.1 k (in_without_set v.slot (record { size = size; state = None }) ks k i))
@@ -177,11 +184,13 @@ module _ {C : Type 0} (A : Type 0) (me size : ℕ) where
       (never_yields (is_quorum size (from ∷ c.heard)) (with_vote c from) tt b) e in
       higher_orderly (in_phase l (Active ks)) (Active (set_slot v.slot (record { size = size; state = None }) ks)) b h (subst (λ x. below x b ≡ true) mine up)
   on_vote_orderly l ks c from v h has mine here distinct Ignores e =
-      changed (in_phase l (Active ks)) l.proposals (Active (set_slot v.slot (record { size = size; state = Some c }) ks)) h h.rising
-      (rising_set v.slot (record { size = size; state = Some c }) ks h.waits.0, λ k i. ⊎_elim
-      (λ (q : (v.slot, record { size = size; state = Some c }) ≡ k). subst (IsItsCommander size l.ballot l.proposals) q (refl, has, (c, refl, mine, here, distinct)))
-      (λ old. h.waits.1 k old)
-      (in_set_slot v.slot (record { size = size; state = Some c }) ks k i))
+      changed (in_phase l (Active ks)) l.proposals (Active (set_slot v.slot (record { size = size; state = Some c }) ks)) h h.rising (
+        rising_set v.slot (record { size = size; state = Some c }) ks h.waits.0,
+        λ k i. ⊎_elim
+            (λ (q : (v.slot, record { size = size; state = Some c }) ≡ k). subst (IsItsCommander size l.ballot l.proposals) q (refl, has, (c, refl, mine, here, distinct)))
+            (λ old. h.waits.1 k old)
+            (in_set_slot v.slot (record { size = size; state = Some c }) ks k i),
+      )
 
   hears_vote_orderly : (l : LeaderState C) (phase : Phase C) (from : ℕ) (v : Vote) → IsOrderly me size (in_phase l phase) → IsOrderly me size (hears_vote {A = A} (in_phase l phase) from v).leader
   hears_vote_orderly l Passive from v h = h
