@@ -105,9 +105,8 @@ module _ {A : Type 0} where
             let behind : IsPrefix transcript.lines (lines_of (bytes.read ++ rest)) = heard_front transcript.lines (lines_of bytes.read) (lines_of (bytes.read ++ rest)) bytes.heard (lines_front bytes.read rest) in
             rw (is, ← behind.1) (ap (with_reply (greeting stamp.nonce stamp.host)) (closed_ends accounts stamp 0 transcript.lines behind.0 opening (answers_of transcript.asked) state))
         | inr hung_up ↦
-            let heard = bytes.heard_all hung_up in
-            let none : rest ≡ [] = heard.1 in
-            let whole : transcript.lines ≡ lines_of input = heard.0 ∙ ap lines_of (sym (is ∙ ap (λ more. bytes.read ++ more) none ∙ append-nil bytes.read)) in
+            let none : rest ≡ [] = bytes.at_end hung_up in
+            let whole : transcript.lines ≡ lines_of input = bytes.heard_all (inl hung_up) ∙ ap lines_of (sym (is ∙ ap (λ more. bytes.read ++ more) none ∙ append-nil bytes.read)) in
             ap (λ lines. conversation accounts stamp lines (answers_of transcript.asked)) (sym whole)
       ] in
       let same : conversation accounts stamp (lines_of input) (answers_in desk.office own) ≡ told accounts stamp transcript =

@@ -1,5 +1,5 @@
 -- The input, piece by piece.
-use Rattle.std.proofs.Common.{◌≡◌, ◌≢◌, ◌⊎◌, ℕ, ◌<◌, true, List, [], ◌∷◌, ◌++◌, length, take, drop, Option, refl, ap, sym, ◌∙◌, append_assoc, append-nil, arith, subst}
+use Rattle.std.proofs.Common.{◌≡◌, ◌≢◌, ◌⊎◌, ℕ, ◌<◌, true, List, [], ◌∷◌, ◌++◌, length, take, drop, Option, refl, ap, sym, ◌∙◌, append_assoc, append-nil, arith, subst, inl, inr}
 use Rattle.std.proofs.lemmas.List.{length-append, take-append-drop}
 use Rattle.std.specs.Io.KnownBytes.{Appends, Consumes, IsAtEnd}
 use Rattle.apop.specs.Stamp.{Stamp}
@@ -24,12 +24,17 @@ use Rattle.session.proofs.Streams.{appends_none, appends_join, consumes_none}
 abbrev pub NextLine : Kept → Kept → List ℕ → List ℕ → Line → Type 0
 NextLine kept after rest behind line = (more : List ℕ) → lines_after kept (rest ++ more) ≡ line ∷ lines_after after (behind ++ more)
 
--- no stop is the end of the input
-pub unended : (reason : Stop) → end_of reason ≢ end.HungUp
-unended stop.Closed = λ same. absurd (cc)
-unended stop.WriteFault = λ same. absurd (cc)
-unended stop.DeskStopped = λ same. absurd (cc)
-unended stop.Memory = λ same. absurd (cc)
+-- no stop is the end of the input, or a fault of its reader
+pub unended : (reason : Stop) → (end_of reason ≢ end.HungUp) × (end_of reason ≢ end.ReadFault)
+unended stop.Closed = (λ same. absurd (cc), λ same. absurd (cc))
+unended stop.WriteFault = (λ same. absurd (cc), λ same. absurd (cc))
+unended stop.DeskStopped = (λ same. absurd (cc), λ same. absurd (cc))
+unended stop.Memory = (λ same. absurd (cc), λ same. absurd (cc))
+
+-- an end that is neither
+never_out : {P : Type 0} (ended : End) → (ended ≢ end.HungUp) × (ended ≢ end.ReadFault) → (ended ≡ end.HungUp) ⊎ (ended ≡ end.ReadFault) → P
+never_out ended other (inl hung_up) = absurd (other.0 hung_up)
+never_out ended other (inr failed) = absurd (other.1 failed)
 
 prefix_of_prefix : {T : Type 0} (xs ys zs : List T) → IsPrefix xs ys → IsPrefix ys zs → IsPrefix xs zs
 prefix_of_prefix xs ys zs first second = (first.0 ++ second.0, sym (append_assoc xs first.0 second.0) ∙ ap (λ front. front ++ second.0) first.1 ∙ second.1)
@@ -105,13 +110,14 @@ module _ {A : Type 0} where
         consumed = consumed;
         appended = front.appended;
         cut = ([], append-nil front.lines ∙ whole);
-        cut_all = λ hung_up. (front.run.heard ∙ ap (λ lines. old.lines ++ lines) whole, over hung_up);
+        cut_all = λ out. front.run.heard ∙ ap (λ lines. old.lines ++ lines) whole;
+        at_end = over;
       }
 
   -- the session stopped in the last piece
   pub listened_stop : {D : Type 0} (accounts : List Account) (stamp : Stamp) (gives : D → Given A → D → Type 0) (old middle new : Place A D) (fed : Kept) (read piece : List ℕ) (ended : End) (remaining remaining2 contents contents2 contents3 : Option (List ℕ))
       → IsPieceFront accounts stamp gives old middle (Open []) fed read [] contents contents2 → IsPieceStop accounts middle.stamp gives middle new fed piece ended contents2 contents3
-      → Consumes remaining remaining2 (read ++ piece) → ended ≢ end.HungUp
+      → Consumes remaining remaining2 (read ++ piece) → (ended ≢ end.HungUp) × (ended ≢ end.ReadFault)
       → IsListened accounts stamp gives old new ended remaining remaining2 contents contents3
   listened_stop accounts stamp gives old middle new fed read piece ended remaining remaining2 contents contents2 contents3 front stop consumed served = record {
     read = read ++ piece;
@@ -125,7 +131,8 @@ module _ {A : Type 0} where
           behind.0,
           append_assoc front.lines stop.lines behind.0 ∙ ap (λ lines. front.lines ++ lines) (behind.1 ∙ ap (λ bytes. lines_after fed bytes) (append-nil piece)) ∙ sym (front.cut piece),
         );
-    cut_all = λ hung_up. absurd (served hung_up);
+    cut_all = never_out ended served;
+    at_end = λ hung_up. absurd (served.0 hung_up);
   }
 
   -- the greeting is written, and the input served
@@ -155,7 +162,7 @@ module _ {A : Type 0} where
           heard =
               let inside = prefix_of_prefix stop.front listened.lines (lines_of listened.read) stop.front_of listened.cut in
               rw heard inside;
-          heard_all = λ hung_up. (listened.cut_all hung_up).0 ∙ ap (λ xs. xs ++ lines_of listened.read) lines;
+          heard_all = λ out. listened.cut_all out ∙ ap (λ xs. xs ++ lines_of listened.read) lines;
           counted = omega (arith, stop.counted, count, length-append greeted listened.written);
           said = written_after ended (greeted ∷ []) stop.replies greeted listened.written (sym (append-nil greeted)) stop.said;
           given = rw kept stop.given;
@@ -164,7 +171,7 @@ module _ {A : Type 0} where
           due = stop.due;
           room = stop.room;
         };
-        at_end = λ hung_up. (listened.cut_all hung_up).1;
+        at_end = listened.at_end;
       }
 
   -- the greeting was not written whole
@@ -184,7 +191,7 @@ module _ {A : Type 0} where
           talk = rw (lines, asked, is) refl;
           each_heard = λ n few. let none = rw lines at few in absurd (omega (arith, none));
           heard = rw lines ([], refl);
-          heard_all = λ same. absurd (cc);
+          heard_all = never_out end.WriteFault (unended stop.WriteFault);
           counted = count ∙ sym sized;
           said = rw (append-nil greeted) ((drop sent greeted, take-append-drop sent greeted), omega (arith, less, sized));
           given = rw asked refl;

@@ -73,7 +73,8 @@ module _ {A : Type 0} where
         consumed = conversed.consumed;
         appended = conversed.appended;
         heard = rw hung.lines talk.heard;
-        heard_all = λ hung_up. (hung.lines ∙ talk.heard_all hung_up, conversed.at_end hung_up);
+        heard_all = λ out. hung.lines ∙ talk.heard_all out;
+        at_end = conversed.at_end;
         counted = hung.count ∙ talk.counted;
         said = subst (λ (c : Conversation A). IsWrittenBy ended (concat c.replies) conversed.written) (sym same) talk.said;
       })
@@ -104,7 +105,11 @@ module _ {A : Type 0} where
     consumed = consumes_none remaining;
     appended = appends_none contents;
     heard = ([], refl);
-    heard_all = λ same. absurd (cc);
+    heard_all = λ out. elim out [
+      | inl same ↦ absurd (cc)
+      | inr same ↦ absurd (cc)
+    ];
+    at_end = λ same. absurd (cc);
     counted = refl;
     said = (_, refl);
   })

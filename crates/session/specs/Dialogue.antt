@@ -234,7 +234,7 @@ module _ {A : Type 0} where
     pub talk : conversation accounts stamp new.lines (answers_of new.asked) ≡ record { replies = replies; asked = requests_of new.asked; state = last }
     pub each_heard : (n : ℕ) → n < length new.lines → hears (conversation accounts stamp (take n new.lines) (answers_of new.asked)).state ≡ true
     pub heard : IsPrefix new.lines (lines_of read)
-    pub heard_all : ended ≡ end.HungUp → new.lines ≡ lines_of read
+    pub heard_all : (ended ≡ end.HungUp) ⊎ (ended ≡ end.ReadFault) → new.lines ≡ lines_of read
     pub counted : new.count ≡ length written
     pub said : IsWrittenBy ended (concat replies) written
     pub given : IsHistory gives before new.asked new.desk
@@ -277,7 +277,8 @@ module _ {A : Type 0} where
     pub consumed : Consumes remaining remaining2 read
     pub appended : Appends contents contents2 written
     pub cut : IsPrefix lines (lines_of read)
-    pub cut_all : ended ≡ end.HungUp → (new.lines ≡ old.lines ++ lines_of read) × IsAtEnd remaining2
+    pub cut_all : (ended ≡ end.HungUp) ⊎ (ended ≡ end.ReadFault) → new.lines ≡ old.lines ++ lines_of read
+    pub at_end : ended ≡ end.HungUp → IsAtEnd remaining2
 
   -- The same with the greeting.
   pub record IsConversed {D : Type 0} (accounts : List Account) (stamp : Stamp) (gives : D → Given A → D → Type 0) (before : D) (new : Place A D) (ended : End) (remaining remaining2 contents contents2 : Option (List ℕ)) : Type 0 where

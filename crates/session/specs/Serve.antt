@@ -97,9 +97,10 @@ pub record IsReadAndWritten {A : Type 0} (accounts : List Account) (stamp : Stam
   pub written : List ℕ
   pub consumed : Consumes remaining remaining2 read
   pub appended : Appends contents contents2 written
-  -- the lines are a front of those that were read, and at the end of the input all of them
+  -- the lines are a front of those that were read, and all of them where the input ended or its reader failed
   pub heard : IsPrefix transcript.lines (lines_of read)
-  pub heard_all : transcript.end ≡ end.HungUp → (transcript.lines ≡ lines_of read) × IsAtEnd remaining2
+  pub heard_all : (transcript.end ≡ end.HungUp) ⊎ (transcript.end ≡ end.ReadFault) → transcript.lines ≡ lines_of read
+  pub at_end : transcript.end ≡ end.HungUp → IsAtEnd remaining2
   -- what was written is counted, and is what the session says
   pub counted : transcript.count ≡ length written
   pub said : IsWrittenBy transcript.end (concat (told accounts stamp transcript).replies) written
