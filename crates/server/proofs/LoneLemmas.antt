@@ -36,9 +36,9 @@ use Rattle.server.specs.declared.lone_desk.LoneDesk.{LoneDesk}
 abbrev IsOver : End → Type 0
 IsOver ended = (ended ≡ end.Closed) ⊎ (ended ≡ end.HungUp)
 
-all-written : (ended : End) (said written : List ℕ) → IsOver ended → IsWrittenBy ended said written → written ≡ said
-all-written ended said written (inl closed) some = subst (λ e. IsWrittenBy e said written) closed some
-all-written ended said written (inr hung_up) some = subst (λ e. IsWrittenBy e said written) hung_up some
+all-written : (ended : End) (replies : List (List ℕ)) (written : List ℕ) → IsOver ended → IsWrittenBy ended replies written → written ≡ concat replies
+all-written ended replies written (inl closed) some = subst (λ e. IsWrittenBy e replies written) closed some
+all-written ended replies written (inr hung_up) some = subst (λ e. IsWrittenBy e replies written) hung_up some
 
 -- what a result that is no fault leads to
 pub over_ok : {T E Q P : Type 0} (result : Result T E) → (IsOk result ↔ Q) → (Q → P) → OnOk result P
@@ -114,7 +114,7 @@ module _ {A : Type 0} where
       record {
         own = own;
         asked = sym (commands_asked desk.next entries answered) ∙ ap (λ asked. commands_from desk.next asked) talk.asked ∙ ap (λ (c : Conversation A). commands_from desk.next c.asked) (sym same);
-        replied = all-written transcript.end (concat (told accounts stamp transcript).replies) bytes.written over bytes.said ∙ ap (λ (c : Conversation A). concat c.replies) (sym same);
+        replied = all-written transcript.end (told accounts stamp transcript).replies bytes.written over bytes.said ∙ ap (λ (c : Conversation A). concat c.replies) (sym same);
       }
 
   -- where the input is known, all of it was answered

@@ -1,7 +1,6 @@
 -- What a line and the desk's answer lead to.
 use Rattle.std.proofs.Common.{◌≡◌, ◌≢◌, ◌↔◌, ℕ, ◌+◌, ◌<◌, true, false, List, [], ◌∷◌, ◌++◌, length, Option, Some, None, refl, ap, sym, ◌∙◌, append-nil, arith, inl, inr, subst}
 use Rattle.std.specs.Prelude.{Result, Ok, Err, IfOk, IfErr}
-use Rattle.std.specs.List.{concat}
 use Rattle.std.proofs.lemmas.Bool.{cases_Bool}
 use Rattle.maildrop.specs.Ticket.{Ticket}
 use Rattle.maildrop.specs.declared.op.Op.{Op}
@@ -12,6 +11,7 @@ use Rattle.pop3_wire.specs.declared.line.Line.{Line}
 use Rattle.session.specs.Desks.{Given}
 use Rattle.session.specs.Session.{hears, awaits_answer, is_closed, lock_due, lock_got, by_line, by_answer}
 use Rattle.session.specs.Conversation.{silence, with_request, after_said, after_asked, conversation_from}
+use Rattle.session.specs.Serve.{IsWrittenBy}
 use Rattle.session.specs.Transcript.{answer_by, answers_of, requests_of, given_of}
 use Rattle.session.specs.declared.state.State.{State}
 use Rattle.session.specs.declared.state.State.TheVariants as state
@@ -46,6 +46,12 @@ module _ {A : Type 0} where
   said-after (Say bytes) state = refl
   said-after (SayAndClose bytes) state = refl
   said-after (Ask user op) state = refl
+
+  -- of what is to be said nothing is
+  unsaid : (step : Step A) → IsWrittenBy end.Memory (said_by step) []
+  unsaid (Say bytes) = inr (record { front = []; last = bytes; in_order = refl; said = refl })
+  unsaid (SayAndClose bytes) = inr (record { front = []; last = bytes; in_order = refl; said = refl })
+  unsaid (Ask user op) = inl refl
 
   -- what the desk gave is no outcome that fits
   unfit-silenced : (old new : State A) (ticket : Option Ticket) (outcome : Option (Outcome A)) → awaits_answer old ≡ true → after_asked quiet old (answer_by ticket outcome) ≡ silence old → lock_due new ≡ None
@@ -90,7 +96,7 @@ module _ {A : Type 0} where
         replies = said_by turn.step;
         last = turn.state;
         talk = rw fits (said-after turn.step turn.state);
-        said = (concat (said_by turn.step), refl);
+        said = unsaid turn.step;
         answered = λ line user op. (record { line = line; ticket = ticket; outcome = outcome; asked_by = refl; ticketed = refl; answered = refl }, tt);
         left = settled.says;
         due = ap lock_due spent ∙ settled.lock;
@@ -145,7 +151,7 @@ module _ {A : Type 0} where
     front_of = (line ∷ [], refl);
     heard = lines ∙ sym (append-nil old.lines);
     asked = asked ∙ sym (append-nil old.asked);
-    said = ([], refl);
+    said = inl refl;
     counted = omega (arith, count);
     given = desk;
     answered = tt;

@@ -1,6 +1,6 @@
 -- The input, piece by piece.
-use Rattle.std.proofs.Common.{◌≡◌, ◌≢◌, ◌⊎◌, ℕ, ◌<◌, true, List, [], ◌∷◌, ◌++◌, length, take, drop, Option, refl, ap, sym, ◌∙◌, append_assoc, append-nil, arith, subst, inl, inr}
-use Rattle.std.proofs.lemmas.List.{length-append, take-append-drop}
+use Rattle.std.proofs.Common.{◌≡◌, ◌≢◌, ◌⊎◌, ℕ, ◌<◌, true, List, [], ◌∷◌, ◌++◌, length, take, Option, refl, ap, sym, ◌∙◌, append_assoc, append-nil, arith, subst, inl, inr}
+use Rattle.std.proofs.lemmas.List.{length-append}
 use Rattle.std.specs.Io.KnownBytes.{Appends, Consumes, IsAtEnd}
 use Rattle.apop.specs.Stamp.{Stamp}
 use Rattle.apop.specs.Accounts.{Account}
@@ -17,7 +17,7 @@ use Rattle.session.specs.declared.transcript.End.TheVariants as end
 use Rattle.session.specs.declared.stop.Stop.{Stop}
 use Rattle.session.specs.declared.stop.Stop.TheVariants as stop
 use Rattle.session.specs.Dialogue.{Place, end_of, IsRun, IsStop, IsPieceFront, IsPieceStop, IsListened, IsConversed}
-use Rattle.session.proofs.Runs.{run_none, run_join, run_stop, run_ends, written_after, length_taken}
+use Rattle.session.proofs.Runs.{run_none, run_join, run_stop, run_ends, written_after, cut_first, length_taken}
 use Rattle.session.proofs.Streams.{appends_none, appends_join, consumes_none}
 
 -- a line of the rest, and what is behind it
@@ -193,7 +193,7 @@ module _ {A : Type 0} where
           heard = rw lines ([], refl);
           heard_all = never_out end.WriteFault (unended stop.WriteFault);
           counted = count ∙ sym sized;
-          said = rw (append-nil greeted) ((drop sent greeted, take-append-drop sent greeted), omega (arith, less, sized));
+          said = cut_first greeted sent less;
           given = rw asked refl;
           answered = rw asked tt;
           left = refl;

@@ -18,7 +18,7 @@ use Rattle.session.specs.declared.dialogue.Saying.{Saying}
 use Rattle.session.specs.declared.transcript.Asked.{Asked}
 use Rattle.session.specs.declared.transcript.End.{End}
 use Rattle.session.specs.declared.transcript.End.TheVariants as end
-use Rattle.session.specs.Serve.{IsLeftBy, IsWrittenBy, AreAnsweredAt}
+use Rattle.session.specs.Serve.{IsLeftBy, IsWrittenBy, IsCutInLast, AreAnsweredAt}
 use Rattle.session.specs.Dialogue.{Place, step_of, IsSettled, IsPart, IsRun, IsStop, IsHeard}
 use Rattle.session.proofs.Parts.{part_join, part_ends, part_then, heard_behind, answers_append, history_join, answered_join}
 use Rattle.session.proofs.Settled.{heard_awaits}
@@ -48,18 +48,48 @@ numbered old middle more grown = ap length grown ∙ length-append old more
 concats : (replies replies2 : List (List ℕ)) (xs ys : List ℕ) → xs ≡ concat replies → ys ≡ concat replies2 → xs ++ ys ≡ concat (replies ++ replies2)
 concats replies replies2 xs ys first second = ap (λ bytes. bytes ++ ys) first ∙ ap (λ bytes. concat replies ++ bytes) second ∙ sym (concat-append replies replies2)
 
--- what is written behind what was written before
-written_behind : (ended : End) (front said written : List ℕ) → IsWrittenBy ended said written → IsWrittenBy ended (front ++ said) (front ++ written)
-written_behind end.Closed front said written all = ap (λ bytes. front ++ bytes) all
-written_behind end.HungUp front said written all = ap (λ bytes. front ++ bytes) all
-written_behind end.ReadFault front said written all = ap (λ bytes. front ++ bytes) all
-written_behind end.WriteFault front said written less = (prefix_behind front written said less.0, omega (arith, length-append front written, length-append front said, less.1))
-written_behind end.DeskStopped front said written all = ap (λ bytes. front ++ bytes) all
-written_behind end.Memory front said written some = prefix_behind front written said some
+behind_all : (front replies : List (List ℕ)) (written : List ℕ) → written ≡ concat replies → concat front ++ written ≡ concat (front ++ replies)
+behind_all front replies written all = ap (λ bytes. concat front ++ bytes) all ∙ sym (concat-append front replies)
 
-pub written_after : (ended : End) (replies replies2 : List (List ℕ)) (written written2 : List ℕ) → written ≡ concat replies → IsWrittenBy ended (concat replies2) written2 → IsWrittenBy ended (concat (replies ++ replies2)) (written ++ written2)
-written_after ended replies replies2 written written2 before behind =
-    rw (before, concat-append replies replies2) (written_behind ended (concat replies) (concat replies2) written2 behind)
+-- what is written behind replies that were written before
+written_behind : (ended : End) (front replies : List (List ℕ)) (written : List ℕ) → IsWrittenBy ended replies written → IsWrittenBy ended (front ++ replies) (concat front ++ written)
+written_behind end.Closed front replies written all = behind_all front replies written all
+written_behind end.HungUp front replies written all = behind_all front replies written all
+written_behind end.ReadFault front replies written all = behind_all front replies written all
+written_behind end.WriteFault front replies written less = record {
+  front = front ++ less.front;
+  last = less.last;
+  sent = less.sent;
+  in_order = ap (λ replies. front ++ replies) less.in_order ∙ sym (append_assoc front less.front (less.last ∷ []));
+  said =
+      ap (λ bytes. concat front ++ bytes) less.said ∙ sym (append_assoc (concat front) (concat less.front) less.sent)
+      ∙ ap (λ bytes. bytes ++ less.sent) (sym (concat-append front less.front));
+  cut = less.cut;
+  less = less.less;
+}
+written_behind end.DeskStopped front replies written all = behind_all front replies written all
+written_behind end.Memory front replies written (inl all) = inl (behind_all front replies written all)
+written_behind end.Memory front replies written (inr some) = inr (record {
+  front = front ++ some.front;
+  last = some.last;
+  in_order = ap (λ replies. front ++ replies) some.in_order ∙ sym (append_assoc front some.front (some.last ∷ []));
+  said = behind_all front some.front written some.said;
+})
+
+pub written_after : (ended : End) (replies replies2 : List (List ℕ)) (written written2 : List ℕ) → written ≡ concat replies → IsWrittenBy ended replies2 written2 → IsWrittenBy ended (replies ++ replies2) (written ++ written2)
+written_after ended replies replies2 written written2 before behind = rw before (written_behind ended replies replies2 written2 behind)
+
+-- a front of a reply alone is not all of it
+pub cut_first : (reply : List ℕ) (sent : ℕ) → sent < length reply → IsCutInLast (reply ∷ []) (take sent reply)
+cut_first reply sent less = record {
+  front = [];
+  last = reply;
+  sent = take sent reply;
+  in_order = refl;
+  said = refl;
+  cut = (drop sent reply, take-append-drop sent reply);
+  less = omega (arith, less, length_taken sent reply (omega (arith, less)));
+}
 
 module _ {A : Type 0} where
   pub run_join : {D : Type 0} (accounts : List Account) (stamp : Stamp) (gives : D → Given A → D → Type 0) (old middle new : Place A D) (lines lines2 : List Line) (written written2 : List ℕ)
@@ -218,7 +248,7 @@ module _ {A : Type 0} where
   -- one line was heard, and the session stops then, with this of what it says written
   heard_stop : {D : Type 0} (accounts : List Account) (stamp : Stamp) (gives : D → Given A → D → Type 0) (old heard new : Place A D) (line : Line) (saying : Saying A) (written : List ℕ) (ended : End)
       → (hearing : IsHeard accounts stamp gives old heard line saying) → new ≡ with_count (heard.count + length written) heard
-      → IsWrittenBy ended (saying.bytes ++ []) written → AreAnsweredAt ended heard.state hearing.entries → IsLeftBy ended heard.state
+      → IsWrittenBy ended (saying.bytes ∷ []) written → AreAnsweredAt ended heard.state hearing.entries → IsLeftBy ended heard.state
       → IsStop accounts stamp gives old new (line ∷ []) ended written
   heard_stop accounts stamp gives old heard new line saying written ended hearing is said answered left = rw is (record {
     entries = hearing.entries;
@@ -257,5 +287,4 @@ module _ {A : Type 0} where
   unwritten_stop accounts stamp gives old heard new line saying sent hearing is less =
       let count : length (take sent saying.bytes) ≡ sent = length_taken sent saying.bytes (omega (arith, less)) in
       heard_stop accounts stamp gives old heard new line saying (take sent saying.bytes) end.WriteFault hearing (rw count is)
-      (rw (append-nil saying.bytes) ((drop sent saying.bytes, take-append-drop sent saying.bytes), omega (arith, less, count)))
-      hearing.answered (settled saying heard.state hearing.settled)
+      (cut_first saying.bytes sent less) hearing.answered (settled saying heard.state hearing.settled)

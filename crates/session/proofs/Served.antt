@@ -1,6 +1,5 @@
 -- The transcript of a session that was served.
 use Rattle.std.proofs.Common.{◌≡◌, ℕ, ◌<◌, List, [], ◌∷◌, ◌++◌, length, Option, Some, None, refl, ap, sym, ◌∙◌, append-nil, arith, inl, inr, subst}
-use Rattle.std.specs.List.{concat}
 use Rattle.maildrop.specs.Ticket.{Ticket}
 use Rattle.maildrop.specs.declared.op.Op.{Op}
 use Rattle.maildrop.specs.declared.outcome.Outcome.{Outcome}
@@ -76,7 +75,7 @@ module _ {A : Type 0} where
         heard_all = λ out. hung.lines ∙ talk.heard_all out;
         at_end = conversed.at_end;
         counted = hung.count ∙ talk.counted;
-        said = subst (λ (c : Conversation A). IsWrittenBy ended (concat c.replies) conversed.written) (sym same) talk.said;
+        said = subst (λ (c : Conversation A). IsWrittenBy ended c.replies conversed.written) (sym same) talk.said;
       })
 
   pub historic : {D : Type 0} (accounts : List Account) (stamp : Stamp) (gives : D → Given A → D → Type 0) (before : D) (old new : Place A D) (ended : End) (remaining remaining2 contents contents2 : Option (List ℕ))
@@ -111,5 +110,5 @@ module _ {A : Type 0} where
     ];
     at_end = λ same. absurd (cc);
     counted = refl;
-    said = (_, refl);
+    said = inr (record { front = []; last = _; in_order = refl; said = refl });
   })

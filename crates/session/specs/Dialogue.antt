@@ -98,7 +98,7 @@ module _ {A : Type 0} where
     pub front_of : IsPrefix front lines
     pub heard : new.lines ≡ old.lines ++ front
     pub asked : new.asked ≡ old.asked ++ entries
-    pub said : IsWrittenBy ended (concat replies) written
+    pub said : IsWrittenBy ended replies written
     pub counted : new.count ≡ old.count + length written
     pub given : IsHistory gives old.desk entries new.desk
     pub answered : AreAnsweredAt ended last entries
@@ -154,7 +154,7 @@ module _ {A : Type 0} where
     pub replies : List (List ℕ)
     pub last : State A
     pub talk : after_asked quiet old (answer_by ticket outcome) ≡ record { replies = replies; asked = []; state = last }
-    pub said : IsWrittenBy ended (concat replies) []
+    pub said : IsWrittenBy ended replies []
     pub answered : (line : ℕ) (user : List ℕ) (op : Op A) → AreAnsweredAt ended last (entry_of line user op ticket outcome ∷ [])
     pub left : IsLeftBy ended last
     pub due : lock_due new ≡ lock_due last
@@ -236,7 +236,7 @@ module _ {A : Type 0} where
     pub heard : IsPrefix new.lines (lines_of read)
     pub heard_all : (ended ≡ end.HungUp) ⊎ (ended ≡ end.ReadFault) → new.lines ≡ lines_of read
     pub counted : new.count ≡ length written
-    pub said : IsWrittenBy ended (concat replies) written
+    pub said : IsWrittenBy ended replies written
     pub given : IsHistory gives before new.asked new.desk
     pub answered : AreAnsweredAt ended last new.asked
     pub left : IsLeftBy ended last

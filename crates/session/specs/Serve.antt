@@ -81,15 +81,32 @@ module _ {A : Type 0} where
     pub answered : AreAnsweredAt transcript.end (told accounts stamp transcript).state entries
     pub freed : IsFreed (free_of (lock_due (told accounts stamp transcript).state)) hangup
 
--- How much of what a session says was written at each end: all of it; or less, where a write failed; or some, since
--- there was no memory for the last reply.
-abbrev pub IsWrittenBy : End → List ℕ → List ℕ → Type 0
-IsWrittenBy end.Closed said written = written ≡ said
-IsWrittenBy end.HungUp said written = written ≡ said
-IsWrittenBy end.ReadFault said written = written ≡ said
-IsWrittenBy end.WriteFault said written = IsPrefix written said × (length written < length said)
-IsWrittenBy end.DeskStopped said written = written ≡ said
-IsWrittenBy end.Memory said written = IsPrefix written said
+-- All of the replies but the last were written.
+pub record IsAllButLast (replies : List (List ℕ)) (written : List ℕ) : Type 0 where
+  pub front : List (List ℕ)
+  pub last : List ℕ
+  pub in_order : replies ≡ front ++ last ∷ []
+  pub said : written ≡ concat front
+
+-- The same, and then a front of the last, but not all of it.
+pub record IsCutInLast (replies : List (List ℕ)) (written : List ℕ) : Type 0 where
+  pub front : List (List ℕ)
+  pub last : List ℕ
+  pub sent : List ℕ
+  pub in_order : replies ≡ front ++ last ∷ []
+  pub said : written ≡ concat front ++ sent
+  pub cut : IsPrefix sent last
+  pub less : length sent < length last
+
+-- How much of its replies a session has written at each end: each of them; where a write failed, less than all of the
+-- last; where there was no memory, each of them or all but the last. None stands behind one that isn't written whole.
+abbrev pub IsWrittenBy : End → List (List ℕ) → List ℕ → Type 0
+IsWrittenBy end.Closed replies written = written ≡ concat replies
+IsWrittenBy end.HungUp replies written = written ≡ concat replies
+IsWrittenBy end.ReadFault replies written = written ≡ concat replies
+IsWrittenBy end.WriteFault replies written = IsCutInLast replies written
+IsWrittenBy end.DeskStopped replies written = written ≡ concat replies
+IsWrittenBy end.Memory replies written = (written ≡ concat replies) ⊎ IsAllButLast replies written
 
 -- With this transcript these bytes were taken from a reader, and these were given to a writer.
 pub record IsReadAndWritten {A : Type 0} (accounts : List Account) (stamp : Stamp) (transcript : Transcript A) (remaining remaining2 contents contents2 : Option (List ℕ)) : Type 0 where
@@ -101,6 +118,6 @@ pub record IsReadAndWritten {A : Type 0} (accounts : List Account) (stamp : Stam
   pub heard : IsPrefix transcript.lines (lines_of read)
   pub heard_all : (transcript.end ≡ end.HungUp) ⊎ (transcript.end ≡ end.ReadFault) → transcript.lines ≡ lines_of read
   pub at_end : transcript.end ≡ end.HungUp → IsAtEnd remaining2
-  -- what was written is counted, and is what the session says
+  -- what was written is counted, and is the replies of the session, as far as its end says
   pub counted : transcript.count ≡ length written
-  pub said : IsWrittenBy transcript.end (concat (told accounts stamp transcript).replies) written
+  pub said : IsWrittenBy transcript.end (told accounts stamp transcript).replies written
