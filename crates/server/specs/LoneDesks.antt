@@ -1,5 +1,5 @@
 -- What the desk of a lone session gives.
-use Rattle.std.specs.Prelude.{◌≡◌, ◌+◌, Option, Some, None, IfSome}
+use Rattle.std.specs.Prelude.{◌≡◌, ◌+◌, Option, Some, None, IfSome, is_some}
 use Rattle.maildrop.specs.Ticket.{Ticket}
 use Rattle.maildrop.specs.Office.{outcome_in, users_after}
 use Rattle.maildrop.specs.declared.command.Command.{Command}
@@ -11,7 +11,7 @@ module _ {A : Type 0} where
   abbrev pub command_of : Given A → Ticket → Command A
   command_of given ticket = record { user = given.user; ticket = ticket; op = given.op }
 
-  -- where it gave no ticket it did nothing
+  -- where it gave no ticket it did nothing, and where it gave one also the outcome that is awaited
   abbrev pub GivesTicket : LoneDesk A → Given A → LoneDesk A → Option Ticket → Type 0
   GivesTicket old given new None = (new ≡ old) × (given.outcome ≡ None)
   GivesTicket old given new (Some ticket) =
@@ -19,6 +19,7 @@ module _ {A : Type 0} where
       × (new.office ≡ users_after old.office (command_of given ticket))
       × (new.next ≡ old.next + 1)
       × IfSome given.outcome (λ outcome. outcome ≡ outcome_in old.office (command_of given ticket))
+      × (is_some given.outcome ≡ given.awaited)
 
   -- the office performs each operation under the next ticket
   abbrev pub Gives : LoneDesk A → Given A → LoneDesk A → Type 0
