@@ -6,6 +6,7 @@ mod ballot;
 mod cluster;
 mod items;
 mod laws;
+mod machine;
 mod memory;
 mod message;
 mod node_id;
@@ -21,6 +22,7 @@ pub use items::Items;
 pub use laws::{
     a_union_holds_both, ballots_are_ordered, distinct_nodes_are_counted, majorities_share_a_node,
 };
+pub use machine::Machine;
 pub use memory::Memory;
 pub use message::{Envelope, Message, Promise, Vote};
 pub use node_id::{LAST_NODE, NodeId};
