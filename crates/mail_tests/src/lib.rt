@@ -5,6 +5,8 @@
 #[cfg(test)]
 mod accounts_tests;
 #[cfg(test)]
+mod command_tests;
+#[cfg(test)]
 mod mailbox_tests;
 #[cfg(test)]
 mod office_tests;

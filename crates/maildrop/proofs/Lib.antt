@@ -5,3 +5,5 @@ pub mod Users
 pub mod FewKeys
 pub mod TextLemmas
 pub mod FileLemmas
+pub mod KeyLemmas
+pub mod RisingIds

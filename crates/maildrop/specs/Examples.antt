@@ -6,7 +6,9 @@ use Rattle.maildrop.specs.Text.{octets_of}
 use Rattle.maildrop.specs.Limits.{Limits}
 use Rattle.maildrop.specs.Ticket.{Ticket}
 use Rattle.maildrop.specs.Maildrop.{empty_maildrop}
-use Rattle.maildrop.specs.Office.{new_user, outcomes_at, outcomes_in}
+use Rattle.maildrop.specs.Office.{new_user, outcomes_at, outcomes_in, ids_given}
+use Rattle.maildrop.specs.Same.{same_command, same_outcome, identity_of}
+use Rattle.maildrop.specs.CommandId.{same_id}
 use Rattle.maildrop.specs.declared.command.Command.{Command}
 use Rattle.maildrop.specs.declared.op.Op.{Op}
 use Rattle.maildrop.specs.declared.op.Op.TheVariants.{Mail, Take, Commit, Free, Break}
@@ -99,3 +101,28 @@ two_users : {A : Type 0} →
     ≡ Stored 1 ∷ Stored 1 ∷ Full
     ∷ Taken (record { uid = 1; text = small } ∷ []) ∷ Done ∷ InUse ∷ NoSuchUser ∷ []
 two_users = refl
+
+-- the unique ids of the messages that were stored, two of them under keys
+given : (A : Type 0) →
+    ids_given {A = A} (empty_maildrop narrow) (
+    by alice 1 (Mail small (Some (codes "k1"))) ∷ by alice 2 (Mail large None) ∷ by alice 3 (Mail small (Some (codes "k1")))
+    ∷ by alice 4 (Mail small None) ∷ by alice 5 Take ∷ by alice 6 (Commit (ticket 5) (1 ∷ 2 ∷ []))
+    ∷ by alice 7 (Mail small (Some (codes "k1"))) ∷ by alice 8 (Mail small (Some (codes "k2"))) ∷ [])
+    ≡ 1 ∷ 2 ∷ 3 ∷ []
+given A = refl
+
+-- equal commands; the same but for a unique id; and one identity for what isn't equal
+equal_commands : (A : Type 0) → same_command {A = A} (by alice 1 (Commit (ticket 1) (1 ∷ []))) (by alice 1 (Commit (ticket 1) (1 ∷ []))) ≡ true
+equal_commands A = refl
+
+other_unique_id : (A : Type 0) → same_command {A = A} (by alice 1 (Commit (ticket 1) (1 ∷ []))) (by alice 1 (Commit (ticket 1) (2 ∷ []))) ≡ false
+other_unique_id A = refl
+
+one_identity : (A : Type 0) → same_id (identity_of {A = A} (by alice 1 Take)) (identity_of {A = A} (by alice 1 Break)) ≡ true
+one_identity A = refl
+
+two_users_ids : (A : Type 0) → same_id (identity_of {A = A} (by alice 1 Take)) (identity_of {A = A} (by bob 1 Take)) ≡ false
+two_users_ids A = refl
+
+messages_apart : (A : Type 0) → same_outcome {A = A} (Taken (record { uid = 1; text = small } ∷ [])) (Taken (record { uid = 1; text = large } ∷ [])) ≡ false
+messages_apart A = refl

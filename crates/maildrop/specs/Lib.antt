@@ -2,8 +2,11 @@ pub mod Name
 pub mod Key
 pub mod Text
 pub mod Ticket
+pub mod CommandId
 pub mod Limits
 pub mod Taken
+pub mod Same
+pub mod Equality
 pub mod Maildrop
 pub mod Office
 pub mod Examples

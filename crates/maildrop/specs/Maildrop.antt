@@ -2,6 +2,7 @@
 use Rattle.std.specs.Prelude.{ℕ, ◌+◌, ◌<◌, ◌≤◌, Bool, false, not, ◌||◌, ◌&&◌, ◌==◌, nat_lt, List, [], ◌∷◌, ◌++◌, length, filter, Option, Some, None, is_none, if◌then◌else◌}
 use Rattle.std.specs.List.{list_any, All}
 use Rattle.std.specs.List.Sorted.{IsStrictlyIncreasing}
+use Rattle.std.specs.Str.{bytes_eq}
 use Rattle.maildrop.specs.Text.{octets_of}
 use Rattle.maildrop.specs.Key.{uid_of, with_key}
 use Rattle.maildrop.specs.Ticket.{Ticket, same_ticket}
@@ -77,6 +78,10 @@ module _ {A : Type 0} where
   delivered maildrop text key None (Some refusal) = no_effect maildrop refusal
   delivered maildrop text key None None = record { outcome = Stored maildrop.next_uid; after = with_message maildrop text key }
 
+  -- whether a delivery stores its text: its key is new, and nothing refuses it
+  abbrev pub is_stored : Maildrop A → List (List ℕ) → Option (List ℕ) → Bool
+  is_stored maildrop text key = is_none (uid_of key maildrop.keys) && is_none (refusal_of maildrop text)
+
   abbrev pub effect_of_mail : Maildrop A → List (List ℕ) → Option (List ℕ) → Effect A
   effect_of_mail maildrop text key = delivered maildrop text key (uid_of key maildrop.keys) (refusal_of maildrop text)
 
@@ -110,8 +115,25 @@ module _ {A : Type 0} where
 
   -- whether an operation takes memory: a Mail that stores does, and a Take that takes
   abbrev pub takes_memory : Maildrop A → Op A → Bool
-  takes_memory maildrop (Mail text key) = is_none (uid_of key maildrop.keys) && is_none (refusal_of maildrop text)
+  takes_memory maildrop (Mail text key) = is_stored maildrop text key
   takes_memory maildrop Take = is_none maildrop.holder
   takes_memory maildrop (Commit lock uids) = false
   takes_memory maildrop (Free lock) = false
   takes_memory maildrop Break = false
+
+  -- the unique id of the message that an operation stores, if it stores one
+  abbrev pub ids_given_by : Maildrop A → Op A → List ℕ
+  ids_given_by maildrop (Mail text key) = if is_stored maildrop text key then maildrop.next_uid ∷ [] else []
+  ids_given_by maildrop Take = []
+  ids_given_by maildrop (Commit lock uids) = []
+  ids_given_by maildrop (Free lock) = []
+  ids_given_by maildrop Break = []
+
+  -- whether an operation is a delivery under this key
+  abbrev pub is_delivery_under : List ℕ → Op A → Bool
+  is_delivery_under key (Mail text None) = false
+  is_delivery_under key (Mail text (Some own)) = bytes_eq own key
+  is_delivery_under key Take = false
+  is_delivery_under key (Commit lock uids) = false
+  is_delivery_under key (Free lock) = false
+  is_delivery_under key Break = false

@@ -3,9 +3,15 @@ use Rattle.std.specs.Prelude.{ℕ, List, [], ◌∷◌, Bool, true, not, ◌&&�
 use Rattle.std.specs.List.{list_all}
 use Rattle.std.specs.Str.{bytes_eq}
 
+abbrev pub first_visible : ℕ
+first_visible = 0x21
+
+abbrev pub last_visible : ℕ
+last_visible = 0x7E
+
 -- a printable character that is no space
 abbrev pub is_visible : ℕ → Bool
-is_visible b = nat_le 0x21 b && nat_le b 0x7E
+is_visible b = nat_le first_visible b && nat_le b last_visible
 
 abbrev pub longest_name : ℕ
 longest_name = 40

@@ -1,8 +1,8 @@
 -- The maildrops of all users in one table, and each user's outcomes.
-use Rattle.std.specs.Prelude.{ℕ, Bool, false, List, [], ◌∷◌, map, filter, Option, Some, None, if◌then◌else◌}
+use Rattle.std.specs.Prelude.{ℕ, Bool, false, List, [], ◌∷◌, ◌++◌, map, filter, Option, Some, None, if◌then◌else◌}
 use Rattle.std.specs.Str.{bytes_eq}
 use Rattle.maildrop.specs.Limits.{Limits}
-use Rattle.maildrop.specs.Maildrop.{Maildrop, empty_maildrop, effect_of, takes_memory}
+use Rattle.maildrop.specs.Maildrop.{Maildrop, empty_maildrop, effect_of, takes_memory, ids_given_by}
 use Rattle.maildrop.specs.declared.command.Command.{Command}
 use Rattle.maildrop.specs.declared.outcome.Outcome.{Outcome}
 use Rattle.maildrop.specs.declared.outcome.Outcome.TheVariants.{NoSuchUser}
@@ -71,6 +71,11 @@ module _ {A : Type 0} where
   abbrev pub maildrop_after_all : Option (Maildrop A) → List (Command A) → Option (Maildrop A)
   maildrop_after_all maildrop [] = maildrop
   maildrop_after_all maildrop (c ∷ cs) = maildrop_after_all (maildrop_after maildrop c) cs
+
+  -- the unique ids that one maildrop gives to the messages that commands store, in their order
+  abbrev pub ids_given : Maildrop A → List (Command A) → List ℕ
+  ids_given maildrop [] = []
+  ids_given maildrop (c ∷ cs) = ids_given_by maildrop c.op ++ ids_given ((effect_of maildrop c.ticket c.op).after) cs
 
   abbrev pub names_user : List ℕ → Command A → Bool
   names_user name c = bytes_eq c.user name

@@ -4,7 +4,7 @@ ghost use Rattle.std.specs.Str.{bytes_eq};
 ghost use Rattle.std.specs.Cmp.Rules.{comparing, hashing};
 ghost use Rattle.std.specs.Hash as fed;
 ghost use Rattle.std.proofs.Common.{rules};
-ghost use Rattle.maildrop.specs.Key.{IsKey};
+ghost use Rattle.maildrop.specs.Key.{IsKey, longest_key};
 
 use crate::visible::are_visible;
 use std::hash::{Hash, Hasher};
@@ -26,11 +26,11 @@ impl Model for Key {
 
     ghost view = { λ k. take k.len k.bytes };
 
-    ghost invariant = { λ k. (k.len ≤ 64) × (length k.bytes ≡ 64)
-        × (k.bytes ≡ take k.len k.bytes ++ replicate (64 - k.len) 0)
+    ghost invariant = { λ k. (k.len ≤ longest_key) × (length k.bytes ≡ longest_key)
+        × (k.bytes ≡ take k.len k.bytes ++ replicate (longest_key - k.len) 0)
         × IsKey (take k.len k.bytes) };
 
-    ghost inverse = { λ k. record { bytes = k ++ replicate (64 - length k) 0; len = length k } };
+    ghost inverse = { λ k. record { bytes = k ++ replicate (longest_key - length k) 0; len = length k } };
 }
 
 impl Key {

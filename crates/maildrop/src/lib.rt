@@ -2,6 +2,7 @@
 #![tactic(auto)]
 
 mod command;
+mod command_id;
 mod file_lines;
 mod key;
 mod laws;
@@ -21,9 +22,13 @@ mod uids;
 mod visible;
 
 pub use command::Command;
+pub use command_id::CommandId;
 pub use file_lines::{next_line, without_carriage_return};
 pub use key::Key;
-pub use laws::{keys_stay_few, maildrops_are_isolated};
+pub use laws::{
+    equality_is_tested, keys_keep_their_ids, keys_stay_few, maildrops_are_isolated,
+    unique_ids_only_rise,
+};
 pub use limits::Limits;
 pub use lines::Lines;
 pub use message::Message;

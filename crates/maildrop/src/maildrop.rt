@@ -1,7 +1,8 @@
 //! One user's maildrop.
-ghost use Rattle.std.specs.Prelude.{◌≡◌, ◌≢◌, ◌==◌, ℕ, ◌≤◌, ◌^◌, List, false, None, IfOk, IsOk, OnOk, OnErr};
+ghost use Rattle.std.specs.Prelude.{◌≡◌, ◌≢◌, ◌==◌, ℕ, ◌≤◌, List, false, None, IfOk, IsOk, OnOk, OnErr};
 ghost use Rattle.std.specs.List.{list_any};
 ghost use Rattle.std.specs.List.Sorted.{IsStrictlyIncreasing};
+ghost use Rattle.maildrop.specs.Limits.{most_octets};
 ghost use Rattle.maildrop.specs.Taken.{message_octets};
 ghost use Rattle.maildrop.specs.Key.{uid_of as uid_in, with_key};
 ghost use Rattle.maildrop.specs.Maildrop as spec;
@@ -218,7 +219,7 @@ fn remove_listed<A: Allocator + Copy>(messages: &mut Vec<Message<A>, A>, uids: &
 }
 
 fn octets_of<A: Allocator + Copy>(messages: &[Message<A>]) -> u64
-    requires { message_octets messages.now ≤ 2 ^ 40 }
+    requires { message_octets messages.now ≤ most_octets }
     ensures { result ≡ message_octets messages.now }
 {
     let mut octets = 0;

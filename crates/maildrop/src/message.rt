@@ -1,5 +1,6 @@
 //! The messages of a maildrop.
-ghost use Rattle.std.specs.Prelude.{◌≡◌, IfOk};
+ghost use Rattle.std.specs.Prelude.{◌≡◌, ◌↔◌, [], IsTrue, IsOk, IfOk};
+ghost use Rattle.maildrop.specs.Same.{same_message, same_messages};
 
 use crate::text::Text;
 use ballot::Memory;
@@ -22,6 +23,14 @@ impl<A: Allocator + Copy> Message<A> {
             text: self.text.copy()?,
         })
     }
+
+    /// Whether both have the same unique id and the same text.
+    pub fn same(&self, other: &Self) -> bool
+        ensures test { result ≡ same_message self.now other.now }
+        ensures equal { IsTrue result ↔ (self.now ≡ other.now) }
+    {
+        self.uid == other.uid && self.text.same(&other.text)
+    }
 }
 
 /// The same messages again. One request for memory: the texts share their lines.
@@ -29,7 +38,8 @@ pub(crate) fn copies_of<A: Allocator + Copy>(
     alloc: A,
     messages: &[Message<A>],
 ) -> Result<Vec<Message<A>, A>, Memory>
-    ensures { IfOk result (λ copies. copies.items ≡ messages.now) }
+    ensures value { IfOk result (λ copies. copies.items ≡ messages.now) }
+    ensures sure { messages.now ≡ [] → IsOk result }
 {
     let mut copies = Vec::with_capacity(alloc, messages.len())?;
     for message in messages {
@@ -37,4 +47,19 @@ pub(crate) fn copies_of<A: Allocator + Copy>(
         copies.push_reserved(copy);
     }
     Ok(copies)
+}
+
+/// Whether both lists have the same messages in the same order.
+pub(crate) fn are_same<A: Allocator + Copy>(messages: &[Message<A>], others: &[Message<A>]) -> bool
+    ensures { result ≡ same_messages messages.now others.now }
+{
+    if messages.len() != others.len() {
+        return false;
+    }
+    for i in 0..messages.len() {
+        if !messages[i].same(&others[i]) {
+            return false;
+        }
+    }
+    true
 }

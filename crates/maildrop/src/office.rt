@@ -9,7 +9,7 @@ use crate::limits::Limits;
 use crate::maildrop::Maildrop;
 use crate::name::Name;
 use crate::outcome::Outcome;
-use ballot::Memory;
+use ballot::{Machine, Memory};
 use indexmap::IndexMap;
 use std::alloc::{Allocator, Global};
 use std::hash::{BuildHasherDefault, FoldHasher};
@@ -63,6 +63,20 @@ impl<A: Allocator + Copy> Office<A> {
             → spec.maildrop_of name self.new ≡ spec.maildrop_of name self.old }
     {
         perform(&mut self.maildrops, command)
+    }
+}
+
+impl<A: Allocator + Copy> Machine for Office<A> {
+    type Command = Command<A>;
+
+    type Answer = Outcome<A>;
+
+    ghost answer_to = { spec.outcome_in };
+
+    ghost after = { spec.users_after };
+
+    fn apply(&mut self, command: &Command<A>) -> Result<Outcome<A>, Memory> {
+        Office::apply(self, command)
     }
 }
 

@@ -1,5 +1,6 @@
 //! The operations on a maildrop.
-ghost use Rattle.std.specs.Prelude.{◌≡◌, ◌↔◌, IsTrue, IfOk};
+ghost use Rattle.std.specs.Prelude.{◌≡◌, ◌↔◌, false, IsTrue, IsOk, IfOk};
+ghost use Rattle.maildrop.specs.Same.{same_op, op_owns_memory};
 
 use crate::key::Key;
 use crate::text::Text;
@@ -24,9 +25,10 @@ pub enum Op<A: Allocator = Global> {
 }
 
 impl<A: Allocator + Copy> Op<A> {
-    /// The same operation again.
+    /// The same operation again. Only a Mail and a Commit take memory.
     pub fn copy(&self) -> Result<Self, Memory>
-        ensures { IfOk result (λ op. op ≡ self.now) }
+        ensures value { IfOk result (λ op. op ≡ self.now) }
+        ensures sure { op_owns_memory self.now ≡ false → IsOk result }
     {
         match self {
             Op::Mail { text, key } => Ok(Op::Mail {
@@ -45,7 +47,8 @@ impl<A: Allocator + Copy> Op<A> {
 
     /// Whether both are the same operation with the same arguments.
     pub fn same(&self, other: &Self) -> bool
-        ensures { IsTrue result ↔ (self.now ≡ other.now) }
+        ensures test { result ≡ same_op self.now other.now }
+        ensures equal { IsTrue result ↔ (self.now ≡ other.now) }
     {
         match (self, other) {
             (

@@ -1,8 +1,9 @@
 //! What a session gets with the lock.
-ghost use Rattle.std.specs.Prelude.{◌≡◌, List, IfOk};
+ghost use Rattle.std.specs.Prelude.{◌≡◌, ◌↔◌, [], List, IsTrue, IsOk, IfOk};
+ghost use Rattle.maildrop.specs.Same.{same_messages};
 ghost use Rattle.maildrop.specs.Taken.{AreTaken};
 
-use crate::message::{Message, copies_of};
+use crate::message::{Message, are_same, copies_of};
 use ballot::Memory;
 use std::alloc::{Allocator, Global};
 use std::marker::Model;
@@ -34,9 +35,10 @@ impl<A: Allocator + Copy> Taken<A> {
         Taken { messages }
     }
 
-    /// The same messages again, kept by the same allocator.
+    /// The same messages again, kept by the same allocator. Where there is none it takes no memory.
     pub fn copy(&self) -> Result<Self, Memory>
-        ensures { IfOk result (λ taken. taken ≡ self.now) }
+        ensures value { IfOk result (λ taken. taken ≡ self.now) }
+        ensures sure { self.now ≡ [] → IsOk result }
     {
         let alloc = *self.messages.allocator();
         Ok(Taken {
@@ -50,5 +52,12 @@ impl<A: Allocator + Copy> Taken<A> {
         ensures taken { AreTaken self.now }
     {
         self.messages.as_slice()
+    }
+    /// Whether both have the same messages.
+    pub fn same(&self, other: &Self) -> bool
+        ensures test { result ≡ same_messages self.now other.now }
+        ensures equal { IsTrue result ↔ (self.now ≡ other.now) }
+    {
+        are_same(self.get(), other.get())
     }
 }

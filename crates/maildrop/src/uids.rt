@@ -1,6 +1,7 @@
 //! Lists of unique ids.
-ghost use Rattle.std.specs.Prelude.{◌≡◌, ◌↔◌, ℕ, List, IsTrue, IsSome, IfSome, IfOk};
+ghost use Rattle.std.specs.Prelude.{◌≡◌, ◌↔◌, IsTrue, IsSome, IfSome, IfOk};
 ghost use Rattle.std.specs.List.Sorted.{IsStrictlyIncreasing};
+ghost use Rattle.maildrop.specs.Same.{same_uids};
 
 use ballot::Memory;
 use std::alloc::{Allocator, Global};
@@ -13,6 +14,9 @@ pub struct Uids<A: Allocator = Global> {
 }
 
 impl<A: Allocator> Model for Uids<A> {
+    ghost use Rattle.std.specs.Prelude.{ℕ, List};
+    ghost use Rattle.std.specs.List.Sorted.{IsStrictlyIncreasing};
+
     ghost Value = { List ℕ };
 
     ghost view = { λ u. u.numbers.items };
@@ -51,7 +55,8 @@ impl<A: Allocator + Copy> Uids<A> {
 
     /// Whether both have the same unique ids.
     pub fn same(&self, other: &Self) -> bool
-        ensures { IsTrue result ↔ (self.now ≡ other.now) }
+        ensures test { result ≡ same_uids self.now other.now }
+        ensures equal { IsTrue result ↔ (self.now ≡ other.now) }
     {
         self.numbers.as_slice() == other.numbers.as_slice()
     }
