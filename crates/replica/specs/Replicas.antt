@@ -1,0 +1,233 @@
+-- Replicas: what each call does to one, and what it sends. C are commands, I their identities, M machines, R what they answer, A allocators.
+use Rattle.std.specs.Prelude.{◌≡◌, ℕ, zero, suc, ◌+◌, ◌-◌, ◌<◌, ◌≤◌, nat_lt, nat_le, List, [], ◌∷◌, ◌++◌, length, Bool, true, false, ◌&&◌, Option, Some, None, is_some, IsSome, option_map, Result, OnOk, IfOk, IsErr, OnErr, if◌then◌else◌}
+use Rattle.std.specs.List.{list_any, flat_map}
+use Rattle.std.specs.Map.{lookup, set_value, remove_entry}
+use Rattle.std.specs.BTreeMap.{insert_entry, is_at}
+use Rattle.std.specs.Ordering.{nat_cmp, is_eq}
+use Rattle.std.specs.declared.cmp.Ordering.{Ordering}
+use Rattle.ballot.specs.Sends.{to_all}
+use Rattle.ballot.specs.declared.memory.Memory.{Memory}
+use Rattle.ballot.specs.declared.message.Message.TheVariants.{Propose, Ask}
+use Rattle.ballot.specs.declared.outgoing.Outgoing.{Outgoing}
+use Rattle.ballot.specs.declared.slot.TheConstants.{LAST_SLOT}
+
+-- what a replica knows of the commands and of its machine
+pub record Rules (C I R M : Type 0) : Type 0 where
+  pub identity : C → I
+  pub compare : I → I → Ordering
+  pub answer_to : M → C → R
+  pub after : M → C → M
+
+abbrev pub rules_of : {C I R M : Type 0} → (C → I) → (I → I → Ordering) → (M → C → R) → (M → C → M) → Rules C I R M
+rules_of identity compare answer_to after = record { identity = identity; compare = compare; answer_to = answer_to; after = after }
+
+pub record ReplicaState (C I R M : Type 0) : Type 0 where
+  -- its node, the size of the cluster, and how many slots it proposes for ahead of what is performed
+  pub me : ℕ
+  pub size : ℕ
+  pub window : ℕ
+  -- the next slot that it proposes for, and the next that it performs
+  pub slot_in : ℕ
+  pub slot_out : ℕ
+  pub machine : M
+  -- commands that wait for a slot, the first to be proposed first
+  pub requests : List C
+  -- what it proposed and what is decided, one command for a slot, in slot order
+  pub proposals : List (ℕ × C)
+  pub decisions : List (ℕ × C)
+  -- what it has performed, each command with its slot
+  pub performed : List (ℕ × C)
+  -- the identities of commands that were requested here, in their order: each with its answer once it is performed, until that is taken
+  pub awaited : List (I × Option R)
+
+-- the replica after a call, and what the call sends
+pub record Move (C I R M A : Type 0) : Type 0 where
+  pub replica : ReplicaState C I R M
+  pub sends : List (Outgoing C A)
+
+-- a call of a replica, none where it is spent: where it answers, the replica and the sends are those of the move, else it is spent
+pub record IsMoved {C I R M A : Type 0} (move : ReplicaState C I R M → Move C I R M A) (old new : Option (ReplicaState C I R M)) (result : Result (List (Outgoing C A)) Memory) : Type 0 where
+  pub replica : OnOk result (new ≡ option_map (λ r. (move r).replica) old)
+  pub sends : (r : ReplicaState C I R M) → old ≡ Some r → IfOk result (λ sends. sends ≡ (move r).sends)
+  pub spent : old ≡ None → IsErr result
+  pub err : OnErr result (new ≡ None)
+
+-- lists of what stands at slots
+module _ {X : Type 0} where
+  -- the first that stands at the slot
+  abbrev pub at_slot : ℕ → List (ℕ × X) → Option X
+  at_slot s es = lookup (is_at (nat_cmp s)) es
+
+  abbrev pub is_decided : ℕ → List (ℕ × X) → Bool
+  is_decided s es = is_some (at_slot s es)
+
+  -- x at its slot, in slot order
+  abbrev pub with_slot : ℕ → X → List (ℕ × X) → List (ℕ × X)
+  with_slot s x es = insert_entry nat_cmp es s x
+
+  abbrev pub without_slot : ℕ → List (ℕ × X) → List (ℕ × X)
+  without_slot s es = remove_entry (is_at (nat_cmp s)) es
+
+  -- x at its slot, unless something stands there
+  abbrev pub kept : ℕ → X → List (ℕ × X) → List (ℕ × X)
+  kept s x es = if is_decided s es then es else with_slot s x es
+
+  abbrev pub in_slot : ℕ → Option X → List (ℕ × X)
+  in_slot s None = []
+  in_slot s (Some x) = (s, x) ∷ []
+
+  -- what stands at the slots 1 to n, in slot order
+  abbrev pub first_slots : ℕ → List (ℕ × X) → List (ℕ × X)
+  first_slots zero es = []
+  first_slots (suc n) es = first_slots n es ++ in_slot (suc n) (at_slot (suc n) es)
+
+  -- nothing stands above the last slot
+  abbrev pub AreSlots : List (ℕ × X) → Type 0
+  AreSlots es = (s : ℕ) → IsSome (at_slot s es) → s ≤ LAST_SLOT
+
+module _ {C I R M : Type 0} where
+  abbrev pub new_replica : ℕ → ℕ → ℕ → M → ReplicaState C I R M
+  new_replica me size window machine =
+      record { me = me; size = size; window = window; slot_in = 1; slot_out = 1; machine = machine; requests = []; proposals = []; decisions = []; performed = []; awaited = [] }
+
+  -- whether the next slot to propose for is a slot, and inside the window
+  abbrev pub is_open : ReplicaState C I R M → Bool
+  is_open r = nat_lt r.slot_in (r.slot_out + r.window) && nat_le r.slot_in LAST_SLOT
+
+  -- whether one of these requests can be proposed
+  abbrev pub can_propose : List C → ReplicaState C I R M → Bool
+  can_propose [] r = false
+  can_propose (c ∷ cs) r = is_open r
+
+  -- whether no slot is left to propose for
+  abbrev pub slots_used : ReplicaState C I R M → Bool
+  slots_used r = nat_lt LAST_SLOT r.slot_in
+
+module _ {C I R M : Type 0} (rules : Rules C I R M) where
+  -- whether one of these commands has the identity
+  abbrev pub has_identity : I → List (ℕ × C) → Bool
+  has_identity i ps = list_any (λ p. is_eq (rules.compare (rules.identity p.1) i)) ps
+
+  -- those whose identity didn't come before, here or in `before`
+  abbrev pub once : List (ℕ × C) → List (ℕ × C) → List (ℕ × C)
+  once before [] = []
+  once before (p ∷ ps) = if has_identity (rules.identity p.1) before then once before ps else p ∷ once (before ++ p ∷ []) ps
+
+  -- the replica has performed the whole front of what was given: slot_out is the first slot for which nothing was given, and of the slots below it each command was performed once
+  pub record IsFrontOf (given : List (ℕ × C)) (r : ReplicaState C I R M) : Type 0 where
+    pub begins : 1 ≤ r.slot_out
+    pub gapless : (s : ℕ) → 1 ≤ s → s < r.slot_out → is_decided s given ≡ true
+    pub ends : is_decided r.slot_out given ≡ false
+    pub performed : r.performed ≡ once [] (first_slots (r.slot_out - 1) given)
+
+  -- what holds between calls: all that is decided without a gap is performed, and all that may be proposed is proposed
+  pub record IsSettled (r : ReplicaState C I R M) : Type 0 where
+    pub front : IsFrontOf r.decisions r
+    pub rests : can_propose r.requests r ≡ false
+
+  -- the answer that is held for the identity
+  abbrev pub held : Option (Option R) → Option R
+  held None = None
+  held (Some answer) = answer
+
+  abbrev pub answer_for : I → List (I × Option R) → Option R
+  answer_for i awaited = held (lookup (is_at (rules.compare i)) awaited)
+
+  -- a requested command is awaited, unless its identity was performed
+  abbrev pub awaiting : C → ReplicaState C I R M → ReplicaState C I R M
+  awaiting c r =
+      record r { awaited = if has_identity (rules.identity c) r.performed then r.awaited else insert_entry rules.compare r.awaited (rules.identity c) None }
+
+  -- a decided command is performed in slot_out, unless its identity was performed; who awaits it has its answer
+  abbrev pub performs : C → ReplicaState C I R M → ReplicaState C I R M
+  performs c r =
+      if has_identity (rules.identity c) r.performed
+      then record r { slot_out = r.slot_out + 1 }
+      else record r {
+        slot_out = r.slot_out + 1;
+        machine = rules.after r.machine c;
+        performed = r.performed ++ (r.slot_out, c) ∷ [];
+        awaited = set_value (is_at (rules.compare (rules.identity c))) r.awaited (Some (rules.answer_to r.machine c));
+      }
+
+  -- an own proposal for slot_out gives way to the decided command c: if its identity is another, it is the first request again
+  abbrev pub gives_way : C → Option C → ReplicaState C I R M → ReplicaState C I R M
+  gives_way c None r = r
+  gives_way c (Some own) r =
+      record r {
+        proposals = without_slot r.slot_out r.proposals;
+        requests = if is_eq (rules.compare (rules.identity own) (rules.identity c)) then r.requests else own ∷ r.requests;
+      }
+
+  -- the next slot is performed, if it is decided
+  abbrev pub performs_next : Option C → ReplicaState C I R M → ReplicaState C I R M
+  performs_next None r = r
+  performs_next (Some c) r = performs c (gives_way c (at_slot r.slot_out r.proposals) r)
+
+  -- n times
+  abbrev pub performs_slots : ℕ → ReplicaState C I R M → ReplicaState C I R M
+  performs_slots zero r = r
+  performs_slots (suc n) r = performs_slots n (performs_next (at_slot r.slot_out r.decisions) r)
+
+module _ {C I R M A : Type 0} where
+  abbrev pub stays : ReplicaState C I R M → Move C I R M A
+  stays r = record { replica = r; sends = [] }
+
+  -- the first request is proposed for slot_in, unless that slot is decided; the next slot is the next to propose for
+  abbrev pub proposes_next : List C → ReplicaState C I R M → Move C I R M A
+  proposes_next [] r = stays r
+  proposes_next (c ∷ cs) r =
+      if is_open r
+      then (if is_decided r.slot_in r.decisions
+        then stays (record r { slot_in = r.slot_in + 1 })
+        else record {
+          replica = record r { slot_in = r.slot_in + 1; requests = cs; proposals = with_slot r.slot_in c r.proposals };
+          sends = to_all r.size (Propose r.slot_in c);
+        })
+      else stays r
+
+  -- n times
+  abbrev pub proposes_slots : ℕ → ReplicaState C I R M → Move C I R M A
+  proposes_slots zero r = stays r
+  proposes_slots (suc n) r =
+      let first : Move C I R M A = proposes_next r.requests r in
+      let rest : Move C I R M A = proposes_slots n first.replica in
+      record { replica = rest.replica; sends = first.sends ++ rest.sends }
+
+  -- as far as the window goes
+  abbrev pub proposes : ReplicaState C I R M → Move C I R M A
+  proposes r = proposes_slots ((r.slot_out + r.window) - r.slot_in) r
+
+  -- Tick: each own proposal whose slot isn't decided is sent again, and the next slot to perform is asked for
+  abbrev pub proposal_again : ReplicaState C I R M → ℕ × C → List (Outgoing C A)
+  proposal_again r p = if is_decided p.0 r.decisions then [] else to_all r.size (Propose p.0 p.1)
+
+  abbrev pub asks : ReplicaState C I R M → List (Outgoing C A)
+  asks r = if nat_le r.slot_out LAST_SLOT then to_all r.size (Ask r.slot_out) else []
+
+  abbrev pub ticked : ReplicaState C I R M → Move C I R M A
+  ticked r = record { replica = r; sends = flat_map (proposal_again r) r.proposals ++ asks r }
+
+module _ {C I R M A : Type 0} (rules : Rules C I R M) where
+  -- a request: its answer is awaited, and it waits for a slot behind the others
+  abbrev pub with_request : C → ReplicaState C I R M → ReplicaState C I R M
+  with_request c r = record r { requests = r.requests ++ c ∷ [] }
+
+  abbrev pub requested : C → ReplicaState C I R M → Move C I R M A
+  requested c r = proposes (with_request c (awaiting rules c r))
+
+  -- a decision: it is kept, what is decided from slot_out on is performed, and requests are proposed
+  abbrev pub with_decision : ℕ → C → ReplicaState C I R M → ReplicaState C I R M
+  with_decision s c r = record r { decisions = kept s c r.decisions }
+
+  abbrev pub decided : ℕ → C → ReplicaState C I R M → Move C I R M A
+  decided s c r = proposes (performs_slots rules (length (kept s c r.decisions)) (with_decision s c r))
+
+module _ {C I R M : Type 0} (rules : Rules C I R M) where
+  -- an answer is taken
+  abbrev pub without_answer : I → Option R → ReplicaState C I R M → ReplicaState C I R M
+  without_answer i None r = r
+  without_answer i (Some answer) r = record r { awaited = remove_entry (is_at (rules.compare i)) r.awaited }
+
+  abbrev pub taken : I → ReplicaState C I R M → ReplicaState C I R M
+  taken i r = without_answer i (answer_for rules i r.awaited) r
