@@ -1,5 +1,5 @@
 //! Lists whose contracts speak of their items alone.
-ghost use Rattle.std.specs.Prelude.{◌≡◌, ℕ, List, [], ◌∷◌, ◌++◌, length, take, IsTrue, ◌↔◌, OnOk, OnErr, IfOk};
+ghost use Rattle.std.specs.Prelude.{◌≡◌, ℕ, List, [], ◌∷◌, ◌++◌, length, take, IsTrue, IsOk, ◌↔◌, OnOk, OnErr, IfOk};
 
 use crate::memory::Memory;
 use std::alloc::{Allocator, Global};
@@ -71,6 +71,17 @@ impl<T: Drop, A: Allocator> Items<T, A> {
         ensures err { OnErr result (self.new ≡ self.old) }
     {
         self.items.push(item)?;
+        Ok(())
+    }
+
+    /// Adds the items of another list at the end. After `Memory` the list is as it was.
+    pub fn append(&mut self, other: Self) -> Result<(), Memory>
+        ensures ok { OnOk result (self.new ≡ self.old ++ other) }
+        ensures err { OnErr result (self.new ≡ self.old) }
+        ensures nothing_to_add { other ≡ [] → IsOk result }
+    {
+        let mut items = other.into_vec();
+        self.items.append(&mut items)?;
         Ok(())
     }
 

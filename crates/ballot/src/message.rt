@@ -87,3 +87,17 @@ pub struct Envelope<C, A: Allocator = Global> {
     pub to: NodeId,
     pub message: Message<C, A>,
 }
+
+impl<C: Payload, A: Allocator + Copy> Envelope<C, A> {
+    /// The same envelope again.
+    pub fn copy(&self) -> Result<Self, Memory>
+        ensures { IfOk result (λ envelope. envelope ≡ self.now) }
+    {
+        let message = self.message.copy()?;
+        Ok(Envelope {
+            from: self.from,
+            to: self.to,
+            message,
+        })
+    }
+}
