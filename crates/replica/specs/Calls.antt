@@ -1,5 +1,5 @@
 -- Calls of a replica, one after another, and what holds after them.
-use Rattle.std.specs.Prelude.{◌≡◌, ℕ, List, [], ◌∷◌, ◌++◌, Bool, true, false, Option, Some, None, if◌then◌else◌}
+use Rattle.std.specs.Prelude.{◌≡◌, ℕ, List, [], ◌∷◌, ◌++◌, false, Option, Some, None, if◌then◌else◌}
 use Rattle.std.specs.Map.{lookup}
 use Rattle.std.specs.BTreeMap.{is_at}
 use Rattle.std.specs.Ordering.{is_eq}
@@ -29,10 +29,17 @@ module _ {C I R M A : Type 0} (rules : Rules C I R M) where
   called Ticks r = ticked r
   called (Takes identity) r = stays (taken rules identity r)
 
-  -- the replica after all these calls
+-- the replica after all these calls
+module _ {C I R M : Type 0} (A : Type 0) (rules : Rules C I R M) where
   abbrev pub all_called : List (Call C I) → ReplicaState C I R M → ReplicaState C I R M
   all_called [] r = r
-  all_called (call ∷ calls) r = all_called calls (called call r).replica
+  all_called (call ∷ calls) r = all_called calls (called {A = A} rules call r).replica
+
+-- an answer is there for whoever awaits it
+abbrev pub answered_with : {R : Type 0} → Option R → Option (Option R) → Option (Option R)
+answered_with answer None = None
+answered_with answer (Some None) = Some answer
+answered_with answer (Some (Some old)) = Some (Some old)
 
 module _ {C I R M : Type 0} (rules : Rules C I R M) where
   -- the machine after these commands, one after another
@@ -64,12 +71,6 @@ module _ {C I R M : Type 0} (rules : Rules C I R M) where
     pub ordered : Ascend r.awaited
     pub waiting : (i : I) → awaited_for i r ≡ Some None → has_identity rules i r.performed ≡ false
     pub answered : (i : I) (answer : R) → awaited_for i r ≡ Some (Some answer) → answer_among i first r.performed ≡ Some answer
-
-  -- an answer is there for whoever awaits it
-  abbrev pub answered_with : Option R → Option (Option R) → Option (Option R)
-  answered_with answer None = None
-  answered_with answer (Some None) = Some answer
-  answered_with answer (Some (Some old)) = Some (Some old)
 
   -- what a call performs, and the answers that it adds: those of the commands that it performs and that are awaited
   pub record Performs (r new : ReplicaState C I R M) : Type 0 where

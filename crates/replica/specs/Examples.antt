@@ -1,9 +1,8 @@
 -- Worked examples: a machine that sums up numbers, whose commands are a number and what it is known by.
-use Rattle.std.specs.Prelude.{◌≡◌, refl, ℕ, ◌+◌, List, [], ◌∷◌, ◌++◌, Bool, true, false, Option, Some, None}
+use Rattle.std.specs.Prelude.{◌≡◌, refl, ℕ, ◌+◌, [], ◌∷◌, ◌++◌, true, Some, None}
 use Rattle.std.specs.Ordering.{nat_cmp}
 use Rattle.ballot.specs.Sends.{to_all}
 use Rattle.ballot.specs.declared.message.Message.TheVariants.{Propose, Ask}
-use Rattle.ballot.specs.declared.outgoing.Outgoing.{Outgoing}
 use Rattle.ballot.specs.declared.slot.TheConstants.{LAST_SLOT}
 use Rattle.replica.specs.Replicas.{Rules, ReplicaState, Move, rules_of, new_replica, requested, decided, ticked, taken, answer_for, slots_used, stays}
 

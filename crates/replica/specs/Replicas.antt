@@ -99,9 +99,20 @@ module _ {C I R M : Type 0} where
   can_propose [] r = false
   can_propose (c ∷ cs) r = is_open r
 
+  abbrev pub with_request : C → ReplicaState C I R M → ReplicaState C I R M
+  with_request c r = record r { requests = r.requests ++ c ∷ [] }
+
+  abbrev pub with_decision : ℕ → C → ReplicaState C I R M → ReplicaState C I R M
+  with_decision s c r = record r { decisions = kept s c r.decisions }
+
   -- whether no slot is left to propose for
   abbrev pub slots_used : ReplicaState C I R M → Bool
   slots_used r = nat_lt LAST_SLOT r.slot_in
+
+-- the answer of what is awaited
+abbrev pub held : {R : Type 0} → Option (Option R) → Option R
+held None = None
+held (Some answer) = answer
 
 module _ {C I R M : Type 0} (rules : Rules C I R M) where
   -- whether one of these commands has the identity
@@ -126,10 +137,6 @@ module _ {C I R M : Type 0} (rules : Rules C I R M) where
     pub rests : can_propose r.requests r ≡ false
 
   -- the answer that is held for the identity
-  abbrev pub held : Option (Option R) → Option R
-  held None = None
-  held (Some answer) = answer
-
   abbrev pub answer_for : I → List (I × Option R) → Option R
   answer_for i awaited = held (lookup (is_at (rules.compare i)) awaited)
 
@@ -179,11 +186,11 @@ module _ {C I R M A : Type 0} where
   proposes_next (c ∷ cs) r =
       if is_open r
       then (if is_decided r.slot_in r.decisions
-        then stays (record r { slot_in = r.slot_in + 1 })
-        else record {
-          replica = record r { slot_in = r.slot_in + 1; requests = cs; proposals = with_slot r.slot_in c r.proposals };
-          sends = to_all r.size (Propose r.slot_in c);
-        })
+      then stays (record r { slot_in = r.slot_in + 1 })
+      else record {
+        replica = record r { slot_in = r.slot_in + 1; requests = cs; proposals = with_slot r.slot_in c r.proposals };
+        sends = to_all r.size (Propose r.slot_in c);
+      })
       else stays r
 
   -- n times
@@ -210,16 +217,10 @@ module _ {C I R M A : Type 0} where
 
 module _ {C I R M A : Type 0} (rules : Rules C I R M) where
   -- a request: its answer is awaited, and it waits for a slot behind the others
-  abbrev pub with_request : C → ReplicaState C I R M → ReplicaState C I R M
-  with_request c r = record r { requests = r.requests ++ c ∷ [] }
-
   abbrev pub requested : C → ReplicaState C I R M → Move C I R M A
   requested c r = proposes (with_request c (awaiting rules c r))
 
   -- a decision: it is kept, what is decided from slot_out on is performed, and requests are proposed
-  abbrev pub with_decision : ℕ → C → ReplicaState C I R M → ReplicaState C I R M
-  with_decision s c r = record r { decisions = kept s c r.decisions }
-
   abbrev pub decided : ℕ → C → ReplicaState C I R M → Move C I R M A
   decided s c r = proposes (performs_slots rules (length (kept s c r.decisions)) (with_decision s c r))
 

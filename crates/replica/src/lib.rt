@@ -3,4 +3,18 @@
 //! here.
 #![tactic(auto)]
 
+mod awaiting;
+mod laws;
+mod moves;
+mod performed;
+mod performing;
+mod proposing;
+mod replica;
+mod state;
+
 pub use ballot::Machine;
+pub use laws::{
+    answers_are_of_what_is_performed, answers_are_taken_once, fronts_agree,
+    replicas_perform_the_front,
+};
+pub use replica::Replica;

@@ -1,0 +1,9 @@
+pub mod Seen
+pub mod Slots
+pub mod Identities
+pub mod Front
+pub mod Turns
+pub mod Settled
+pub mod Answered
+pub mod History
+pub mod Moved
