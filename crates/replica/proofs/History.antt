@@ -18,7 +18,7 @@ use Rattle.replica.proofs.Settled.{settled_new, decided_settled, requested_settl
 use Rattle.replica.proofs.Answered.{has_answer, performs_turns, performs_to_alike, still_answers, answers_alike, slots_ascend}
 
 module _ {C I R M : Type 0} (A : Type 0) (rules : Rules C I R M) where
-  proposes_alike : (r : ReplicaState C I R M) → Alike (proposes {A = A} r).replica r
+  pub proposes_alike : (r : ReplicaState C I R M) → Alike (proposes {A = A} r).replica r
   proposes_alike r = slots_alike A ((r.slot_out + r.window) - r.slot_in) r
 
   pub decided_decisions : (s : ℕ) (c : C) (r : ReplicaState C I R M) → (decided {A = A} rules s c r).replica.decisions ≡ kept s c r.decisions
@@ -89,7 +89,7 @@ module _ {C I R M : Type 0} (A : Type 0) (rules : Rules C I R M) (total : IsTota
       let p = performs_to_alike rules total known last (proposes {A = A} last).replica (performs_turns rules total first n known h') (proposes_alike A rules last) in
       record { more = p.more; performed = p.performed; machine = p.machine; answers = p.answers }
 
-  decided_answers : (first : M) (s : ℕ) (c : C) (r : ReplicaState C I R M) → AreAnswers rules first r → AreAnswers rules first (decided {A = A} rules s c r).replica
+  pub decided_answers : (first : M) (s : ℕ) (c : C) (r : ReplicaState C I R M) → AreAnswers rules first r → AreAnswers rules first (decided {A = A} rules s c r).replica
   decided_answers first s c r h =
       let n : ℕ = length (kept s c r.decisions) in
       let last : ReplicaState C I R M = performs_slots rules n (with_decision s c r) in
@@ -97,7 +97,7 @@ module _ {C I R M : Type 0} (A : Type 0) (rules : Rules C I R M) (total : IsTota
       still_answers rules total first r (decided {A = A} rules s c r).replica h (decided_performs first s c r h) (rw same.awaited (slots_ascend rules total n (with_decision s c r) h.ordered))
 
   -- what is awaited after a request
-  awaiting_for : (c : C) (i : I) (r : ReplicaState C I R M) →
+  pub awaiting_for : (c : C) (i : I) (r : ReplicaState C I R M) →
       awaited_for rules i (awaiting rules c r) ≡ cond (has_identity rules (rules.identity c) r.performed) (awaited_for rules i r) (cond (is_eq (rules.compare (rules.identity c) i)) (Some None) (awaited_for rules i r))
   awaiting_for c i r =
       go (has_identity rules (rules.identity c) r.performed)

@@ -7,3 +7,5 @@ pub mod Settled
 pub mod Answered
 pub mod History
 pub mod Moved
+pub mod ButAwaited
+pub mod Left

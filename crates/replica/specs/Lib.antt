@@ -1,3 +1,4 @@
 pub mod Replicas
 pub mod Calls
+pub mod Taken
 pub mod Examples

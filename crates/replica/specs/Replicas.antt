@@ -1,5 +1,5 @@
 -- Replicas: what each call does to one, and what it sends. C are commands, I their identities, M machines, R what they answer, A allocators.
-use Rattle.std.specs.Prelude.{◌≡◌, ℕ, zero, suc, ◌+◌, ◌-◌, ◌<◌, ◌≤◌, nat_lt, nat_le, List, [], ◌∷◌, ◌++◌, length, Bool, true, false, ◌&&◌, Option, Some, None, is_some, IsSome, option_map, Result, OnOk, IfOk, IsErr, OnErr, if◌then◌else◌}
+use Rattle.std.specs.Prelude.{◌≡◌, ℕ, zero, suc, ◌+◌, ◌-◌, ◌<◌, ◌≤◌, nat_lt, nat_le, List, [], ◌∷◌, ◌++◌, length, map, Bool, true, false, ◌&&◌, Option, Some, None, is_some, is_none, IsSome, option_map, Result, OnOk, IfOk, IsErr, OnErr, if◌then◌else◌}
 use Rattle.std.specs.List.{list_any, flat_map}
 use Rattle.std.specs.Map.{lookup, set_value, remove_entry}
 use Rattle.std.specs.BTreeMap.{insert_entry, is_at}
@@ -113,6 +113,11 @@ module _ {C I R M : Type 0} where
 abbrev pub held : {R : Type 0} → Option (Option R) → Option R
 held None = None
 held (Some answer) = answer
+
+module _ {I R : Type 0} where
+  -- whether an answer is awaited that isn't there
+  abbrev pub is_waiting : List (I × Option R) → Bool
+  is_waiting awaited = list_any is_none (map (λ e. e.1) awaited)
 
 module _ {C I R M : Type 0} (rules : Rules C I R M) where
   -- whether one of these commands has the identity

@@ -2,6 +2,7 @@
 ghost use Rattle.std.specs.Prelude.{◌≡◌, Some, None, OnOk};
 ghost use Rattle.std.specs.Map.{set_value};
 ghost use Rattle.std.specs.BTreeMap.{insert_entry, is_at};
+ghost use Rattle.replica.specs.Replicas as spec;
 ghost use Rattle.replica.specs.Replicas.{rules_of, awaiting};
 
 use crate::state::{Awaited, State};
@@ -45,4 +46,11 @@ pub fn answer<I: Copy + Ord, R: Drop, A: Allocator + Copy>(
     if let Some(awaited) = awaited.get_mut(&identity) {
         *awaited = Some(answer);
     }
+}
+
+/// Whether an answer is awaited that isn't there.
+pub fn is_waiting<I: Copy + Ord, R: Drop, A: Allocator>(awaited: &Awaited<I, R, A>) -> bool
+    ensures { result ≡ spec.is_waiting awaited.now.entries }
+{
+    awaited.values().any(|answer| answer.is_none())
 }

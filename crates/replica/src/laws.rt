@@ -2,6 +2,7 @@
 ghost use Rattle.std.specs.Prelude.{◌≡◌, ℕ, List, Some, None, true, false};
 ghost use Rattle.std.specs.Ordering.{is_eq};
 ghost use Rattle.replica.specs.Replicas.{ReplicaState, rules_of, new_replica, at_slot, is_decided, has_identity, requested, decided, taken, answer_for, IsFrontOf, IsSettled};
+ghost use Rattle.replica.specs.Taken.{IsButTaken};
 ghost use Rattle.replica.specs.Calls.{Call, called, all_called, given, awaited_for, AreAnswers, Performs};
 
 use ballot::{Machine, Payload};
@@ -34,4 +35,12 @@ pub fn answers_are_of_what_is_performed<M: Machine, A: Allocator>()
 pub fn answers_are_taken_once<M: Machine, A: Allocator>()
     ensures gone { (first : M) (i : M.Command.Id) (answer : M.Answer) (calls : List (Call M.Command M.Command.Id)) (r : ReplicaState M.Command M.Command.Id M.Answer M) → AreAnswers (rules_of M.Command.identity M.Command.Id.cmp M.answer_to M.after) first r → answer_for (rules_of M.Command.identity M.Command.Id.cmp M.answer_to M.after) i r.awaited ≡ Some answer → answer_for (rules_of M.Command.identity M.Command.Id.cmp M.answer_to M.after) i (all_called A (rules_of M.Command.identity M.Command.Id.cmp M.answer_to M.after) calls (taken (rules_of M.Command.identity M.Command.Id.cmp M.answer_to M.after) i r)).awaited ≡ None }
     ensures others { (first : M) (i j : M.Command.Id) (r : ReplicaState M.Command M.Command.Id M.Answer M) → AreAnswers (rules_of M.Command.identity M.Command.Id.cmp M.answer_to M.after) first r → is_eq (M.Command.Id.cmp i j) ≡ false → answer_for (rules_of M.Command.identity M.Command.Id.cmp M.answer_to M.after) j (taken (rules_of M.Command.identity M.Command.Id.cmp M.answer_to M.after) i r).awaited ≡ answer_for (rules_of M.Command.identity M.Command.Id.cmp M.answer_to M.after) j r.awaited }
+{}
+
+/// A replica whose answers were taken goes on as one that keeps them: both send the same, and then differ in such
+/// answers alone.
+pub fn taken_answers_change_nothing_else<M: Machine, A: Allocator>()
+    ensures request { (first : M) (command : M.Command) (r s : ReplicaState M.Command M.Command.Id M.Answer M) → IsButTaken (rules_of M.Command.identity M.Command.Id.cmp M.answer_to M.after) first r s → IsButTaken (rules_of M.Command.identity M.Command.Id.cmp M.answer_to M.after) first (requested {A = A} (rules_of M.Command.identity M.Command.Id.cmp M.answer_to M.after) command r).replica (requested {A = A} (rules_of M.Command.identity M.Command.Id.cmp M.answer_to M.after) command s).replica × ((requested {A = A} (rules_of M.Command.identity M.Command.Id.cmp M.answer_to M.after) command r).sends ≡ (requested {A = A} (rules_of M.Command.identity M.Command.Id.cmp M.answer_to M.after) command s).sends) }
+    ensures decision { (first : M) (slot : ℕ) (command : M.Command) (r s : ReplicaState M.Command M.Command.Id M.Answer M) → IsButTaken (rules_of M.Command.identity M.Command.Id.cmp M.answer_to M.after) first r s → IsButTaken (rules_of M.Command.identity M.Command.Id.cmp M.answer_to M.after) first (decided {A = A} (rules_of M.Command.identity M.Command.Id.cmp M.answer_to M.after) slot command r).replica (decided {A = A} (rules_of M.Command.identity M.Command.Id.cmp M.answer_to M.after) slot command s).replica × ((decided {A = A} (rules_of M.Command.identity M.Command.Id.cmp M.answer_to M.after) slot command r).sends ≡ (decided {A = A} (rules_of M.Command.identity M.Command.Id.cmp M.answer_to M.after) slot command s).sends) }
+    ensures taking { (first : M) (i : M.Command.Id) (r s : ReplicaState M.Command M.Command.Id M.Answer M) → IsButTaken (rules_of M.Command.identity M.Command.Id.cmp M.answer_to M.after) first r s → IsButTaken (rules_of M.Command.identity M.Command.Id.cmp M.answer_to M.after) first (taken (rules_of M.Command.identity M.Command.Id.cmp M.answer_to M.after) i r) s }
 {}

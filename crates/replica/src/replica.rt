@@ -4,7 +4,7 @@ ghost use Rattle.std.specs.Option.{option_map_or};
 
 use crate::performed::Performed;
 use crate::state::State;
-use crate::{moves, proposing};
+use crate::{awaiting, moves, proposing};
 use ballot::{Cluster, LAST_SLOT, Machine, Memory, NodeId, Payload, Sends, Slot};
 use std::alloc::{Allocator, Global};
 use std::collections::{BTreeMap, VecDeque};
@@ -31,7 +31,7 @@ impl<M: Machine, A: Allocator> Model for Replica<M, A> {
 }
 
 impl<M: Machine, A: Allocator + Copy> Replica<M, A> {
-    ghost use Rattle.replica.specs.Replicas.{ReplicaState, IsMoved, IsSettled, rules_of, new_replica, at_slot, is_decided, requested, decided, ticked, taken, answer_for, slots_used};
+    ghost use Rattle.replica.specs.Replicas.{ReplicaState, IsMoved, IsSettled, rules_of, new_replica, at_slot, is_decided, requested, decided, ticked, taken, answer_for, is_waiting, slots_used};
 
     /// A replica of node `me` that has performed nothing. It proposes for at most `window` slots
     /// ahead of what it has performed. Takes no memory.
@@ -133,6 +133,14 @@ impl<M: Machine, A: Allocator + Copy> Replica<M, A> {
         ensures { IfSome self.now (λ r. result ≡ slots_used r) }
     {
         self.state.slot_in > LAST_SLOT
+    }
+
+    /// Whether a command that was requested here isn't performed yet. In proportion to the answers that are awaited
+    /// here, and to those that weren't taken.
+    pub fn is_waiting(&self) -> bool
+        ensures { IfSome self.now (λ r. result ≡ is_waiting r.awaited) }
+    {
+        awaiting::is_waiting(&self.state.awaited)
     }
 
     /// Whether an answer is held for the identity. A spent replica holds none.
