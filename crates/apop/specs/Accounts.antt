@@ -18,9 +18,19 @@ pub record Account : Type 0 where
   pub method : Method
   pub secret : List ℕ
 
--- a printable character, a space or a byte from 0x80 on
+-- the printable characters, a space being the first, and the bytes that are no ASCII characters
+abbrev pub first_printable : ℕ
+first_printable = 0x20
+
+abbrev pub last_printable : ℕ
+last_printable = 0x7E
+
+abbrev pub first_beyond_ascii : ℕ
+first_beyond_ascii = 0x80
+
+-- no control character
 abbrev pub is_secret_byte : ℕ → Bool
-is_secret_byte b = (nat_le 0x20 b && nat_le b 0x7E) || nat_le 0x80 b
+is_secret_byte b = (nat_le first_printable b && nat_le b last_printable) || nat_le first_beyond_ascii b
 
 -- the most bytes of a secret
 abbrev pub longest_secret : ℕ

@@ -9,13 +9,19 @@ pub record Stamp : Type 0 where
 abbrev pub is_letter_or_digit : ℕ → Bool
 is_letter_or_digit b = (nat_le 48 b && nat_le b 57) || (nat_le 65 b && nat_le b 90) || (nat_le 97 b && nat_le b 122)
 
+abbrev pub dot : ℕ
+dot = 46
+
+abbrev pub hyphen : ℕ
+hyphen = 45
+
 -- A letter or a digit may follow anything, a dot a letter or a digit, and a hyphen, where hyphens are allowed, a
 -- letter, a digit or a hyphen.
 abbrev pub may_follow : Bool → ℕ → ℕ → Bool
 may_follow hyphens before b =
     is_letter_or_digit b
-    || (b == 46 && is_letter_or_digit before)
-    || (hyphens && b == 45 && (is_letter_or_digit before || before == 45))
+    || (b == dot && is_letter_or_digit before)
+    || (hyphens && b == hyphen && (is_letter_or_digit before || before == hyphen))
 
 -- what stands behind a byte: each may follow the one before it, and the last is a letter or a digit
 abbrev pub goes_on : Bool → ℕ → List ℕ → Bool
@@ -25,7 +31,7 @@ goes_on hyphens before (b ∷ bs) = may_follow hyphens before b && goes_on hyphe
 -- runs of letters and digits, with hyphens inside a run where these are allowed, joined by single dots: such a text
 -- goes on behind a dot
 abbrev pub are_runs : Bool → List ℕ → Bool
-are_runs hyphens text = goes_on hyphens 46 text
+are_runs hyphens text = goes_on hyphens dot text
 
 -- the most characters of a nonce and of a host
 abbrev pub longest_nonce : ℕ

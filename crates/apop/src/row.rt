@@ -10,6 +10,14 @@ use maildrop::Name;
 /// The most bytes that a secret has.
 const LONGEST_SECRET: usize = 255;
 
+/// The first printable character, and the last one.
+const FIRST_PRINTABLE: u8 = b' ';
+
+const LAST_PRINTABLE: u8 = b'~';
+
+/// The first byte that is no ASCII character.
+const FIRST_BEYOND_ASCII: u8 = 0x80;
+
 /// The parts of a row `name method secret`.
 #[derive(Drop)]
 pub(crate) struct Row<'a> {
@@ -36,7 +44,7 @@ fn cut_at_space(bytes: &[u8]) -> Option<(&[u8], &[u8])>
 fn is_secret_byte(byte: u8) -> bool
     ensures { result ≡ spec.is_secret_byte byte }
 {
-    (0x20 <= byte && byte <= 0x7E) || 0x80 <= byte
+    (FIRST_PRINTABLE <= byte && byte <= LAST_PRINTABLE) || FIRST_BEYOND_ASCII <= byte
 }
 
 fn are_secret_bytes(bytes: &[u8]) -> bool
