@@ -2,7 +2,7 @@
 use Rattle.std.specs.Prelude.{◌≡◌, ℕ, List, [], ◌∷◌, replicate, refl, codes, true, false, Some, None}
 use Rattle.maildrop.specs.Name.{is_name}
 use Rattle.maildrop.specs.Key.{is_key}
-use Rattle.maildrop.specs.Text.{octets_of}
+use Rattle.maildrop.specs.Text.{octets_of, block_of, lines_of}
 use Rattle.maildrop.specs.Limits.{Limits}
 use Rattle.maildrop.specs.Ticket.{Ticket}
 use Rattle.maildrop.specs.Maildrop.{empty_maildrop}
@@ -52,6 +52,14 @@ small-octets = refl
 
 large-octets : octets_of large ≡ 61
 large-octets = refl
+
+-- a line may end in CR
+block : block_of (codes "a" ∷ [] ∷ codes "b\r" ∷ []) ≡ codes "a\r\n\r\nb\r\r\n"
+block = refl
+
+block_lines : lines_of (codes "a\r\n\r\nb\r\r\n") ≡ codes "a" ∷ [] ∷ codes "b\r" ∷ []
+unfolding lines_of
+block_lines = refl
 
 abbrev ticket : ℕ → Ticket
 ticket seq = record { node = 1; seq = seq }

@@ -1,6 +1,7 @@
 -- Texts: lists of lines, each a list of bytes, and the block of bytes in which a text is kept.
-use Rattle.std.specs.Prelude.{◌≡◌, ◌≢◌, ℕ, ◌+◌, List, [], ◌∷◌, ◌++◌, length, sum_by}
-use Rattle.std.specs.List.{All, flat_map, slice_split}
+use Rattle.std.specs.Prelude.{◌≡◌, ◌≢◌, ℕ, ◌+◌, ◌==◌, Bool, false, List, [], ◌∷◌, ◌++◌, length, map, sum_by}
+use Rattle.std.specs.List.{All, flat_map, list_any, slice_split}
+use Rattle.std.specs.Str.Lines.{strip_carriage_return}
 use Rattle.memchr.specs.Find.{is_byte}
 
 -- no line feed stands in a line
@@ -14,9 +15,13 @@ line_octets line = length line + 2
 abbrev pub octets_of : List (List ℕ) → ℕ
 octets_of text = sum_by line_octets text
 
--- lines, each with a line feed behind it
+abbrev pub begins_with_dot : List ℕ → Bool
+begins_with_dot [] = false
+begins_with_dot (b ∷ bytes) = b == 46
+
+-- lines, each with its CR and LF
 abbrev pub block_of : List (List ℕ) → List ℕ
-block_of lines = flat_map (λ line. line ++ 10 ∷ []) lines
+block_of lines = flat_map (λ line. line ++ 13 ∷ 10 ∷ []) lines
 
 -- the parts but the last
 abbrev pub without_last : List (List ℕ) → List (List ℕ)
@@ -24,12 +29,12 @@ without_last [] = []
 without_last (part ∷ []) = []
 without_last (part ∷ next ∷ more) = part ∷ without_last (next ∷ more)
 
--- what stands before each line feed
+-- what stands before each line feed, without the carriage return directly before it
 unfoldable pub lines_of : List ℕ → List (List ℕ)
-lines_of block = without_last (slice_split (is_byte 10) block)
+lines_of block = map strip_carriage_return (without_last (slice_split (is_byte 10) block))
 
--- a block of lines, and its octets beside it
-pub record IsText (block : List ℕ) (octets : ℕ) : Type 0 where
+-- a block of lines, and beside it whether one of them begins with a dot
+pub record IsText (block : List ℕ) (dots : Bool) : Type 0 where
   pub whole : block ≡ block_of (lines_of block)
   pub are_lines : All IsLine (lines_of block)
-  pub counted : octets ≡ octets_of (lines_of block)
+  pub dotted : dots ≡ list_any begins_with_dot (lines_of block)

@@ -38,6 +38,6 @@ pub use op::Op;
 pub use outcome::Outcome;
 pub use taken::Taken;
 pub use text::Text;
-pub use text_builder::TextBuilder;
+pub use text_builder::{TextBuilder, begins_with_dot};
 pub use ticket::Ticket;
 pub use uids::Uids;

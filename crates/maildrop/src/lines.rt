@@ -3,16 +3,17 @@ ghost use Rattle.std.specs.Prelude.{◌≡◌, ◌∷◌, [], MatchOption};
 ghost use Rattle.std.specs.Iterator.{YieldsFirstRef, item_count};
 ghost use Rattle.maildrop.specs.Text.{IsLine, lines_of};
 
+use crate::file_lines::without_carriage_return;
 use memchr::memchr;
 use std::marker::Model;
 
-/// The first line of a block and what stands behind its line feed.
+/// The first line of a block, without its line end, and what stands behind that.
 fn first_line(block: &[u8]) -> Option<(&[u8], &[u8])>
     ensures { MatchOption result (lines_of block.now ≡ [])
         (λ found. (lines_of block.now ≡ found.0.now ∷ lines_of found.1.now) × IsLine found.0.now) }
 {
     let end = memchr(b'\n', block)?;
-    Some((&block[..end], &block[end + 1..]))
+    Some((without_carriage_return(&block[..end]), &block[end + 1..]))
 }
 
 /// The lines of a text that are still to be read. Each is found when it is asked for.

@@ -1,6 +1,7 @@
 //! The texts of messages.
 ghost use Rattle.std.specs.Prelude.{◌≡◌, ◌↔◌, ◌<◌, ◌^◌, length, All, IsTrue, IsSome, IsOk, IfSome, IfOk};
-ghost use Rattle.maildrop.specs.Text.{IsLine, IsText, block_of, lines_of, octets_of};
+ghost use Rattle.std.specs.List.{list_any};
+ghost use Rattle.maildrop.specs.Text.{IsLine, IsText, begins_with_dot, block_of, lines_of, octets_of};
 
 use crate::lines::Lines;
 use crate::text_builder::{TextBuilder, is_line};
@@ -10,11 +11,11 @@ use std::marker::Model;
 use std::sync::Arc;
 
 /// The text of a message: a list of lines, none of which has a line feed. All lines stand in one block of memory, each
-/// with a line feed behind it, and copies share the block.
+/// with its CR and LF, and copies share the block.
 #[derive(Drop)]
 pub struct Text<A: Allocator = Global> {
     block: Arc<Vec<u8, A>, A>,
-    octets: u64,
+    dots: bool,
 }
 
 impl<A: Allocator> Model for Text<A> {
@@ -25,17 +26,17 @@ impl<A: Allocator> Model for Text<A> {
 
     ghost view = { λ t. lines_of t.block.value.items };
 
-    ghost invariant = { λ t. IsText t.block.value.items t.octets };
+    ghost invariant = { λ t. IsText t.block.value.items t.dots };
 }
 
 impl<A: Allocator + Copy> Text<A> {
-    pub(crate) fn from_block(alloc: A, block: Vec<u8, A>, octets: u64) -> Result<Self, Memory>
-        requires { IsText block.items octets }
+    pub(crate) fn from_block(alloc: A, block: Vec<u8, A>, dots: bool) -> Result<Self, Memory>
+        requires { IsText block.items dots }
         ensures { IfOk result (λ text. text ≡ lines_of block.items) }
     {
         Ok(Text {
             block: Arc::new(alloc, block)?,
-            octets,
+            dots,
         })
     }
 
@@ -60,18 +61,25 @@ impl<A: Allocator + Copy> Text<A> {
         Lines::new(&self.block)
     }
 
-    /// The lines in one block, each with a line feed behind it.
+    /// The lines in one block, each with its CR and LF.
     pub fn block(&self) -> &[u8]
         ensures { result.now ≡ block_of self.now }
     {
         &self.block
     }
 
+    /// Whether a line begins with a dot. If none does, the block is what stands on the wire (RFC 1939 section 3).
+    pub fn has_dots(&self) -> bool
+        ensures { result ≡ list_any begins_with_dot self.now }
+    {
+        self.dots
+    }
+
     /// The size of the text, each line with its CR and LF (RFC 1939 section 11).
     pub fn octets(&self) -> u128
         ensures { result ≡ octets_of self.now }
     {
-        self.octets as u128
+        self.block.len() as u128
     }
 
     /// The same text, which shares this block.
@@ -80,7 +88,7 @@ impl<A: Allocator + Copy> Text<A> {
     {
         Ok(Text {
             block: self.block.clone()?,
-            octets: self.octets,
+            dots: self.dots,
         })
     }
 

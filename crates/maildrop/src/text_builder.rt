@@ -1,6 +1,6 @@
 //! Texts under construction.
 ghost use Rattle.std.specs.Prelude.{◌≡◌, ◌++◌, ◌∷◌, [], ◌↔◌, IsTrue, IfOk, OnOk, OnErr};
-ghost use Rattle.maildrop.specs.Text.{IsLine};
+ghost use Rattle.maildrop.specs.Text.{IsLine, begins_with_dot as starts_with_dot};
 
 use crate::text::Text;
 use ballot::Memory;
@@ -8,14 +8,14 @@ use memchr::memchr;
 use std::alloc::{Allocator, Global};
 use std::marker::Model;
 
-/// Adds a line and its line feed. After `Memory` the block is as it was.
+/// Adds a line with its CR and LF. After `Memory` the block is as it was.
 fn put_line<A: Allocator>(block: &mut Vec<u8, A>, line: &[u8]) -> Result<(), Memory>
-    ensures ok { OnOk result (block.new.items ≡ block.old.items ++ (line.now ++ 10 ∷ [])) }
+    ensures ok { OnOk result (block.new.items ≡ block.old.items ++ (line.now ++ 13 ∷ 10 ∷ [])) }
     ensures err { OnErr result (block.new.items ≡ block.old.items) }
 {
     let len = block.len();
     block.extend_from_slice(line)?;
-    if block.push(b'\n').is_err() {
+    if block.extend_from_slice(b"\r\n").is_err() {
         block.truncate(len);
         return Err(Memory);
     }
@@ -29,11 +29,21 @@ pub(crate) fn is_line(bytes: &[u8]) -> bool
     memchr(b'\n', bytes).is_none()
 }
 
+/// Whether a line begins with a dot.
+pub fn begins_with_dot(line: &[u8]) -> bool
+    ensures { result ≡ starts_with_dot line.now }
+{
+    match line {
+        [first, ..] => *first == b'.',
+        [] => false,
+    }
+}
+
 /// A text to which lines are added. Each line is copied once, to the end of the block that becomes the text's.
 #[derive(Drop)]
 pub struct TextBuilder<A: Allocator = Global> {
     block: Vec<u8, A>,
-    octets: u64,
+    dots: bool,
 }
 
 impl<A: Allocator> Model for TextBuilder<A> {
@@ -44,7 +54,7 @@ impl<A: Allocator> Model for TextBuilder<A> {
 
     ghost view = { λ t. lines_of t.block.items };
 
-    ghost invariant = { λ t. IsText t.block.items t.octets };
+    ghost invariant = { λ t. IsText t.block.items t.dots };
 }
 
 impl<A: Allocator> TextBuilder<A> {
@@ -54,7 +64,7 @@ impl<A: Allocator> TextBuilder<A> {
     {
         TextBuilder {
             block: Vec::new(alloc),
-            octets: 0,
+            dots: false,
         }
     }
 
@@ -65,7 +75,7 @@ impl<A: Allocator> TextBuilder<A> {
         ensures err { OnErr result (self.new ≡ self.old) }
     {
         put_line(&mut self.block, line)?;
-        self.octets += line.len() as u64 + 2;
+        self.dots |= begins_with_dot(line);
         Ok(())
     }
 }
@@ -78,6 +88,6 @@ impl<A: Allocator + Copy> TextBuilder<A> {
         let alloc = *self.block.allocator();
         let mut block = self.block;
         block.shrink_to_fit();
-        Text::from_block(alloc, block, self.octets)
+        Text::from_block(alloc, block, self.dots)
     }
 }

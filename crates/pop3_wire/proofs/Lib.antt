@@ -2,6 +2,7 @@ pub mod Cutting
 pub mod Ends
 pub mod Digits
 pub mod Tops
+pub mod Undotted
 pub mod Streams
 pub mod Feeding
 pub mod FirstLines

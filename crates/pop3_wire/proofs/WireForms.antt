@@ -8,9 +8,9 @@ use Rattle.std.proofs.lemmas.List.Folds.{list_any-append}
 use Rattle.std.proofs.Math.Bool.{or-true}
 use Rattle.std.proofs.Math.Seq.{take-append_seam}
 use Rattle.memchr.specs.Find.{NoneBefore, Nowhere, Passes, is_byte}
-use Rattle.maildrop.specs.Text.{IsLine}
+use Rattle.maildrop.specs.Text.{IsLine, begins_with_dot}
 use Rattle.pop3_wire.specs.Lines.{is_lf}
-use Rattle.pop3_wire.specs.Stuffing.{begins_with_dot, stuffed_line, unstuffed_line, wire_line, wire_form, AreStuffed, BeginsWithNone, BeginsWithOne}
+use Rattle.pop3_wire.specs.Stuffing.{stuffed_line, unstuffed_line, wire_line, wire_form, AreStuffed, BeginsWithNone, BeginsWithOne}
 use Rattle.pop3_wire.proofs.Feeding.{no_lf, lf_at, both_none}
 
 IsLine-none : (xs : List ℕ) → list_any is_lf xs ≡ false → IsLine xs

@@ -1,11 +1,7 @@
 -- Texts on the wire (RFC 1939 section 3, multi-line responses).
-use Rattle.std.specs.Prelude.{◌≡◌, ℕ, ◌==◌, Bool, false, List, [], ◌∷◌, ◌++◌, codes, take, Option, None, Some, if◌then◌else◌}
+use Rattle.std.specs.Prelude.{◌≡◌, ℕ, ◌==◌, List, [], ◌∷◌, ◌++◌, codes, take, Option, None, Some, if◌then◌else◌}
 use Rattle.std.specs.List.{All, flat_map}
-use Rattle.maildrop.specs.Text.{IsLine}
-
-abbrev pub begins_with_dot : List ℕ → Bool
-begins_with_dot [] = false
-begins_with_dot (b ∷ bytes) = b == 46
+use Rattle.maildrop.specs.Text.{IsLine, begins_with_dot}
 
 -- a line that begins with a dot has one more in front
 abbrev pub stuffed_line : List ℕ → List ℕ

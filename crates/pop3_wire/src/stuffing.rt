@@ -1,11 +1,11 @@
 //! Texts on the wire (RFC 1939 section 3, multi-line responses).
 ghost use Rattle.std.specs.Prelude.{◌≡◌, ◌++◌, take, IfOk, OnOk};
 ghost use Rattle.std.specs.List.{flat_map};
-ghost use Rattle.pop3_wire.specs.Stuffing.{begins_with_dot as starts_with_dot, stuffed_line, wire_line, wire_form, top_lines};
+ghost use Rattle.pop3_wire.specs.Stuffing.{stuffed_line, wire_line, wire_form, top_lines};
 
 use crate::writing::{put, with_room};
 use ballot::Memory;
-use maildrop::{Lines, Text};
+use maildrop::{Lines, Text, begins_with_dot};
 use std::alloc::Allocator;
 
 /// Room is taken for so many dots that come in front of lines, and for one more with each so many octets.
@@ -15,15 +15,6 @@ const OCTETS_PER_DOT: u128 = 64;
 
 /// What ends a text on the wire.
 const END: &[u8] = b".\r\n";
-
-pub(crate) fn begins_with_dot(line: &[u8]) -> bool
-    ensures { result ≡ starts_with_dot line.now }
-{
-    match line {
-        [first, ..] => *first == b'.',
-        [] => false,
-    }
-}
 
 /// About how many octets the wire form of a text has: its own, and some for dots. A guess too low costs a growth.
 pub(crate) fn wire_room<A: Allocator + Copy>(text: &Text<A>) -> u128 {
@@ -49,16 +40,27 @@ fn put_line<A: Allocator>(bytes: &mut Vec<u8, A>, line: &[u8]) -> Result<(), Mem
     put(bytes, b"\r\n")
 }
 
-/// Adds the wire form of a text. Goes once over its block.
+/// Adds all lines of a text. Without a dot to double they stand in its block as on the wire.
+fn put_lines<A: Allocator + Copy>(bytes: &mut Vec<u8, A>, text: &Text<A>) -> Result<(), Memory>
+    ensures { OnOk result (bytes.new.items ≡ bytes.old.items ++ flat_map wire_line text.now) }
+{
+    if !text.has_dots() {
+        return put(bytes, text.block());
+    }
+    for line in text.get() {
+        put_line(bytes, line)?;
+    }
+    Ok(())
+}
+
+/// Adds the wire form of a text.
 pub(crate) fn put_wire<A: Allocator + Copy>(
     bytes: &mut Vec<u8, A>,
     text: &Text<A>,
 ) -> Result<(), Memory>
     ensures { OnOk result (bytes.new.items ≡ bytes.old.items ++ wire_form text.now) }
 {
-    for line in text.get() {
-        put_line(bytes, line)?;
-    }
+    put_lines(bytes, text)?;
     put(bytes, END)
 }
 

@@ -5,9 +5,8 @@ ghost use Rattle.std.specs.Option.{option_copied};
 ghost use Rattle.maildrop.specs.Text.{IsLine};
 ghost use Rattle.pop3_wire.specs.Stuffing.{unstuffed_line as line_of_stuffed, wire_line, wire_form, AreStuffed, BeginsWithNone, BeginsWithOne};
 
-use crate::stuffing::begins_with_dot;
 use ballot::Memory;
-use maildrop::{Text, TextBuilder};
+use maildrop::{Text, TextBuilder, begins_with_dot};
 use memchr::memchr;
 use std::alloc::Allocator;
 

@@ -1,7 +1,7 @@
 use Rattle.std.proofs.Common.{◌≡◌, ◌++◌}
 use Rattle.std.specs.List.{flat_map}
 use Rattle.pop3_wire.specs.Stuffing.{wire_line}
-use Rattle.pop3_wire.proofs.stuffing.put_wire.Given as goal
+use Rattle.pop3_wire.proofs.stuffing.put_lines.Given as goal
 
 -- what is written, and what the rest will bring
 abbrev pub invariant-loop-line : goal.invariant-loop-line
