@@ -14,7 +14,7 @@ use Rattle.replica.proofs.History.{decided_performs, decided_answers, called_ans
 use Rattle.replica.specs.Taken.{IsLeft, IsButTaken}
 use Rattle.replica.proofs.ButAwaited.{requested_alike, decided_alike}
 
-left_itself : {R : Type 0} (o : Option (Option R)) → IsLeft o o
+pub left_itself : {R : Type 0} (o : Option (Option R)) → IsLeft o o
 left_itself None = refl
 left_itself (Some None) = refl
 left_itself (Some (Some a)) = inl refl

@@ -1,0 +1,4 @@
+pub mod Replaying
+pub mod Orders
+pub mod Alike
+pub mod Kept

@@ -1,0 +1,5 @@
+pub mod Stops
+pub mod Tickets
+pub mod Replay
+pub mod Roles
+pub mod Nodes

@@ -1,0 +1,98 @@
+-- What contracts see of a node, and what its type keeps.
+use Rattle.std.specs.Prelude.{◌≡◌, ℕ, ◌==◌, List, [], ◌∷◌, ◌++◌, map, Bool, true, false, Option, Some, None, is_some, if◌then◌else◌}
+use Rattle.std.specs.List.{list_any}
+use Rattle.std.specs.Map.{lookup}
+use Rattle.std.specs.BTreeMap.{is_at}
+use Rattle.maildrop.specs.CommandId.{CommandId}
+use Rattle.maildrop.specs.declared.outcome.Outcome.{Outcome}
+use Rattle.replica.specs.Replicas.{answer_for, taken}
+use Rattle.maildrop.specs.Office.{new_user}
+use Rattle.replica.specs.Taken as replica
+use Rattle.node.specs.Replay.{NodeState, mail_rules, compare_ids, replayed, submits_of}
+use Rattle.node.specs.Tickets.{tickets_of}
+use Rattle.node.specs.declared.input.Input.{Input}
+use Rattle.node.specs.declared.input.Input.TheVariants.{Submit, Crash}
+use Rattle.node.specs.declared.log.NodeLog.{NodeLog}
+use Rattle.node.specs.declared.log.Opening.{Opening}
+use Rattle.node.specs.declared.stopped.Stopped.{Stopped}
+use Rattle.node.specs.declared.stopped.Stopped.TheVariants.{Crashed, Memory}
+
+-- the identities of commands that were submitted here and whose answers weren't taken, each with its answer once it is there
+abbrev pub Awaited : Type 0 → Type 0
+Awaited A = List (CommandId × Option (Outcome A))
+
+-- its log, why it has stopped, and what is awaited of it, which is nothing once it has stopped
+pub record NodeValue (A : Type 0) : Type 0 where
+  pub log : NodeLog A
+  pub stopped : Option Stopped
+  pub awaited : Awaited A
+
+-- what a node is follows from its log, unless want of memory has stopped it
+abbrev pub IsKnown : Option Stopped → Type 0
+IsKnown (Some Memory) = ⊥
+IsKnown _ = Unit {0}
+
+-- the highest number of a ticket
+abbrev pub LAST_TICKET : ℕ
+LAST_TICKET = 18446744073709551615
+
+module _ {A : Type 0} where
+  abbrev pub logged : NodeLog A → Input A → NodeLog A
+  logged log i = record { opening = log.opening; inputs = log.inputs ++ i ∷ [] }
+
+  abbrev pub is_crash : Input A → Bool
+  is_crash Crash = true
+  is_crash _ = false
+
+  -- why a node stops after an input
+  abbrev pub stops_after : Input A → Option Stopped
+  stops_after Crash = Some Crashed
+  stops_after _ = None
+
+  -- whether the input is for a user who has got the last ticket
+  abbrev pub no_ticket_for : NodeLog A → Input A → Bool
+  no_ticket_for log (Submit name op) = submits_of name log.inputs == LAST_TICKET
+  no_ticket_for log _ = false
+
+  abbrev pub awaited_for : CommandId → Awaited A → Option (Option (Outcome A))
+  awaited_for id awaited = lookup (is_at (compare_ids id)) awaited
+
+  abbrev pub answer_of : CommandId → Awaited A → Option (Outcome A)
+  answer_of id awaited = answer_for mail_rules id awaited
+
+  -- the node after the answer to a command is taken
+  abbrev pub taken_of : CommandId → NodeState A → NodeState A
+  taken_of id n = record { acceptor = n.acceptor; leader = n.leader; replica = taken mail_rules id n.replica }
+
+  -- the answer that a node of this log has got for the command, taken or not
+  abbrev pub answered : NodeLog A → CommandId → Option (Outcome A)
+  answered log id = answer_of id (replayed log).replica.awaited
+
+  -- an answer that is there stays, and one comes where the log gets it
+  abbrev pub answer_after : NodeLog A → Input A → CommandId → Option (Outcome A) → Option (Outcome A)
+  answer_after log i id (Some answer) = Some answer
+  answer_after log i id None = if is_some (answered log id) then None else answered (logged log i) id
+
+  -- what is awaited of a node that runs
+  abbrev pub awaited_in : Option Stopped → Option (NodeState A) → Awaited A
+  awaited_in None (Some n) = n.replica.awaited
+  awaited_in _ _ = []
+
+  -- one node is as the other, but for the answers that were taken of it; both began with the maildrops of the opening
+  pub record IsButTaken (opening : Opening A) (m n : NodeState A) : Type 0 where
+    pub acceptor : m.acceptor ≡ n.acceptor
+    pub leader : m.leader ≡ n.leader
+    pub replica : replica.IsButTaken mail_rules (map (new_user opening.limits) opening.names) m.replica n.replica
+
+  -- the roles are those to which the log leads, and each user has got as many tickets as the log says
+  pub record IsCurrent (log : NodeLog A) (roles : Option (NodeState A)) (given : List (List ℕ × ℕ)) : Type 0 where
+    pub node : NodeState A
+    pub works : roles ≡ Some node
+    pub replay : IsButTaken log.opening node (replayed log)
+    pub tickets : (name : List ℕ) → tickets_of name given ≡ submits_of name log.inputs
+
+  -- what holds of a node between steps; it has crashed where its log says so
+  abbrev pub IsKept : NodeLog A → Option (NodeState A) → List (List ℕ × ℕ) → Option Stopped → Type 0
+  IsKept log roles given (Some Memory) = Unit {0}
+  IsKept log roles given (Some Crashed) = IsCurrent log roles given × (list_any is_crash log.inputs ≡ true)
+  IsKept log roles given _ = IsCurrent log roles given × (list_any is_crash log.inputs ≡ false)

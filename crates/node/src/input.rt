@@ -1,0 +1,36 @@
+//! What a node is given to do.
+ghost use Rattle.std.specs.Prelude.{◌≡◌, IfOk};
+
+use ballot::{Envelope, Memory};
+use maildrop::{Command, Name, Op};
+use std::alloc::{Allocator, Global};
+
+/// One input of a node.
+#[derive(Drop)]
+pub enum Input<A: Allocator = Global> {
+    /// An operation for a user is to be decided, as a command of this node.
+    Submit(Name, Op<A>),
+    /// A message comes. One to another node changes nothing but the log.
+    Arrive(Envelope<Command<A>, A>),
+    /// Time has passed: what waits for an answer is sent again.
+    Tick,
+    /// The node asks to lead.
+    Campaign,
+    /// The node stops, for good.
+    Crash,
+}
+
+impl<A: Allocator + Copy> Input<A> {
+    /// The same input again.
+    pub fn copy(&self) -> Result<Self, Memory>
+        ensures { IfOk result (λ input. input ≡ self.now) }
+    {
+        Ok(match self {
+            Input::Submit(name, op) => Input::Submit(*name, op.copy()?),
+            Input::Arrive(envelope) => Input::Arrive(envelope.copy()?),
+            Input::Tick => Input::Tick,
+            Input::Campaign => Input::Campaign,
+            Input::Crash => Input::Crash,
+        })
+    }
+}

@@ -1,0 +1,28 @@
+//! What a node began with, and what it was given to do.
+
+use crate::input::Input;
+use ballot::{Cluster, Items, NodeId};
+use maildrop::{Limits, Name};
+use std::alloc::{Allocator, Global};
+
+/// What a node begins with.
+#[derive(Drop)]
+pub struct Opening<A: Allocator = Global> {
+    /// Its number.
+    pub me: NodeId,
+    /// The nodes that it is one of.
+    pub cluster: Cluster,
+    /// How many slots it proposes ahead of those that are decided.
+    pub window: u64,
+    /// The users who have a maildrop, all different.
+    pub names: Items<Name, A>,
+    /// The limits of each maildrop.
+    pub limits: Limits,
+}
+
+/// A node's log: its opening, and the inputs that it took, the oldest first. All else that a node is follows from it.
+#[derive(Drop)]
+pub struct NodeLog<A: Allocator = Global> {
+    pub opening: Opening<A>,
+    pub inputs: Items<Input<A>, A>,
+}
