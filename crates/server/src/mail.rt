@@ -1,5 +1,6 @@
 //! The messages that are in a maildrop before its session.
-ghost use Rattle.std.specs.Prelude.{◌≡◌, ◌+◌, ◌⊎◌, ◌↔◌, true, false, [], ◌∷◌, length, None, Ok, Err, IfOk, OnOk, IfErr, IsErrOf};
+ghost use Rattle.std.specs.Prelude.{◌≡◌, ◌+◌, ◌⊎◌, true, false, [], ◌∷◌, length, None, Ok, Err, IfOk, OnOk, IfErr, IsErrOf};
+ghost use Rattle.mboxrd.specs.Mailbox.{read_of};
 ghost use Rattle.mboxrd.specs.declared.error.MboxError.TheVariants.{NoFromLine};
 ghost use Rattle.maildrop.specs.Office.{maildrop_of, maildrop_after};
 ghost use Rattle.maildrop.specs.declared.op.Op.TheVariants.{Mail};
@@ -12,19 +13,39 @@ use crate::fault::Fault;
 use crate::lone_desk::LoneDesk;
 use crate::options::LoneOptions;
 use maildrop::{Name, Op, Outcome, Text};
-use mboxrd::{MboxError, read};
+use mboxrd::{MboxError, Reader};
 use std::alloc::Global;
+
+/// How many bytes of a mailbox file are read at a time.
+const PIECE: usize = 4096;
+
+/// The texts of a mailbox file, which is read piece by piece.
+fn texts_in(alloc: Global, file: &[u8]) -> Result<Vec<Text>, MboxError>
+    ensures texts { IfOk result (λ texts. read_of file.now ≡ Ok texts.items) }
+    ensures refused { IsErrOf result MboxError.NoFromLine → read_of file.now ≡ Err NoFromLine }
+{
+    let mut reader = Reader::new(alloc);
+    let mut rest = file;
+    while !rest.is_empty() {
+        let (piece, behind) = rest.split_at(rest.len().min(PIECE));
+        if let Err(error) = reader.feed(piece) {
+            return Err(error);
+        }
+        rest = behind;
+    }
+    reader.finish()
+}
 
 /// The texts of the mailbox file that the options name, if they name one.
 pub(crate) fn texts_of(alloc: Global, options: &LoneOptions<'_>) -> Result<Vec<Text>, Fault>
     ensures texts { IfOk result (λ texts. texts_in_options options.now ≡ Ok texts.items) }
-    ensures refused { IsErrOf result Fault.Mailbox ↔ (texts_in_options options.now ≡ Err NoFromLine) }
+    ensures refused { IsErrOf result Fault.Mailbox → texts_in_options options.now ≡ Err NoFromLine }
     ensures fault { IfErr result (λ fault. (fault ≡ Fault.Mailbox) ⊎ (fault ≡ Fault.Memory)) }
 {
     let Some(mbox) = options.mbox else {
         return Ok(Vec::new(alloc));
     };
-    match read(alloc, mbox) {
+    match texts_in(alloc, mbox) {
         Ok(texts) => Ok(texts),
         Err(MboxError::NoFromLine) => Err(Fault::Mailbox),
         Err(MboxError::Memory) => Err(Fault::Memory),
