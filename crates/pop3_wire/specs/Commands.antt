@@ -5,6 +5,7 @@ use Rattle.std.specs.Option.{option_map, option_and_then, ok_or}
 use Rattle.std.specs.Char.{to_ascii_lowercase, is_ascii_digit}
 use Rattle.std.specs.Str.{bytes_eq}
 use Rattle.maildrop.specs.Name.{is_name}
+use Rattle.pop3_wire.specs.Limits.{most_digits}
 use Rattle.pop3_wire.specs.declared.verb.Verb.{Verb}
 use Rattle.pop3_wire.specs.declared.verb.Verb.TheVariants as verb
 use Rattle.pop3_wire.specs.declared.verb.Keyword.{Keyword}
@@ -61,7 +62,7 @@ arguments_in (space ∷ bytes) = slice_split is_space bytes
 
 -- 1 to 9 digits
 abbrev pub is_number : List ℕ → Bool
-is_number bytes = nat_le 1 (length bytes) && nat_le (length bytes) 9 && list_all is_ascii_digit bytes
+is_number bytes = nat_le 1 (length bytes) && nat_le (length bytes) most_digits && list_all is_ascii_digit bytes
 
 -- leading zeros add nothing
 abbrev pub number_value : List ℕ → ℕ

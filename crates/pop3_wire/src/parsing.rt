@@ -4,11 +4,15 @@ ghost use Rattle.std.specs.List.{list_all, slice_split};
 ghost use Rattle.std.specs.Option.{option_map, option_copied};
 ghost use Rattle.std.specs.Char.{to_ascii_lowercase, is_ascii_digit};
 ghost use Rattle.pop3_wire.specs.Commands as spec;
+ghost use Rattle.pop3_wire.specs.Limits.{longest_line, most_digits};
 
 use crate::line_bytes::LineBytes;
 use crate::verb::{Keyword, LineFault, Verb};
 use maildrop::Name;
 use memchr::memchr;
+
+/// The most digits of a number.
+const MOST_DIGITS: usize = 9;
 
 fn is_word(bytes: &[u8], word: &[u8]) -> bool
     requires { map to_ascii_lowercase word.now ≡ word.now }
@@ -86,9 +90,9 @@ fn are_digits(bytes: &[u8]) -> bool
     bytes.iter().all(|byte| byte.is_ascii_digit())
 }
 
-/// The value of at most nine digits.
+/// The value of at most `MOST_DIGITS` digits.
 fn number_value(digits: &[u8]) -> u32
-    requires few { length digits.now ≤ 9 }
+    requires few { length digits.now ≤ most_digits }
     requires digits { IsTrue (list_all is_ascii_digit digits.now) }
     ensures { result ≡ spec.number_value digits.now }
 {
@@ -102,7 +106,7 @@ fn number_value(digits: &[u8]) -> u32
 fn number_of(bytes: &[u8]) -> Option<u32>
     ensures { result ≡ spec.number_of bytes.now }
 {
-    if bytes.is_empty() || bytes.len() > 9 || !are_digits(bytes) {
+    if bytes.is_empty() || bytes.len() > MOST_DIGITS || !are_digits(bytes) {
         return None;
     }
     Some(number_value(bytes))
@@ -234,7 +238,7 @@ fn verb_with(keyword: Keyword, rest: &[u8]) -> Option<Verb>
 }
 
 fn pass_with(rest: &[u8]) -> Option<Verb>
-    requires { length rest.now ≤ 512 }
+    requires { length rest.now ≤ longest_line }
     ensures { result ≡ spec.pass_with rest.now }
 {
     match rest {
@@ -247,7 +251,7 @@ fn pass_with(rest: &[u8]) -> Option<Verb>
 }
 
 fn command_of(keyword: Keyword, rest: &[u8]) -> Result<Verb, LineFault>
-    requires { length rest.now ≤ 512 }
+    requires { length rest.now ≤ longest_line }
     ensures { result ≡ spec.command_of (Some keyword) rest.now }
 {
     let verb = match keyword {

@@ -1,6 +1,7 @@
 //! The bytes of replies, one function for each occasion that tells something.
 ghost use Rattle.std.specs.Prelude.{◌≡◌, ◌≤◌, ◌++◌, false, length, codes, IfOk, OnOk};
 ghost use Rattle.std.specs.List.{flat_map};
+ghost use Rattle.pop3_wire.specs.Limits.{longest_reply_line};
 ghost use Rattle.pop3_wire.specs.Reply as spec;
 
 use crate::listed::{Identified, Listed};
@@ -21,7 +22,7 @@ const TOP_ROOM: u128 = 4096;
 
 /// A reply that tells nothing.
 pub(crate) fn fixed<A: Allocator>(alloc: A, words: &[u8]) -> Result<Vec<u8, A>, Memory>
-    requires { length words.now ≤ 512 }
+    requires { length words.now ≤ longest_reply_line }
     ensures value { IfOk result (λ text. text.items ≡ words.now) }
     ensures short { IfOk result (λ text. spec.HasShortFirstLine text.items) }
 {

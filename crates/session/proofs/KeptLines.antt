@@ -4,6 +4,7 @@ use Rattle.std.specs.List.{list_all}
 use Rattle.std.proofs.lemmas.List.{take_all, take-append-le, drop-append-le, length-drop, length-append}
 use Rattle.std.proofs.lemmas.List.Folds.{list_all-append}
 use Rattle.std.proofs.lemmas.Bool.{and_parts}
+use Rattle.pop3_wire.specs.Limits.{longest_line}
 use Rattle.pop3_wire.specs.declared.line.Line.TheVariants.{Whole, TooLong}
 use Rattle.session.specs.HeardLines.{lines_in, total_of, is_short, AreLengths}
 
@@ -44,9 +45,9 @@ lengths-none bytes lengths are = record {
   short = list_all-append is_short lengths (None ∷ []) ∙ rw are.short refl;
 }
 
-pub lengths-some : (bytes : List ℕ) (lengths : List (Option ℕ)) (line : List ℕ) → length line ≤ 511 → AreLengths bytes lengths → AreLengths (bytes ++ line) (lengths ++ Some (length line) ∷ [])
+pub lengths-some : (bytes : List ℕ) (lengths : List (Option ℕ)) (line : List ℕ) → length line ≤ longest_line → AreLengths bytes lengths → AreLengths (bytes ++ line) (lengths ++ Some (length line) ∷ [])
 lengths-some bytes lengths line few are =
-    let short : nat_le (length line) 511 ≡ true = grind (arith, few) in
+    let short : nat_le (length line) longest_line ≡ true = grind (arith, few) in
     record {
       filled = omega (arith, total-some lengths (length line), length-append bytes line, are.filled);
       short = list_all-append is_short lengths (Some (length line) ∷ []) ∙ rw (are.short, short) refl;
@@ -62,11 +63,11 @@ lengths-rest bytes lengths are = record { filled = are.filled; short = are.short
 pub lengths-behind : (bytes : List ℕ) (size : ℕ) (lengths : List (Option ℕ)) → AreLengths bytes (Some size ∷ lengths) → AreLengths (drop size bytes) lengths
 lengths-behind bytes size lengths are = record {
   filled = omega (arith, are.filled, length-drop size bytes);
-  short = (and_parts (nat_le size 511) (list_all is_short lengths) are.short).1;
+  short = (and_parts (nat_le size longest_line) (list_all is_short lengths) are.short).1;
 }
 
 pub first-within : (bytes : List ℕ) (size : ℕ) (lengths : List (Option ℕ)) → AreLengths bytes (Some size ∷ lengths) → size ≤ length bytes
 first-within bytes size lengths are = omega (arith, are.filled)
 
-pub first-short : (bytes : List ℕ) (size : ℕ) (lengths : List (Option ℕ)) → AreLengths bytes (Some size ∷ lengths) → nat_le size 511 ≡ true
-first-short bytes size lengths are = (and_parts (nat_le size 511) (list_all is_short lengths) are.short).0
+pub first-short : (bytes : List ℕ) (size : ℕ) (lengths : List (Option ℕ)) → AreLengths bytes (Some size ∷ lengths) → nat_le size longest_line ≡ true
+first-short bytes size lengths are = (and_parts (nat_le size longest_line) (list_all is_short lengths) are.short).0

@@ -1,6 +1,7 @@
 -- Lines that are kept one behind another, in one block of bytes.
 use Rattle.std.specs.Prelude.{◌≡◌, ℕ, ◌+◌, nat_le, Bool, true, List, [], ◌∷◌, length, take, drop, Option, Some, None}
 use Rattle.std.specs.List.{list_all}
+use Rattle.pop3_wire.specs.Limits.{longest_line}
 use Rattle.pop3_wire.specs.declared.line.Line.{Line}
 use Rattle.pop3_wire.specs.declared.line.Line.TheVariants.{Whole, TooLong}
 
@@ -17,7 +18,7 @@ total_of (Some length ∷ lengths) = length + total_of lengths
 
 abbrev pub is_short : Option ℕ → Bool
 is_short None = true
-is_short (Some length) = nat_le length 511
+is_short (Some length) = nat_le length longest_line
 
 -- the lengths of lines that fill a block of bytes
 pub record AreLengths (bytes : List ℕ) (lengths : List (Option ℕ)) : Type 0 where

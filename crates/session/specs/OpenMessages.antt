@@ -1,6 +1,7 @@
 -- The messages of an open maildrop, and which of them are marked as deleted.
-use Rattle.std.specs.Prelude.{ℕ, zero, suc, ◌+◌, ◌<◌, ◌≤◌, ◌^◌, ◌≡◌, false, true, not, List, [], ◌∷◌, length, map, filter, sum_by, slice_get, slice_set, ◌-◌, Option, Some, None, if◌then◌else◌}
+use Rattle.std.specs.Prelude.{ℕ, zero, suc, ◌+◌, ◌<◌, ◌≤◌, ◌≡◌, false, true, not, List, [], ◌∷◌, length, map, filter, sum_by, slice_get, slice_set, ◌-◌, Option, Some, None, if◌then◌else◌}
 use Rattle.std.specs.List.{AllPairs}
+use Rattle.maildrop.specs.Limits.{most_messages, most_octets}
 use Rattle.maildrop.specs.Text.{octets_of}
 use Rattle.maildrop.specs.declared.message.Message.{Message}
 use Rattle.pop3_wire.specs.declared.listed.Listed.{Listed}
@@ -62,6 +63,6 @@ module _ {A : Type 0} where
   pub record AreCounted (entries : List (OpenMessage A)) (messages octets : ℕ) : Type 0 where
     pub messages_counted : messages ≡ length (unmarked entries)
     pub octets_counted : octets ≡ octets_in (unmarked entries)
-    pub few : length entries ≤ 999999999
-    pub small : octets_in entries ≤ 2 ^ 40
+    pub few : length entries ≤ most_messages
+    pub small : octets_in entries ≤ most_octets
     pub ascending : AllPairs (λ a b. a.message.uid < b.message.uid) entries

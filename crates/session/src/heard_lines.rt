@@ -1,5 +1,6 @@
 //! The lines of a session, as they are kept.
 ghost use Rattle.std.specs.Prelude.{◌≡◌, ◌≤◌, [], ◌∷◌, ◌++◌, length, OnOk, OnErr, MatchOption};
+ghost use Rattle.pop3_wire.specs.Limits.{longest_line};
 ghost use Rattle.pop3_wire.specs.declared.line.Line.TheVariants.{Whole};
 
 use ballot::Memory;
@@ -71,7 +72,7 @@ impl<A: Allocator + Copy> HeardLines<A> {
     }
 
     fn push_bytes(&mut self, bytes: &[u8]) -> Result<(), Memory>
-        requires { length bytes.now ≤ 511 }
+        requires { length bytes.now ≤ longest_line }
         ensures ok { OnOk result (self.new ≡ self.old ++ Whole bytes.now ∷ []) }
         ensures err { OnErr result (self.new ≡ self.old) }
     {

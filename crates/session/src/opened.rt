@@ -1,6 +1,7 @@
 //! The maildrop that a session has opened.
-ghost use Rattle.std.specs.Prelude.{◌≡◌, ℕ, ◌-◌, ◌≤◌, ◌^◌, List, Some, None, length, map, slice_set, IsTrue, is_some, IfOk, OnOk, MatchOption};
+ghost use Rattle.std.specs.Prelude.{◌≡◌, ℕ, ◌-◌, ◌≤◌, List, Some, None, length, map, slice_set, IsTrue, is_some, IfOk, OnOk, MatchOption};
 ghost use Rattle.std.specs.List.{list_any};
+ghost use Rattle.maildrop.specs.Limits.{most_messages, most_octets};
 ghost use Rattle.maildrop.specs.Taken.{message_octets};
 ghost use Rattle.session.specs.OpenMessages as spec;
 
@@ -128,7 +129,7 @@ fn listed_of<A: Allocator + Copy>(
     alloc: A,
     entries: &[OpenMessage<A>],
 ) -> Result<Vec<Listed, A>, Memory>
-    requires { length entries.now ≤ 999999999 }
+    requires { length entries.now ≤ most_messages }
     ensures { IfOk result (λ listed. listed.items ≡ spec.listed_from 1 entries.now) }
 {
     let mut listed = Vec::with_capacity(alloc, entries.len())?;
@@ -149,7 +150,7 @@ fn identified_of<A: Allocator + Copy>(
     alloc: A,
     entries: &[OpenMessage<A>],
 ) -> Result<Vec<Identified, A>, Memory>
-    requires { length entries.now ≤ 999999999 }
+    requires { length entries.now ≤ most_messages }
     ensures { IfOk result (λ identified. identified.items ≡ spec.identified_from 1 entries.now) }
 {
     let mut identified = Vec::with_capacity(alloc, entries.len())?;
@@ -189,7 +190,7 @@ fn remove_marks<A: Allocator + Copy>(entries: &mut Vec<OpenMessage<A>, A>)
 }
 
 fn octets_in<A: Allocator + Copy>(entries: &[OpenMessage<A>]) -> u64
-    requires { spec.octets_in entries.now ≤ 2 ^ 40 }
+    requires { spec.octets_in entries.now ≤ most_octets }
     ensures { result ≡ spec.octets_in entries.now }
 {
     let mut octets = 0;
@@ -203,7 +204,7 @@ fn entries_of<A: Allocator + Copy>(
     alloc: A,
     messages: &[Message<A>],
 ) -> Result<Vec<OpenMessage<A>, A>, Memory>
-    requires { message_octets messages.now ≤ 2 ^ 40 }
+    requires { message_octets messages.now ≤ most_octets }
     ensures { IfOk result (λ entries. entries.items ≡ map spec.open_message_of messages.now) }
 {
     let mut entries = Vec::with_capacity(alloc, messages.len())?;

@@ -22,6 +22,9 @@ use pop3_wire::{Line, LineReader};
 use std::alloc::Allocator;
 use std::io::{Read, Write};
 
+/// How many bytes of the input are read at a time.
+const PIECE: usize = 4096;
+
 /// Writes as much as the writer takes, and gives how many bytes that is. Less than all means that a write failed, or
 /// took nothing.
 fn send<W: Write>(writer: &mut W, bytes: &[u8]) -> usize
@@ -138,7 +141,7 @@ fn listen<A: Allocator + Copy, R: Read, W: Write, D: Desk<Op<A>, Outcome<A>>, G:
         result (R.remaining reader.old) (R.remaining reader.new) (W.contents writer.old) (W.contents writer.new) }
 {
     let mut lines = LineReader::new();
-    let mut buffer = [0u8; 4096];
+    let mut buffer = [0u8; PIECE];
     for _ in 0..u32::MAX {
         let count = match reader.read(&mut buffer) {
             Ok(0) => return End::HungUp,
