@@ -1,7 +1,7 @@
 //! The desk of a lone session: the office, and the tickets of what is asked.
-ghost use Rattle.std.specs.Prelude.{◌≡◌, ◌+◌, [], ◌∷◌, Some, IfOk, IfSome, OnSome, IfNone};
+ghost use Rattle.std.specs.Prelude.{◌≡◌, ◌+◌, ◌<◌, ◌^◌, false, [], ◌∷◌, Some, IsSome, IfOk, IfSome, OnSome, IfNone};
 ghost use Rattle.maildrop.specs.Maildrop.{empty_maildrop};
-ghost use Rattle.maildrop.specs.Office.{new_user, outcome_in, users_after, maildrop_of, maildrop_after};
+ghost use Rattle.maildrop.specs.Office.{new_user, outcome_in, users_after, maildrop_of, maildrop_after, takes_memory_in};
 ghost use Rattle.server.specs.Tickets.{ticket_of};
 
 use ballot::{Memory, NodeId};
@@ -38,6 +38,8 @@ impl<A: Allocator + Copy> LoneDesk<A> {
             ≡ maildrop_after (maildrop_of user self.old.office) (record { user = user; ticket = ticket_of self.old.next; op = op })) }
         ensures next { OnSome result (self.new.next ≡ self.old.next + 1) }
         ensures unchanged { IfNone result (self.new ≡ self.old) }
+        ensures sure { takes_memory_in self.old.office (record { user = user; ticket = ticket_of self.old.next; op = op }) ≡ false
+            → 0 < self.old.next → self.old.next + 1 < 2 ^ 64 → IsSome result }
     {
         let node = NodeId::new(1).unwrap();
         let (Some(ticket), Some(next)) = (Ticket::new(node, self.next), self.next.checked_add(1))

@@ -23,6 +23,7 @@ use Rattle.pop3_wire.specs.declared.verb.LineFault.TheVariants.{Unknown, Argumen
 use Rattle.session.specs.declared.open_message.OpenMessage.{OpenMessage}
 use Rattle.session.specs.declared.state.State.{State}
 use Rattle.session.specs.declared.state.State.TheVariants.{Authorization, Locking, Transaction, Leaving, Closed, Spent}
+use Rattle.session.specs.declared.state.Step.{Step}
 use Rattle.session.specs.declared.state.Step.TheVariants.{Say, Ask, SayAndClose}
 use Rattle.session.specs.declared.state.Turn.{Turn}
 use Rattle.session.specs.OpenMessages.{open_message_of, message_at, with_mark_at, without_mark, unmarked, octets_in, listed_from, identified_from, marked_uids}
@@ -182,6 +183,12 @@ module _ {A : Type 0} where
   abbrev pub by_line : List Account → Stamp → State A → Line → Turn A
   by_line accounts stamp state TooLong = too_long state
   by_line accounts stamp state (Whole bytes) = by_command accounts stamp state (verb_of bytes)
+
+  -- whether a step takes no memory: it asks for a lock, or gives one back
+  abbrev pub takes_no_memory : Step A → Bool
+  takes_no_memory (Ask user Take) = true
+  takes_no_memory (Ask user (Free lock)) = true
+  takes_no_memory step = false
 
   -- a session that got the lock, with these messages
   abbrev pub opened : List ℕ → Ticket → List (Message A) → Turn A

@@ -1,5 +1,5 @@
 //! A session in which nobody is logged in (RFC 1939 section 4).
-ghost use Rattle.std.specs.Prelude.{◌≡◌, IfOk, None};
+ghost use Rattle.std.specs.Prelude.{◌≡◌, true, IfOk, IsOk, None};
 ghost use Rattle.apop.specs.Login.{passes_apop};
 ghost use Rattle.pop3_wire.specs.Reply.{reply_text};
 ghost use Rattle.session.specs.Session as spec;
@@ -30,7 +30,8 @@ fn is_valid(user: &Option<Name>, keyword: Keyword) -> bool
 }
 
 fn invalid_login<A: Allocator + Copy>(alloc: A, invalid: u8) -> Result<Turn<A>, Memory>
-    ensures { IfOk result (λ turn. turn ≡ spec.invalid_login invalid) }
+    ensures turn { IfOk result (λ turn. turn ≡ spec.invalid_login invalid) }
+    ensures sure { spec.takes_no_memory (spec.invalid_login {A = A} invalid).step ≡ true → IsOk result }
 {
     if invalid < 2 {
         say_and_forget(alloc, &Reply::InvalidLogin, invalid + 1)
@@ -46,7 +47,8 @@ fn checked_login<A: Allocator + Copy>(
     user: Name,
     invalid: u8,
 ) -> Result<Turn<A>, Memory>
-    ensures { IfOk result (λ turn. turn ≡ spec.checked_login right user invalid) }
+    ensures turn { IfOk result (λ turn. turn ≡ spec.checked_login right user invalid) }
+    ensures sure { spec.takes_no_memory (spec.checked_login {A = A} right user invalid).step ≡ true → IsOk result }
 {
     if right {
         Ok(ask(user, Op::Take, State::Locking { user }))
@@ -62,7 +64,8 @@ fn login<A: Allocator + Copy>(
     invalid: u8,
     secret: &[u8],
 ) -> Result<Turn<A>, Memory>
-    ensures { IfOk result (λ turn. turn ≡ spec.login accounts.now user invalid secret.now) }
+    ensures turn { IfOk result (λ turn. turn ≡ spec.login accounts.now user invalid secret.now) }
+    ensures sure { spec.takes_no_memory (spec.login {A = A} accounts.now user invalid secret.now).step ≡ true → IsOk result }
 {
     match user {
         None => say_and_forget(alloc, &Reply::WrongState, invalid),
@@ -81,7 +84,8 @@ fn login_by_digest<A: Allocator + Copy>(
     user: Name,
     digest: &[u8],
 ) -> Result<Turn<A>, Memory>
-    ensures { IfOk result (λ turn. turn ≡ spec.checked_login (passes_apop accounts.now user stamp.now digest.now) user invalid) }
+    ensures turn { IfOk result (λ turn. turn ≡ spec.checked_login (passes_apop accounts.now user stamp.now digest.now) user invalid) }
+    ensures sure { spec.takes_no_memory (spec.checked_login {A = A} (passes_apop accounts.now user stamp.now digest.now) user invalid).step ≡ true → IsOk result }
 {
     let right = accounts.check_apop(&user, stamp, digest);
     checked_login(alloc, right, user, invalid)
@@ -120,7 +124,8 @@ pub(crate) fn in_authorization<A: Allocator + Copy>(
     invalid: u8,
     command: Result<Verb, LineFault>,
 ) -> Result<Turn<A>, Memory>
-    ensures { IfOk result (λ turn. turn ≡ spec.in_authorization accounts.now stamp.now user invalid command) }
+    ensures turn { IfOk result (λ turn. turn ≡ spec.in_authorization accounts.now stamp.now user invalid command) }
+    ensures sure { spec.takes_no_memory (spec.in_authorization {A = A} accounts.now stamp.now user invalid command).step ≡ true → IsOk result }
 {
     match &command {
         Ok(Verb::User(name)) => {

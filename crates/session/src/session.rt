@@ -1,5 +1,5 @@
 //! A session, from its greeting to its end.
-ghost use Rattle.std.specs.Prelude.{◌≡◌, ◌≢◌, ◌↔◌, true, false, ℕ, List, Some, None, Ok, Err, IsErr, IfOk, IfErr, OnOk, OnErr, MatchOption, option_map};
+ghost use Rattle.std.specs.Prelude.{◌≡◌, ◌≢◌, ◌↔◌, true, false, ℕ, List, Some, None, Ok, Err, IsOk, IsErr, IfOk, IfErr, OnOk, OnErr, MatchOption, option_map};
 ghost use Rattle.pop3_wire.specs.Reply.{greeting, HasShortFirstLine};
 ghost use Rattle.session.specs.declared.state.Turn.{Turn};
 ghost use Rattle.session.specs.Session as spec;
@@ -42,7 +42,8 @@ fn at_line<A: Allocator + Copy>(
 ) -> Result<Turn<A>, Memory>
     requires closed { spec.is_closed state ≡ false }
     requires awaits { spec.awaits_answer state ≡ false }
-    ensures { IfOk result (λ turn. turn ≡ spec.by_line accounts.now stamp.now state line.now) }
+    ensures turn { IfOk result (λ turn. turn ≡ spec.by_line accounts.now stamp.now state line.now) }
+    ensures sure { spec.takes_no_memory (spec.by_line accounts.now stamp.now state line.now).step ≡ true → IsOk result }
 {
     let command = match line {
         Line::TooLong => return too_long(alloc, state),
@@ -113,6 +114,10 @@ impl<A: Allocator + Copy> Session<A> {
         ensures asked { result ≢ Err SessionError.NotAsked }
         ensures unchanged { IfErr result (λ error. error ≢ SessionError.Memory → self.new ≡ self.old) }
         ensures spent { (result ≡ Err SessionError.Memory) → self.new ≡ record self.old { state = State.Spent (spec.lock_due self.old.state) } }
+
+        // A right login, and a QUIT that removes nothing, can't find too little memory.
+        ensures sure { spec.hears self.old.state ≡ true
+            → spec.takes_no_memory (spec.by_line accounts.now self.old.stamp self.old.state line.now).step ≡ true → IsOk result }
     {
         let lock = match &self.state {
             State::Closed | State::Spent { .. } => return Err(SessionError::Closed),

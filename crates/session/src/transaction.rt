@@ -1,5 +1,5 @@
 //! A session that holds the lock of its user's maildrop (RFC 1939 section 5).
-ghost use Rattle.std.specs.Prelude.{◌≡◌, IfOk};
+ghost use Rattle.std.specs.Prelude.{◌≡◌, true, IfOk, IsOk};
 ghost use Rattle.pop3_wire.specs.Reply.{reply_text};
 ghost use Rattle.session.specs.OpenMessages.{message_at};
 ghost use Rattle.session.specs.Session as spec;
@@ -149,7 +149,8 @@ fn quit<A: Allocator + Copy>(
     lock: Ticket,
     opened: &Opened<A>,
 ) -> Result<Turn<A>, Memory>
-    ensures { IfOk result (λ turn. turn ≡ spec.quit user lock opened.now) }
+    ensures turn { IfOk result (λ turn. turn ≡ spec.quit user lock opened.now) }
+    ensures sure { spec.takes_no_memory (spec.quit user lock opened.now).step ≡ true → IsOk result }
 {
     if !opened.has_marks() {
         return Ok(ask(user, Op::Free { lock }, State::Leaving { removing: false }));
@@ -202,7 +203,8 @@ fn by_verb<A: Allocator + Copy>(
     opened: Opened<A>,
     verb: &Verb,
 ) -> Result<Turn<A>, Memory>
-    ensures { IfOk result (λ turn. turn ≡ spec.by_verb user lock opened verb.now) }
+    ensures turn { IfOk result (λ turn. turn ≡ spec.by_verb user lock opened verb.now) }
+    ensures sure { spec.takes_no_memory (spec.by_verb user lock opened verb.now).step ≡ true → IsOk result }
 {
     match verb {
         Verb::Dele(number) => delete(alloc, user, lock, opened, *number),
@@ -232,7 +234,8 @@ pub(crate) fn in_transaction<A: Allocator + Copy>(
     opened: Opened<A>,
     command: Result<Verb, LineFault>,
 ) -> Result<Turn<A>, Memory>
-    ensures { IfOk result (λ turn. turn ≡ spec.in_transaction user lock opened command) }
+    ensures turn { IfOk result (λ turn. turn ≡ spec.in_transaction user lock opened command) }
+    ensures sure { spec.takes_no_memory (spec.in_transaction user lock opened command).step ≡ true → IsOk result }
 {
     match command {
         Ok(verb) => by_verb(alloc, user, lock, opened, &verb),
