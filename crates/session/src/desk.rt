@@ -20,8 +20,10 @@ pub trait Desk<O, R> {
 
 /// What a session passes around each line: it enters before the line is heard, and leaves once the reply is written.
 pub trait Gate {
+    /// A line is about to be heard.
     fn enter(&mut self);
 
+    /// The reply is written. What stops the session in between passes no leave.
     fn leave(&mut self);
 }
 
