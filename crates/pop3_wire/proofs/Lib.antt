@@ -8,4 +8,3 @@ pub mod Feeding
 pub mod FirstLines
 pub mod ResponseCodes
 pub mod WireForms
-pub mod Rows

@@ -4,3 +4,4 @@ pub mod Reader
 pub mod Commands
 pub mod Stuffing
 pub mod Reply
+pub mod Examples

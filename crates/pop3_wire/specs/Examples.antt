@@ -1,5 +1,5 @@
--- Worked rows of the definitions.
-use Rattle.std.proofs.Common.{◌≡◌, List, ℕ, [], ◌∷◌, ◌++◌, replicate, refl, codes, None, Some, Ok, Err}
+-- Worked examples of the definitions.
+use Rattle.std.specs.Prelude.{◌≡◌, List, ℕ, [], ◌∷◌, ◌++◌, replicate, refl, codes, None, Some, Ok, Err}
 use Rattle.std.specs.Fmt.{digits}
 use Rattle.pop3_wire.specs.declared.line.Line.TheVariants.{Whole, TooLong}
 use Rattle.pop3_wire.specs.declared.verb.Verb.TheVariants as verb
