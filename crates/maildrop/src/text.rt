@@ -1,6 +1,7 @@
 //! The texts of messages.
 ghost use Rattle.std.specs.Prelude.{◌≡◌, ◌↔◌, ◌<◌, ◌^◌, length, All, IsTrue, IsSome, IsOk, IfSome, IfOk};
 ghost use Rattle.std.specs.List.{list_any};
+ghost use Rattle.maildrop.specs.Same.{same_text};
 ghost use Rattle.maildrop.specs.Text.{IsLine, IsText, begins_with_dot, block_of, lines_of, octets_of};
 
 use crate::lines::Lines;
@@ -94,7 +95,8 @@ impl<A: Allocator + Copy> Text<A> {
 
     /// Whether both have the same lines.
     pub fn same(&self, other: &Self) -> bool
-        ensures { IsTrue result ↔ (self.now ≡ other.now) }
+        ensures test { result ≡ same_text self.now other.now }
+        ensures equal { IsTrue result ↔ (self.now ≡ other.now) }
     {
         are_same(&self.block, &other.block)
     }
