@@ -2,7 +2,7 @@
 use Rattle.std.proofs.Common.{◌≡◌, refl, ap, ◌∙◌, sym, ℕ, zero, suc, List, [], ◌∷◌, ◌++◌, Bool, true, false, Option, Some, None, if◌then◌else◌, length, ◌+◌, ◌-◌}
 use Rattle.ballot.specs.declared.outgoing.Outgoing.{Outgoing}
 use Rattle.replica.specs.Taken.{but_awaited}
-use Rattle.replica.specs.Replicas.{Rules, ReplicaState, Move, at_slot, is_decided, is_open, kept, has_identity, performs, gives_way, performs_next, performs_slots, stays, proposes_next, proposes_slots, proposes, awaiting, with_request, requested, with_decision, decided}
+use Rattle.replica.specs.Replicas.{Rules, ReplicaState, Move, at_slot, is_decided, is_open, kept, has_identity, performs, gives_way, performs_next, performs_slots, proposes_next, proposes_slots, proposes, awaiting, with_request, requested, with_decision, decided, ticked}
 
 module _ {C I R M : Type 0} where
   pick : (b : Bool) (x y x' y' : ReplicaState C I R M) → but_awaited x ≡ but_awaited x' → but_awaited y ≡ but_awaited y' → but_awaited (if b then x else y) ≡ but_awaited (if b then x' else y')
@@ -72,6 +72,9 @@ module _ {C I R M A : Type 0} where
         replica = here.replica ∙ ap (λ (m : Move C I R M A). but_awaited m.replica) between ∙ sym there.replica;
         sends = here.sends ∙ ap (λ (m : Move C I R M A). m.sends) between ∙ sym there.sends;
       }
+
+  pub ticked_alike : (r s : ReplicaState C I R M) → but_awaited r ≡ but_awaited s → (ticked {A = A} r).sends ≡ (ticked {A = A} s).sends
+  ticked_alike r s same = ap (λ (x : ReplicaState C I R M). (ticked {A = A} x).sends) same
 
   module _ (rules : Rules C I R M) where
     pub requested_alike : (c : C) (r s : ReplicaState C I R M) → but_awaited r ≡ but_awaited s → AreAlike (requested rules c r) (requested rules c s)

@@ -42,7 +42,7 @@ module _ {C I R M : Type 0} (rules : Rules C I R M) where
   gives_way_alike c None r = alike_itself r
   gives_way_alike c (Some own) r = record { size = refl; window = refl; slot_out = refl; machine = refl; decisions = refl; performed = refl; awaited = refl }
 
-  once_push : (before ps : List (ℕ × C)) (p : ℕ × C) → once rules before (ps ++ p ∷ []) ≡ once rules before ps ++ cond (has_identity rules (rules.identity p.1) (before ++ once rules before ps)) [] (p ∷ [])
+  pub once_push : (before ps : List (ℕ × C)) (p : ℕ × C) → once rules before (ps ++ p ∷ []) ≡ once rules before ps ++ cond (has_identity rules (rules.identity p.1) (before ++ once rules before ps)) [] (p ∷ [])
   once_push before [] p = rw (append-nil before) refl
   once_push before (q ∷ ps) p =
       go (has_identity rules (rules.identity q.1) before) (once_push before ps p) (once_push (before ++ q ∷ []) ps p)

@@ -161,7 +161,7 @@ module _ {C I R M : Type 0} (A : Type 0) (rules : Rules C I R M) (total : IsTota
   called_answers first Ticks r h = h
   called_answers first (Takes i) r h = taken_answers first i r h
 
-  answers_new : (me size window : ℕ) (machine : M) → AreAnswers rules machine (new_replica me size window machine)
+  pub answers_new : (me size window : ℕ) (machine : M) → AreAnswers rules machine (new_replica me size window machine)
   answers_new me size window machine = record { machine = refl; ordered = tt; waiting = λ i there. refl; answered = λ i a there. absurd (cc) }
 
   all_answers : (first : M) (calls : List (Call C I)) (r : ReplicaState C I R M) → AreAnswers rules first r → AreAnswers rules first (all_called A rules calls r)

@@ -1,15 +1,13 @@
 -- A replica whose answers were taken, beside one that keeps them: nothing else differs, whatever both are told.
-use Rattle.std.proofs.Common.{◌≡◌, ℕ, List, [], ◌∷◌, ◌++◌, Bool, true, false, Option, Some, None, ◌⊎◌, inl, inr, refl, sym, ap, ◌∙◌, subst, cond}
+use Rattle.std.proofs.Common.{◌≡◌, ℕ, List, ◌++◌, Bool, true, false, Option, Some, None, inl, inr, refl, sym, ap, ◌∙◌, subst, cond}
 use Rattle.std.proofs.lemmas.List.{append_cancel_left}
 use Rattle.std.specs.Map.{lookup}
 use Rattle.std.specs.BTreeMap.{is_at}
 use Rattle.std.specs.Cmp.{IsTotalOrder}
 use Rattle.std.specs.Ordering.{is_eq}
-use Rattle.replica.specs.Replicas.{Rules, ReplicaState, Move, has_identity, awaiting, with_request, requested, decided, taken, without_answer, held, answer_for, proposes}
+use Rattle.replica.specs.Replicas.{Rules, ReplicaState, has_identity, awaiting, with_request, requested, decided, taken, without_answer, held, answer_for}
 use Rattle.replica.specs.Calls.{Requests, Takes, awaited_for, answered_with, answer_among, AreAnswers}
 use Rattle.replica.proofs.Identities.{lookup_same, lookup_removed}
-use Rattle.replica.proofs.Front.{Alike}
-use Rattle.replica.proofs.Turns.{slots_alike}
 use Rattle.replica.proofs.History.{decided_performs, decided_answers, called_answers, awaiting_for, proposes_alike}
 use Rattle.replica.specs.Taken.{IsLeft, IsButTaken}
 use Rattle.replica.proofs.ButAwaited.{requested_alike, decided_alike}
@@ -32,6 +30,10 @@ left_cond false o here there l = l
 left_unless : {R : Type 0} (t : Bool) (here there here' there' : Option (Option R)) → IsLeft here there → IsLeft here' there' → IsLeft (cond t here here') (cond t there there')
 left_unless true here there here' there' l l' = l
 left_unless false here there here' there' l l' = l'
+
+-- before an answer is taken, a replica is beside itself
+pub itself_left : {C I R M : Type 0} (rules : Rules C I R M) (first : M) (r : ReplicaState C I R M) → AreAnswers rules first r → IsButTaken rules first r r
+itself_left rules first r h = record { here = h; there = h; same = refl; left = λ i. left_itself (awaited_for rules i r) }
 
 module _ {C I R M : Type 0} (A : Type 0) (rules : Rules C I R M) (total : IsTotalOrder rules.compare) where
   -- a decision brings both the same

@@ -9,3 +9,5 @@ pub mod History
 pub mod Moved
 pub mod ButAwaited
 pub mod Left
+pub mod Behind
+pub mod Requested

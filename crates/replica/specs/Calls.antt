@@ -1,5 +1,6 @@
 -- Calls of a replica, one after another, and what holds after them.
-use Rattle.std.specs.Prelude.{◌≡◌, ℕ, List, [], ◌∷◌, ◌++◌, false, Option, Some, None, if◌then◌else◌}
+use Rattle.std.specs.Prelude.{◌≡◌, ℕ, ◌≤◌, List, [], ◌∷◌, ◌++◌, Bool, false, Option, Some, None, if◌then◌else◌}
+use Rattle.std.specs.List.{list_any}
 use Rattle.std.specs.Map.{lookup}
 use Rattle.std.specs.BTreeMap.{is_at}
 use Rattle.std.specs.Ordering.{is_eq}
@@ -29,11 +30,26 @@ module _ {C I R M A : Type 0} (rules : Rules C I R M) where
   called Ticks r = ticked r
   called (Takes identity) r = stays (taken rules identity r)
 
+-- whether one of these calls requests a command of the identity
+module _ {C I R M : Type 0} (rules : Rules C I R M) where
+  abbrev pub is_request_of : I → Call C I → Bool
+  is_request_of i (Requests command) = is_eq (rules.compare (rules.identity command) i)
+  is_request_of i _ = false
+
+  abbrev pub is_requested : I → List (Call C I) → Bool
+  is_requested i calls = list_any (is_request_of i) calls
+
 -- the replica after all these calls
 module _ {C I R M : Type 0} (A : Type 0) (rules : Rules C I R M) where
   abbrev pub all_called : List (Call C I) → ReplicaState C I R M → ReplicaState C I R M
   all_called [] r = r
   all_called (call ∷ calls) r = all_called calls (called {A = A} rules call r).replica
+
+-- `later` has performed what `early` has, and maybe more behind it
+pub record IsBehind {C I R M : Type 0} (early later : ReplicaState C I R M) : Type 0 where
+  pub slot_out : early.slot_out ≤ later.slot_out
+  pub more : List (ℕ × C)
+  pub performed : later.performed ≡ early.performed ++ more
 
 -- an answer is there for whoever awaits it
 abbrev pub answered_with : {R : Type 0} → Option R → Option (Option R) → Option (Option R)

@@ -15,6 +15,7 @@ mod state;
 pub use ballot::Machine;
 pub use laws::{
     answers_are_of_what_is_performed, answers_are_taken_once, fronts_agree,
-    replicas_perform_the_front, taken_answers_change_nothing_else,
+    repeated_decisions_do_nothing, replicas_perform_the_front, requests_are_awaited,
+    taken_answers_change_nothing_else,
 };
 pub use replica::Replica;

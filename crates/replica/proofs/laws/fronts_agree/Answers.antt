@@ -1,4 +1,5 @@
 use Rattle.replica.specs.Replicas.{Rules, rules_of}
+use Rattle.replica.proofs.Behind.{is_behind}
 use Rattle.replica.proofs.History.{fronts_agree}
 use Rattle.replica.proofs.laws.fronts_agree.Given.{Over}
 use Rattle.replica.proofs.laws.fronts_agree.Goals as goal
@@ -8,4 +9,7 @@ the_rules g = rules_of g.M.Command.Payload.identity g.M.Command.Id.Ord.cmp g.M.M
 
 pub returns : goal.returns
 returns g c =
-    fronts_agree (the_rules g)
+    record {
+      behind = is_behind (the_rules g);
+      same = fronts_agree (the_rules g);
+    }
