@@ -7,3 +7,4 @@ pub mod TextLemmas
 pub mod FileLemmas
 pub mod KeyLemmas
 pub mod RisingIds
+pub mod IdOrder

@@ -8,7 +8,8 @@ use Rattle.maildrop.specs.Ticket.{Ticket}
 use Rattle.maildrop.specs.Maildrop.{empty_maildrop}
 use Rattle.maildrop.specs.Office.{new_user, outcomes_at, outcomes_in, ids_given}
 use Rattle.maildrop.specs.Same.{same_command, same_outcome, identity_of}
-use Rattle.maildrop.specs.CommandId.{same_id}
+use Rattle.std.specs.declared.cmp.Ordering.TheVariants.{Less, Greater}
+use Rattle.maildrop.specs.CommandId.{same_id, compare_ids}
 use Rattle.maildrop.specs.declared.command.Command.{Command}
 use Rattle.maildrop.specs.declared.op.Op.{Op}
 use Rattle.maildrop.specs.declared.op.Op.TheVariants.{Mail, Take, Commit, Free, Break}
@@ -134,3 +135,10 @@ two_users_ids A = refl
 
 messages_apart : (A : Type 0) → same_outcome {A = A} (Taken (record { uid = 1; text = small } ∷ [])) (Taken (record { uid = 1; text = large } ∷ [])) ≡ false
 messages_apart A = refl
+
+-- by user first, and then by number
+alice_before_bob : (A : Type 0) → compare_ids (identity_of {A = A} (by alice 2 Take)) (identity_of {A = A} (by bob 1 Take)) ≡ Less
+alice_before_bob A = refl
+
+second_after_first : (A : Type 0) → compare_ids (identity_of {A = A} (by alice 2 Take)) (identity_of {A = A} (by alice 1 Take)) ≡ Greater
+second_after_first A = refl

@@ -2,10 +2,11 @@
 ghost use Rattle.std.specs.Prelude.{◌≡◌, ◌↔◌, ◌≤◌, ◌∷◌, ℕ, List, Option, length, Some, true, IfSome, IsSomeAnd, IsTrue};
 ghost use Rattle.std.specs.List.{All};
 ghost use Rattle.std.specs.List.Sorted.{IsStrictlyIncreasing};
+ghost use Rattle.std.specs.Ordering.{is_eq};
 ghost use Rattle.maildrop.specs.declared.command.Command.{Command};
 ghost use Rattle.maildrop.specs.declared.outcome.Outcome.{Outcome};
 ghost use Rattle.maildrop.specs.declared.outcome.Outcome.TheVariants.{Stored};
-ghost use Rattle.maildrop.specs.CommandId.{CommandId, same_id};
+ghost use Rattle.maildrop.specs.CommandId.{CommandId, same_id, compare_ids};
 ghost use Rattle.maildrop.specs.Key.{uid_of};
 ghost use Rattle.maildrop.specs.Limits.{Limits};
 ghost use Rattle.maildrop.specs.Maildrop.{Maildrop, empty_maildrop, is_delivery_under};
@@ -13,6 +14,7 @@ ghost use Rattle.maildrop.specs.Office.{User};
 ghost use Rattle.maildrop.specs.Office as spec;
 ghost use Rattle.maildrop.specs.Same.{same_outcome};
 
+use crate::command_id;
 use std::alloc::Allocator;
 
 /// Whatever commands of other users come between, a user's commands get the outcomes that the user's maildrop alone
@@ -47,8 +49,11 @@ pub fn unique_ids_only_rise<A: Allocator>()
     ensures above { (maildrop : Maildrop A) (commands : List (Command A)) → All (λ uid. maildrop.next_uid ≤ uid) (spec.ids_given maildrop commands) }
 {}
 
-/// The tests by which outcomes and identities are compared hold of equal ones alone.
+/// The tests by which outcomes and identities are compared hold of equal ones alone. Identities are in the order of
+/// their users, nodes and numbers, so those that are in one place of it are equal.
 pub fn equality_is_tested<A: Allocator>()
     ensures outcomes { (outcome other : Outcome A) → (same_outcome outcome other ≡ true) ↔ (outcome ≡ other) }
     ensures identities { (id other : CommandId) → (same_id id other ≡ true) ↔ (id ≡ other) }
+    ensures compared { (id other : CommandId) → ⟦<command_id::CommandId as Ord>⟧.cmp id other ≡ compare_ids id other }
+    ensures order { (id other : CommandId) → is_eq (compare_ids id other) ≡ same_id id other }
 {}
