@@ -1,5 +1,6 @@
 //! What nodes send to one another.
-ghost use Rattle.std.specs.Prelude.{◌≡◌, IfOk};
+ghost use Rattle.std.specs.Prelude.{◌≡◌, false, IfOk, IsOk};
+ghost use Rattle.ballot.specs.Sends.{message_owns_memory};
 
 use crate::ballot::Ballot;
 use crate::items::Items;
@@ -64,9 +65,10 @@ pub enum Message<C, A: Allocator = Global> {
 }
 
 impl<C: Payload, A: Allocator + Copy> Message<C, A> {
-    /// The same message again.
+    /// The same message again. Takes no memory for one without a command or a list.
     pub fn copy(&self) -> Result<Self, Memory>
-        ensures { IfOk result (λ message. message ≡ self.now) }
+        ensures value { IfOk result (λ message. message ≡ self.now) }
+        ensures sure { message_owns_memory self.now ≡ false → IsOk result }
     {
         match self {
             Message::Propose(slot, command) => Ok(Message::Propose(*slot, command.copy()?)),
@@ -89,9 +91,10 @@ pub struct Envelope<C, A: Allocator = Global> {
 }
 
 impl<C: Payload, A: Allocator + Copy> Envelope<C, A> {
-    /// The same envelope again.
+    /// The same envelope again. Takes no memory where its message has no command and no list.
     pub fn copy(&self) -> Result<Self, Memory>
-        ensures { IfOk result (λ envelope. envelope ≡ self.now) }
+        ensures value { IfOk result (λ envelope. envelope ≡ self.now) }
+        ensures sure { message_owns_memory self.now.message ≡ false → IsOk result }
     {
         let message = self.message.copy()?;
         Ok(Envelope {
