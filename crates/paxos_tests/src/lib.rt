@@ -11,4 +11,6 @@ mod leader_tests;
 #[cfg(test)]
 mod message_tests;
 #[cfg(test)]
+mod replica_tests;
+#[cfg(test)]
 mod scout_tests;
