@@ -1,0 +1,9 @@
+pub mod Sent
+pub mod Invariant
+pub mod Agree
+pub mod Grow
+pub mod Step
+pub mod AcceptorSteps
+pub mod LeaderSends
+pub mod LeaderSteps
+pub mod Learn
