@@ -7,3 +7,8 @@ pub mod AcceptorSteps
 pub mod LeaderSends
 pub mod LeaderSteps
 pub mod Learn
+pub mod Gaps
+pub mod DecidedOrder
+pub mod ReplicaSends
+pub mod Valid
+pub mod Plain
