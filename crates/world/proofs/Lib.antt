@@ -12,3 +12,7 @@ pub mod DecidedOrder
 pub mod ReplicaSends
 pub mod Valid
 pub mod Plain
+pub mod NodeSteps
+pub mod Logs
+pub mod Runs
+pub mod Theorems

@@ -39,7 +39,7 @@ module _ {C A : Type 0} where
   abbrev pub is_chosen : ℕ → List (Envelope C A) → PValue C → Bool
   is_chosen size sent p = nat_lt size (2 * count_to size (voted sent p.ballot p.slot))
 
-  -- the commands that are chosen, each with its slot, as often as they were asked for
+  -- the commands that are chosen, each with its slot, once for each P2a that asked for it
   abbrev pub chosen : ℕ → List (Envelope C A) → List (ℕ × C)
   chosen size sent = map (λ p. (p.slot, p.command)) (filter (is_chosen size sent) (asked sent))
 

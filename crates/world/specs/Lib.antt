@@ -1,2 +1,4 @@
 pub mod Chosen
 pub mod Decided
+pub mod Messages
+pub mod Runs

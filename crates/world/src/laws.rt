@@ -1,12 +1,41 @@
 //! Laws of every run. Each is a function that does nothing: its contract is the law.
-ghost use Rattle.std.specs.Prelude.{ℕ, List, ◌++◌};
-ghost use Rattle.ballot.specs.declared.message.Envelope.{Envelope};
-ghost use Rattle.world.specs.Chosen.{IsChosen};
+//!
+//! A run is any list of events over nodes that begin alike: messages are lost, repeated and late as
+//! the events say, and a node that crashes takes no further input.
+ghost use Rattle.std.specs.Prelude.{◌≡◌, ℕ, List, ◌++◌, Some};
+ghost use Rattle.ballot.specs.Lists.{IsIn};
+ghost use Rattle.ballot.specs.declared.message.Message.TheVariants.{Decision};
+ghost use Rattle.maildrop.specs.declared.command.Command.{Command};
+ghost use Rattle.node.specs.Replay.{replayed};
+ghost use Rattle.node.specs.declared.log.NodeLog.{NodeLog};
+ghost use Rattle.node.specs.declared.log.Opening.{Opening};
+ghost use Rattle.world.specs.Decided.{IsPrefix};
+ghost use Rattle.world.specs.Messages.{NodeEvent, log_of, network_of, envelopes, WasSubmitted};
+ghost use Rattle.world.specs.Runs.{IsChosenIn, order_of};
 
-use ballot::Payload;
 use std::alloc::Allocator;
 
-/// What is chosen by the messages that were sent stays chosen, whatever else is sent.
-pub fn what_is_chosen_stays<C: Payload, A: Allocator>()
-    ensures { (size : ℕ) (sent more : List (Envelope C A)) (slot : ℕ) (command : C) → IsChosen size sent slot command → IsChosen size (sent ++ more) slot command }
+/// At most one command is chosen in a slot, and what is chosen stays chosen, whatever happens.
+pub fn agreement<A: Allocator>()
+    ensures one { (first : Opening A) (events : List (NodeEvent A)) (slot : ℕ) (c d : Command A) → IsChosenIn first events slot c → IsChosenIn first events slot d → c ≡ d }
+    ensures stays { (first : Opening A) (early late : List (NodeEvent A)) (slot : ℕ) (c : Command A) → IsChosenIn first early slot c → IsChosenIn first (early ++ late) slot c }
+{}
+
+/// Each Decision that is sent carries a command that is chosen in its slot, and what a node has
+/// performed is how the decided order begins.
+pub fn learning<A: Allocator>()
+    ensures told { (first : Opening A) (events : List (NodeEvent A)) (from to slot : ℕ) (c : Command A) → IsIn (record { from = from; to = to; message = Decision slot c }) (envelopes (network_of first events)) → IsChosenIn first events slot c }
+    ensures performed { (first : Opening A) (events : List (NodeEvent A)) (node : ℕ) (log : NodeLog A) → log_of node (network_of first events).logs ≡ Some log → IsPrefix (replayed log).replica.performed (order_of first events) }
+{}
+
+/// Each command that is chosen was submitted: at the node of its ticket, as this operation for this
+/// user, and it has the ticket that this Submit got. Each command of the decided order is chosen.
+pub fn validity<A: Allocator>()
+    ensures ordered { (first : Opening A) (events : List (NodeEvent A)) (slot : ℕ) (c : Command A) → IsIn (slot, c) (order_of first events) → IsChosenIn first events slot c }
+    ensures chosen { (first : Opening A) (events : List (NodeEvent A)) (slot : ℕ) (c : Command A) → IsChosenIn first events slot c → WasSubmitted (network_of first events).logs c }
+{}
+
+/// The decided order only grows.
+pub fn the_decided_order_grows<A: Allocator>()
+    ensures { (first : Opening A) (early late : List (NodeEvent A)) → IsPrefix (order_of first early) (order_of first (early ++ late)) }
 {}

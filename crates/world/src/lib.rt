@@ -3,4 +3,4 @@
 
 mod laws;
 
-pub use laws::what_is_chosen_stays;
+pub use laws::{agreement, learning, the_decided_order_grows, validity};

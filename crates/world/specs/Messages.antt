@@ -1,0 +1,108 @@
+-- Nodes and the messages between them: what a run does to both.
+use Rattle.std.specs.Prelude.{◌≡◌, ℕ, zero, suc, ◌+◌, ◌-◌, List, [], ◌∷◌, ◌++◌, map, Bool, false, not, Option, Some, None, slice_get, set, if◌then◌else◌}
+use Rattle.std.specs.List.{list_any}
+use Rattle.ballot.specs.declared.message.Envelope.{Envelope}
+use Rattle.maildrop.specs.declared.command.Command.{Command}
+use Rattle.maildrop.specs.declared.op.Op.{Op}
+use Rattle.node.specs.Replay.{sends_of, next_ticket}
+use Rattle.node.specs.Nodes.{logged, is_crash}
+use Rattle.node.specs.declared.input.Input.{Input}
+use Rattle.node.specs.declared.input.Input.TheVariants.{Submit, Arrive, Tick, Campaign, Crash}
+use Rattle.node.specs.declared.log.Opening.{Opening}
+use Rattle.node.specs.declared.log.NodeLog.{NodeLog}
+
+-- a message that was sent, and how often it has arrived
+pub record Sent (A : Type 0) : Type 0 where
+  pub envelope : Envelope (Command A) A
+  pub arrived : ℕ
+
+-- the logs of the nodes, in the order of their numbers, and all messages, in the order in which they were sent
+pub record Network (A : Type 0) : Type 0 where
+  pub logs : List (NodeLog A)
+  pub sent : List (Sent A)
+
+-- what happens to the nodes of a run
+pub data NodeEvent (A : Type 0) : Type 0 where
+  Submits : (node : ℕ) → (name : List ℕ) → (op : Op A) → NodeEvent A
+  -- the message that was sent as the number `which`, from 0
+  Arrives : (which : ℕ) → NodeEvent A
+  Ticks : (node : ℕ) → NodeEvent A
+  Campaigns : (node : ℕ) → NodeEvent A
+  Crashes : (node : ℕ) → NodeEvent A
+
+module _ {A : Type 0} where
+  -- the log of the node, if there is such a node
+  abbrev pub log_of : ℕ → List (NodeLog A) → Option (NodeLog A)
+  log_of zero logs = None
+  log_of (suc n) logs = slice_get logs n
+
+  -- whether there is a node of this log that hasn't crashed
+  abbrev pub is_up : Option (NodeLog A) → Bool
+  is_up None = false
+  is_up (Some log) = not (list_any is_crash log.inputs)
+
+  -- what nodes send, which hasn't arrived yet
+  abbrev pub newly_sent : List (Envelope (Command A) A) → List (Sent A)
+  newly_sent envelopes = map (λ e. record { envelope = e; arrived = 0 }) envelopes
+
+  -- the node takes an input, and what it sends is sent. A node that isn't there or has crashed takes none
+  abbrev pub taken_by : Network A → ℕ → Input A → Option (NodeLog A) → Network A
+  taken_by w n i None = w
+  taken_by w n i (Some log) =
+      if is_up (Some log)
+      then record { logs = set w.logs (n - 1) (logged log i); sent = w.sent ++ newly_sent (sends_of log i) }
+      else w
+
+  abbrev pub takes : Network A → ℕ → Input A → Network A
+  takes w n i = taken_by w n i (log_of n w.logs)
+
+  -- a message that was sent arrives once more
+  abbrev pub with_arrival : ℕ → List (Sent A) → List (Sent A)
+  with_arrival k [] = []
+  with_arrival zero (s ∷ ss) = record { envelope = s.envelope; arrived = s.arrived + 1 } ∷ ss
+  with_arrival (suc k) (s ∷ ss) = s ∷ with_arrival k ss
+
+  abbrev pub arrives : Network A → ℕ → Option (Sent A) → Network A
+  arrives w k None = w
+  arrives w k (Some s) =
+      if is_up (log_of s.envelope.to w.logs)
+      then takes (record { logs = w.logs; sent = with_arrival k w.sent }) s.envelope.to (Arrive s.envelope)
+      else w
+
+  -- what can't happen changes nothing
+  abbrev pub happens : Network A → NodeEvent A → Network A
+  happens w (Submits n name op) = takes w n (Submit name op)
+  happens w (Arrives k) = arrives w k (slice_get w.sent k)
+  happens w (Ticks n) = takes w n Tick
+  happens w (Campaigns n) = takes w n Campaign
+  happens w (Crashes n) = takes w n Crash
+
+  abbrev pub happen : Network A → List (NodeEvent A) → Network A
+  happen w [] = w
+  happen w (e ∷ es) = happen (happens w e) es
+
+  -- the logs of m nodes, from number n on, that begin alike but for their numbers
+  abbrev pub new_logs : Opening A → ℕ → ℕ → List (NodeLog A)
+  new_logs first n zero = []
+  new_logs first n (suc m) = record { opening = record first { me = n }; inputs = [] } ∷ new_logs first (suc n) m
+
+  abbrev pub new_network : Opening A → Network A
+  new_network first = record { logs = new_logs first 1 first.cluster; sent = [] }
+
+  -- a run: what these events lead to, where nodes begin as `first` does, each with its own number
+  abbrev pub network_of : Opening A → List (NodeEvent A) → Network A
+  network_of first events = happen (new_network first) events
+
+  abbrev pub envelopes : Network A → List (Envelope (Command A) A)
+  envelopes w = map (λ s. s.envelope) w.sent
+
+  -- the log has a Submit of the command's operation for its user, and the command has the ticket that this Submit gets
+  pub record IsSubmitIn (log : NodeLog A) (c : Command A) : Type 0 where
+    pub before : List (Input A)
+    pub after : List (Input A)
+    pub inputs : log.inputs ≡ before ++ Submit c.user c.op ∷ after
+    pub ticket : c.ticket ≡ next_ticket c.ticket.node c.user before
+
+  -- the command was submitted at the node of its ticket
+  abbrev pub WasSubmitted : List (NodeLog A) → Command A → Type 0
+  WasSubmitted logs c = (log : NodeLog A) × (log_of c.ticket.node logs ≡ Some log) × IsSubmitIn log c
