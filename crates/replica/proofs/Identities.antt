@@ -165,7 +165,7 @@ module _ {C I R M : Type 0} (rules : Rules C I R M) (total : IsTotalOrder rules.
       go false g = (above_removed e.0 k es h.0, g)
 
   -- nothing is found for what is below all
-  none_found : (q e : I) (es : List (I × Option R)) → rules.compare q e ≡ Equal → AreAbove rules e es → lookup (is_at (rules.compare q)) es ≡ None
+  pub none_found : (q e : I) (es : List (I × Option R)) → rules.compare q e ≡ Equal → AreAbove rules e es → lookup (is_at (rules.compare q)) es ≡ None
   none_found q e [] same h = refl
   none_found q e (x ∷ es) same h =
       let below : rules.compare q x.0 ≡ Less = total.congr q e x.0 same ∙ h.0 in

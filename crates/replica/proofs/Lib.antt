@@ -11,3 +11,4 @@ pub mod ButAwaited
 pub mod Left
 pub mod Behind
 pub mod Requested
+pub mod Waiting

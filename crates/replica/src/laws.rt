@@ -1,7 +1,7 @@
 //! Laws of replicas over any calls. Each is a function that does nothing: its contract is the law.
 ghost use Rattle.std.specs.Prelude.{◌≡◌, ◌↔◌, ℕ, List, Some, None, true, false, if◌then◌else◌};
 ghost use Rattle.std.specs.Ordering.{is_eq};
-ghost use Rattle.replica.specs.Replicas.{ReplicaState, rules_of, new_replica, stays, at_slot, is_decided, has_identity, requested, decided, ticked, taken, answer_for, IsFrontOf, IsSettled};
+ghost use Rattle.replica.specs.Replicas.{ReplicaState, rules_of, new_replica, stays, at_slot, is_decided, has_identity, requested, decided, ticked, taken, answer_for, IsFrontOf, IsSettled, is_waiting};
 ghost use Rattle.replica.specs.Taken.{IsButTaken};
 ghost use Rattle.replica.specs.Calls.{Call, called, all_called, given, is_requested, awaited_for, AreAnswers, Performs, IsBehind};
 
@@ -117,4 +117,7 @@ pub fn taken_answers_change_nothing_else<M: Machine, A: Allocator>()
     ensures taking { let rules = rules_of M.Command.identity M.Command.Id.cmp M.answer_to M.after in
         (first : M) (i : M.Command.Id) (r s : ReplicaState M.Command M.Command.Id M.Answer M) →
         IsButTaken rules first r s → IsButTaken rules first (taken rules i r) s }
+    ensures waiting { let rules = rules_of M.Command.identity M.Command.Id.cmp M.answer_to M.after in
+        (first : M) (r s : ReplicaState M.Command M.Command.Id M.Answer M) →
+        IsButTaken rules first r s → is_waiting r.awaited ≡ is_waiting s.awaited }
 {}
