@@ -16,3 +16,4 @@ pub mod NodeSteps
 pub mod Logs
 pub mod Runs
 pub mod Theorems
+pub mod Outcomes

@@ -5,13 +5,16 @@
 ghost use Rattle.std.specs.Prelude.{◌≡◌, ℕ, List, ◌++◌, Some};
 ghost use Rattle.ballot.specs.Lists.{IsIn};
 ghost use Rattle.ballot.specs.declared.message.Message.TheVariants.{Decision};
+ghost use Rattle.maildrop.specs.CommandId.{CommandId};
 ghost use Rattle.maildrop.specs.declared.command.Command.{Command};
+ghost use Rattle.maildrop.specs.declared.outcome.Outcome.{Outcome};
+ghost use Rattle.node.specs.Nodes.{answered};
 ghost use Rattle.node.specs.Replay.{replayed};
 ghost use Rattle.node.specs.declared.log.NodeLog.{NodeLog};
 ghost use Rattle.node.specs.declared.log.Opening.{Opening};
 ghost use Rattle.world.specs.Decided.{IsPrefix};
 ghost use Rattle.world.specs.Messages.{NodeEvent, log_of, network_of, envelopes, WasSubmitted};
-ghost use Rattle.world.specs.Runs.{IsChosenIn, order_of};
+ghost use Rattle.world.specs.Runs.{IsChosenIn, IsOutcomeOf, order_of};
 
 use std::alloc::Allocator;
 
@@ -38,4 +41,10 @@ pub fn validity<A: Allocator>()
 /// The decided order only grows.
 pub fn the_decided_order_grows<A: Allocator>()
     ensures { (first : Opening A) (early late : List (NodeEvent A)) → IsPrefix (order_of first early) (order_of first (early ++ late)) }
+{}
+
+/// Each answer that a node has got for a command is that of its user's maildrop alone, after the
+/// user's own commands that were decided before it.
+pub fn answers_are_of_own_commands<A: Allocator>()
+    ensures { (first : Opening A) (events : List (NodeEvent A)) (node : ℕ) (log : NodeLog A) (id : CommandId) (answer : Outcome A) → log_of node (network_of first events).logs ≡ Some log → answered log id ≡ Some answer → IsOutcomeOf first (order_of first events) id answer }
 {}

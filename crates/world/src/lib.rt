@@ -3,4 +3,6 @@
 
 mod laws;
 
-pub use laws::{agreement, learning, the_decided_order_grows, validity};
+pub use laws::{
+    agreement, answers_are_of_own_commands, learning, the_decided_order_grows, validity,
+};
