@@ -1,16 +1,21 @@
 -- What a node's type keeps, from its opening on and through each input.
-use Rattle.std.proofs.Common.{◌≡◌, refl, ap, ◌∙◌, sym, subst, ℕ, ◌+◌, List, [], ◌∷◌, ◌++◌, Bool, true, false, Option, Some}
+use Rattle.std.proofs.Common.{◌≡◌, refl, ap, ◌∙◌, sym, subst, ℕ, ◌+◌, List, [], ◌∷◌, ◌++◌, Bool, true, false, Option, Some, None}
 use Rattle.std.specs.List.{list_any}
-use Rattle.std.specs.Prelude.{◌||◌}
+use Rattle.std.specs.Prelude.{◌||◌, IfSome}
 use Rattle.maildrop.specs.CommandId.{CommandId}
 use Rattle.maildrop.specs.Office.{User}
 use Rattle.replica.specs.Calls.{AreAnswers, awaited_for}
 use Rattle.replica.specs.Taken as replica
 use Rattle.replica.proofs.History.{always_answers}
+use Rattle.replica.specs.Replicas.{is_waiting}
 use Rattle.replica.proofs.Left.{left_itself, taken_left}
+use Rattle.replica.proofs.Waiting.{waiting_left}
 use Rattle.node.specs.Replay.{NodeState, MailReplica, mail_rules, new_node, takes, replayed, counts}
 use Rattle.node.specs.Tickets.{tickets_of}
-use Rattle.node.specs.Nodes.{logged, is_crash, taken_of, IsButTaken, IsCurrent}
+use Rattle.node.specs.Nodes.{logged, is_crash, taken_of, stops_after, IsButTaken, IsCurrent, IsKept, IsKnown}
+use Rattle.node.specs.declared.stopped.Stopped.{Stopped}
+use Rattle.node.specs.declared.stopped.Stopped.TheVariants.{Crashed, Memory, TicketsUsed}
+use Rattle.node.specs.declared.input.Input.TheVariants.{Submit, Arrive, Tick, Campaign, Crash}
 use Rattle.node.specs.declared.input.Input.{Input}
 use Rattle.node.specs.declared.log.NodeLog.{NodeLog}
 use Rattle.node.specs.declared.log.Opening.{Opening}
@@ -74,3 +79,34 @@ module _ {A : Type 0} where
       front : (t u : Bool) → (t || u) ≡ false → (u ≡ false → list_any is_crash (is ++ i ∷ []) ≡ is_crash i) → (t || list_any is_crash (is ++ i ∷ [])) ≡ is_crash i
       front true u h rest = absurd (cc h)
       front false u h rest = rest h
+
+  -- a node waits where its log does
+  pub waits_as : (log : NodeLog A) (roles : Option (NodeState A)) (given : List (List ℕ × ℕ)) (h : IsCurrent log roles given) → is_waiting h.node.replica.awaited ≡ is_waiting (replayed log).replica.awaited
+  waits_as log roles given h = waiting_left mail_rules ids_total (first log.opening) h.node.replica (replayed log).replica h.replay.replica
+
+  pub current_of : (log : NodeLog A) (roles : Option (NodeState A)) (given : List (List ℕ × ℕ)) (stopped : Option Stopped) → IsKnown stopped → IsKept log roles given stopped → IsCurrent log roles given
+  current_of log roles given None known h = h.0
+  current_of log roles given (Some Crashed) known h = h.0
+  current_of log roles given (Some Memory) known h = absurd known
+  current_of log roles given (Some TicketsUsed) known h = h.0
+
+  pub waits_known : (log : NodeLog A) (roles : Option (NodeState A)) (given : List (List ℕ × ℕ)) (stopped : Option Stopped) (waits : Bool) → IsKept log roles given stopped → IfSome roles (λ (n : NodeState A). waits ≡ is_waiting n.replica.awaited)
+      → IsKnown stopped → waits ≡ is_waiting (replayed log).replica.awaited
+  waits_known log roles given stopped waits h says known =
+      let current = current_of log roles given stopped known h in
+      (rw current.works at says) ∙ waits_as log roles given current
+
+  -- what a type keeps after an input
+  pub kept_after : (log : NodeLog A) (i : Input A) (roles roles' : Option (NodeState A)) (given given' : List (List ℕ × ℕ)) → IsKept log roles given None
+      → ((n : NodeState A) → roles ≡ Some n → roles' ≡ Some (takes log.opening.me log.inputs n i).node)
+      → ((name : List ℕ) → tickets_of name given' ≡ counts name i + tickets_of name given)
+      → IsKept (logged log i) roles' given' (stops_after i)
+  kept_after log i roles roles' given given' h works tickets =
+      go i (next_current log i roles roles' given given' h.0 works tickets) (crash-push log.inputs i h.1)
+    where
+      go : (i : Input A) → IsCurrent (logged log i) roles' given' → list_any is_crash (log.inputs ++ i ∷ []) ≡ is_crash i → IsKept (logged log i) roles' given' (stops_after i)
+      go (Submit name op) current crash = (current, crash)
+      go (Arrive e) current crash = (current, crash)
+      go Tick current crash = (current, crash)
+      go Campaign current crash = (current, crash)
+      go Crash current crash = (current, crash)

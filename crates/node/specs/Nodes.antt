@@ -1,14 +1,14 @@
 -- What contracts see of a node, and what its type keeps.
-use Rattle.std.specs.Prelude.{◌≡◌, ℕ, ◌==◌, List, [], ◌∷◌, ◌++◌, map, Bool, true, false, Option, Some, None, is_some, if◌then◌else◌}
+use Rattle.std.specs.Prelude.{◌≡◌, ℕ, ◌==◌, List, [], ◌∷◌, ◌++◌, map, Bool, true, false, Option, Some, None}
 use Rattle.std.specs.List.{list_any}
 use Rattle.std.specs.Map.{lookup}
 use Rattle.std.specs.BTreeMap.{is_at}
-use Rattle.maildrop.specs.CommandId.{CommandId}
+use Rattle.maildrop.specs.CommandId.{CommandId, compare_ids}
 use Rattle.maildrop.specs.declared.outcome.Outcome.{Outcome}
 use Rattle.replica.specs.Replicas.{answer_for, taken}
 use Rattle.maildrop.specs.Office.{new_user}
 use Rattle.replica.specs.Taken as replica
-use Rattle.node.specs.Replay.{NodeState, mail_rules, compare_ids, replayed, submits_of}
+use Rattle.node.specs.Replay.{NodeState, mail_rules, replayed, submits_of}
 use Rattle.node.specs.Tickets.{tickets_of}
 use Rattle.node.specs.declared.input.Input.{Input}
 use Rattle.node.specs.declared.input.Input.TheVariants.{Submit, Crash}
@@ -68,10 +68,14 @@ module _ {A : Type 0} where
   abbrev pub answered : NodeLog A → CommandId → Option (Outcome A)
   answered log id = answer_of id (replayed log).replica.awaited
 
-  -- an answer that is there stays, and one comes where the log gets it
+  -- an answer that is there stays, and one comes where the log gets it: it had none before, and has one after
+  abbrev pub left_after : Option (Outcome A) → Option (Outcome A) → Option (Outcome A) → Option (Outcome A)
+  left_after (Some answer) before after = Some answer
+  left_after None (Some taken) after = None
+  left_after None None after = after
+
   abbrev pub answer_after : NodeLog A → Input A → CommandId → Option (Outcome A) → Option (Outcome A)
-  answer_after log i id (Some answer) = Some answer
-  answer_after log i id None = if is_some (answered log id) then None else answered (logged log i) id
+  answer_after log i id here = left_after here (answered log id) (answered (logged log i) id)
 
   -- what is awaited of a node that runs
   abbrev pub awaited_in : Option Stopped → Option (NodeState A) → Awaited A

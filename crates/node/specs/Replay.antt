@@ -1,9 +1,6 @@
 -- A node: what each input makes of it, what it sends, and what a log leads to.
 use Rattle.std.specs.Prelude.{ℕ, ◌+◌, ◌==◌, List, [], ◌∷◌, ◌++◌, map, Option, Some, None, if◌then◌else◌}
 use Rattle.std.specs.Str.{bytes_eq}
-use Rattle.std.specs.Ordering.{nat_cmp, ordering_then}
-use Rattle.std.specs.declared.cmp.Ordering.{Ordering}
-use Rattle.std.specs.Cmp.Lexicographic.{slice_cmp}
 use Rattle.ballot.specs.declared.message.Message.{Message}
 use Rattle.ballot.specs.declared.message.Message.TheVariants.{Propose, P1a, P1b, P2a, P2b, Decision, Ask}
 use Rattle.ballot.specs.declared.message.Envelope.{Envelope}
@@ -14,7 +11,7 @@ use Rattle.leader.specs.Leaders as leader
 use Rattle.replica.specs.Replicas.{Rules, ReplicaState, rules_of, new_replica, at_slot, requested, decided}
 use Rattle.replica.specs.Replicas as replica
 use Rattle.maildrop.specs.Ticket.{Ticket}
-use Rattle.maildrop.specs.CommandId.{CommandId}
+use Rattle.maildrop.specs.CommandId.{CommandId, compare_ids}
 use Rattle.maildrop.specs.Same.{identity_of, same_command}
 use Rattle.maildrop.specs.Office.{User, new_user, outcome_in, users_after}
 use Rattle.maildrop.specs.declared.command.Command.{Command}
@@ -24,10 +21,6 @@ use Rattle.node.specs.declared.input.Input.{Input}
 use Rattle.node.specs.declared.input.Input.TheVariants.{Submit, Arrive, Tick, Campaign, Crash}
 use Rattle.node.specs.declared.log.Opening.{Opening}
 use Rattle.node.specs.declared.log.NodeLog.{NodeLog}
-
--- identities by user, then by node, then by number
-abbrev pub compare_ids : CommandId → CommandId → Ordering
-compare_ids a b = ordering_then (slice_cmp nat_cmp a.user b.user) (ordering_then (nat_cmp a.ticket.node b.ticket.node) (nat_cmp a.ticket.seq b.ticket.seq))
 
 -- a replica whose commands are performed on the maildrops of all users
 abbrev pub MailReplica : Type 0 → Type 0

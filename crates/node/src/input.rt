@@ -12,7 +12,7 @@ pub enum Input<A: Allocator = Global> {
     Submit(Name, Op<A>),
     /// A message comes. One to another node changes nothing but the log.
     Arrive(Envelope<Command<A>, A>),
-    /// Time has passed: what waits for an answer is sent again.
+    /// Time has passed: what waits for an answer is sent again, and the decision of the next slot to perform is asked for.
     Tick,
     /// The node asks to lead.
     Campaign,

@@ -12,7 +12,7 @@ pub struct Opening<A: Allocator = Global> {
     pub me: NodeId,
     /// The nodes that it is one of.
     pub cluster: Cluster,
-    /// How many slots it proposes ahead of those that are decided.
+    /// For how many slots it proposes, from the next one on that it performs: 1 to 1,000 in a node.
     pub window: u64,
     /// The users who have a maildrop, all different.
     pub names: Items<Name, A>,
@@ -20,7 +20,8 @@ pub struct Opening<A: Allocator = Global> {
     pub limits: Limits,
 }
 
-/// A node's log: its opening, and the inputs that it took, the oldest first. All else that a node is follows from it.
+/// A node's log: its opening, and the inputs that it took, the oldest first. What a node sends follows from it, and what
+/// it is, but for the answers that were taken of it and for a stop without memory or tickets.
 #[derive(Drop)]
 pub struct NodeLog<A: Allocator = Global> {
     pub opening: Opening<A>,

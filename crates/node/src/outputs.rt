@@ -1,6 +1,8 @@
 //! What a step of a node gives.
+ghost use Rattle.std.specs.Prelude.{◌≡◌, IfOk};
+ghost use Rattle.node.specs.Replay as spec;
 
-use ballot::{Envelope, Items};
+use ballot::{Envelope, Items, Memory, NodeId, Sends};
 use maildrop::{Command, Ticket};
 use std::alloc::{Allocator, Global};
 
@@ -12,4 +14,23 @@ pub type Envelopes<A = Global> = Items<Envelope<Command<A>, A>, A>;
 pub struct Outputs<A: Allocator = Global> {
     pub sends: Envelopes<A>,
     pub ticket: Option<Ticket>,
+}
+
+/// The messages, as envelopes from this node.
+pub(crate) fn sent_from<A: Allocator + Copy>(
+    alloc: A,
+    me: NodeId,
+    sends: Sends<Command<A>, A>,
+) -> Result<Envelopes<A>, Memory>
+    ensures { IfOk result (λ envelopes. envelopes ≡ spec.sent_from me sends) }
+{
+    let mut envelopes = Vec::with_capacity(alloc, sends.len())?;
+    for outgoing in sends.into_vec() {
+        envelopes.push(Envelope {
+            from: me,
+            to: outgoing.to,
+            message: outgoing.message,
+        })?;
+    }
+    Ok(Items::from_vec(envelopes))
 }

@@ -54,6 +54,20 @@ module _ {C I R M : Type 0} (A : Type 0) (rules : Rules C I R M) (total : IsTota
         left = λ i. rw (p.answers i, q.answers i, answer i) (left_answered (answer_among rules i s.machine q.more) (awaited_for rules i r) (awaited_for rules i s) (h.left i));
       }
 
+  -- one answer comes to both, where it is awaited
+  pub decided_answered : (first : M) (slot : ℕ) (c : C) (r s : ReplicaState C I R M) → IsButTaken rules first r s → (i : I) →
+      (o : Option R) × ((awaited_for rules i (decided {A = A} rules slot c r).replica ≡ answered_with o (awaited_for rules i r)) × (awaited_for rules i (decided {A = A} rules slot c s).replica ≡ answered_with o (awaited_for rules i s)))
+  decided_answered first slot c r s h i =
+      let p = decided_performs A rules total first slot c r h.here in
+      let q = decided_performs A rules total first slot c s h.there in
+      let same = (decided_alike {A = A} rules slot c r s h.same).replica in
+      let performed : r.performed ≡ s.performed = ap (λ (x : ReplicaState C I R M). x.performed) h.same in
+      let machine : r.machine ≡ s.machine = ap (λ (x : ReplicaState C I R M). x.machine) h.same in
+      let more : p.more ≡ q.more = append_cancel_left s.performed p.more q.more (ap (λ (xs : List (ℕ × C)). xs ++ p.more) (sym performed) ∙ sym p.performed ∙ ap (λ (x : ReplicaState C I R M). x.performed) same ∙ q.performed) in
+      let answer : answer_among rules i r.machine p.more ≡ answer_among rules i s.machine q.more =
+          ap (λ (m : M). answer_among rules i m p.more) machine ∙ ap (answer_among rules i s.machine) more in
+      (answer_among rules i s.machine q.more, (p.answers i ∙ ap (λ (o : Option R). answered_with o (awaited_for rules i r)) answer, q.answers i))
+
   requested_awaited : (c : C) (i : I) (r : ReplicaState C I R M) → awaited_for rules i (requested {A = A} rules c r).replica ≡ awaited_for rules i (awaiting rules c r)
   requested_awaited c i r = ap (λ (es : List (I × Option R)). lookup (is_at (rules.compare i)) es) (proposes_alike A rules (with_request c (awaiting rules c r))).awaited
 

@@ -1,0 +1,185 @@
+//! The roles of a node.
+ghost use Rattle.std.specs.Prelude.{◌≡◌, ◌==◌, ℕ, List, [], ◌∷◌, Option, Some, None, option_map, is_some, IfSome, IsTrue, OnOk, IfOk, if◌then◌else◌};
+ghost use Rattle.maildrop.specs.Name.{are_different};
+ghost use Rattle.leader.specs.Leaders.{phase_is_active};
+ghost use Rattle.replica.specs.Replicas.{at_slot, is_waiting};
+ghost use Rattle.node.specs.Replay.{NodeState, submits, arrives, hears, told, ticks, campaigns, new_node};
+ghost use Rattle.node.specs.Nodes.{answer_of, taken_of};
+
+use crate::log::Opening;
+use acceptor::Acceptor;
+use ballot::{Envelope, Items, Memory, Message, NodeId, Outgoing, Sends, Slot};
+use leader::Leader;
+use maildrop::{Command, CommandId, Office, Outcome};
+use replica::Replica;
+use std::alloc::{Allocator, Global};
+use std::marker::Model;
+
+/// The acceptor, the leader and the replica of a node. After `Memory` they are of no use any more.
+#[derive(Drop)]
+pub(crate) struct Roles<A: Allocator + Copy = Global> {
+    acceptor: Acceptor<Command<A>, A>,
+    leader: Leader<Command<A>, A>,
+    replica: Replica<Office<A>, A>,
+    alloc: A,
+}
+
+impl<A: Allocator + Copy> Model for Roles<A> {
+    ghost use Rattle.std.specs.Prelude.{Option};
+    ghost use Rattle.node.specs.Replay.{NodeState};
+    ghost use Rattle.node.specs.Roles.{node_of};
+
+    ghost Value = { Option (NodeState A) };
+
+    ghost view = { λ r. node_of r.acceptor r.leader r.replica };
+}
+
+impl<A: Allocator + Copy> Roles<A> {
+    /// The roles of a node that has taken no input.
+    pub(crate) fn new(alloc: A, opening: &Opening<A>) -> Result<Self, Memory>
+        requires { IsTrue (are_different opening.now.names) }
+        ensures { IfOk result (λ roles. roles ≡ Some (new_node opening.now)) }
+    {
+        let office = Office::new(alloc, opening.names.get(), opening.limits)?;
+        Ok(Roles {
+            acceptor: Acceptor::new(alloc),
+            leader: Leader::new(alloc, opening.me, opening.cluster),
+            replica: Replica::new(alloc, opening.me, opening.cluster, opening.window, office),
+            alloc,
+        })
+    }
+
+    /// The replica is asked for a command.
+    pub(crate) fn request(&mut self, command: Command<A>) -> Result<Sends<Command<A>, A>, Memory>
+        ensures node { OnOk result (self.new ≡ option_map (λ n. (submits n command).node) self.old) }
+        ensures sends { (n : NodeState A) → self.old ≡ Some n → IfOk result (λ sends. sends ≡ (submits n command).sends) }
+    {
+        self.replica.request(command)
+    }
+
+    /// A message comes. One to another node than `me` changes nothing.
+    pub(crate) fn arrive(
+        &mut self,
+        me: NodeId,
+        envelope: Envelope<Command<A>, A>,
+    ) -> Result<Sends<Command<A>, A>, Memory>
+        ensures node { (n : NodeState A) → self.old ≡ Some n → OnOk result (self.new ≡ Some ((arrives me n envelope).node)) }
+        ensures sends { (n : NodeState A) → self.old ≡ Some n → IfOk result (λ sends. sends ≡ (arrives me n envelope).sends) }
+    {
+        if envelope.to == me {
+            self.hear(envelope.from, envelope.message)
+        } else {
+            Ok(Items::new(self.alloc))
+        }
+    }
+
+    /// A message comes from a node: the role that it is for hears it.
+    fn hear(
+        &mut self,
+        from: NodeId,
+        message: Message<Command<A>, A>,
+    ) -> Result<Sends<Command<A>, A>, Memory>
+        ensures node { OnOk result (self.new ≡ option_map (λ n. (hears n from message).node) self.old) }
+        ensures sends { (n : NodeState A) → self.old ≡ Some n → IfOk result (λ sends. sends ≡ (hears n from message).sends) }
+    {
+        match message {
+            Message::Propose(slot, command) => self.leader.propose(slot, command),
+            Message::P1a(ballot) => {
+                let promise = self.acceptor.p1a(ballot)?;
+                self.answer(from, Message::P1b(promise))
+            }
+            Message::P1b(promise) => self.leader.hear1(from, promise),
+            Message::P2a(pvalue) => {
+                let vote = self.acceptor.p2a(pvalue)?;
+                self.answer(from, Message::P2b(vote))
+            }
+            Message::P2b(vote) => self.leader.hear2(from, vote),
+            Message::Decision(slot, command) => self.replica.decision(slot, command),
+            Message::Ask(slot) => self.tell(from, slot),
+        }
+    }
+
+    /// One message to one node.
+    fn answer(
+        &self,
+        to: NodeId,
+        message: Message<Command<A>, A>,
+    ) -> Result<Sends<Command<A>, A>, Memory>
+        ensures { IfOk result (λ sends. sends ≡ record { to = to; message = message } ∷ []) }
+    {
+        let mut sends = Items::new(self.alloc);
+        sends.push(Outgoing { to, message })?;
+        Ok(sends)
+    }
+
+    /// The decision of the slot goes to the node that asked for it, where it is known.
+    fn tell(&self, to: NodeId, slot: Slot) -> Result<Sends<Command<A>, A>, Memory>
+        ensures { (n : NodeState A) → self.now ≡ Some n → IfOk result (λ sends. sends ≡ told to slot (at_slot slot n.replica.decisions)) }
+    {
+        match self.replica.ask(slot)? {
+            Some(command) => self.answer(to, Message::Decision(slot, command)),
+            None => Ok(Items::new(self.alloc)),
+        }
+    }
+
+    /// Time has passed: the leader asks again, then the replica.
+    pub(crate) fn tick(&mut self) -> Result<Sends<Command<A>, A>, Memory>
+        ensures node { OnOk result (self.new ≡ self.old) }
+        ensures sends { (n : NodeState A) → self.old ≡ Some n → IfOk result (λ sends. sends ≡ (ticks n).sends) }
+    {
+        let mut sends = self.leader.tick()?;
+        sends.append(self.replica.tick()?)?;
+        Ok(sends)
+    }
+
+    /// The leader asks for its ballot.
+    pub(crate) fn campaign(&mut self) -> Result<Sends<Command<A>, A>, Memory>
+        ensures node { OnOk result (self.new ≡ option_map (λ n. (campaigns n).node) self.old) }
+        ensures sends { (n : NodeState A) → self.old ≡ Some n → IfOk result (λ sends. sends ≡ (campaigns n).sends) }
+    {
+        self.leader.campaign()
+    }
+
+    /// Whether the answer to a command is there.
+    pub(crate) fn has_answer(&self, identity: CommandId) -> bool
+        ensures { IfSome self.now (λ n. result ≡ is_some (answer_of identity n.replica.awaited)) }
+    {
+        self.replica.has_answer(identity)
+    }
+
+    /// Takes the answer to a command.
+    pub(crate) fn take_answer(&mut self, identity: CommandId) -> Option<Outcome<A>>
+        ensures answer { IfSome self.old (λ n. result ≡ answer_of identity n.replica.awaited) }
+        ensures node { self.new ≡ option_map (taken_of identity) self.old }
+    {
+        self.replica.take_answer(identity)
+    }
+
+    /// What the replica has performed.
+    pub(crate) fn performed(&self) -> &[(Slot, Command<A>)]
+        ensures { IfSome self.now (λ n. result.now ≡ n.replica.performed) }
+    {
+        self.replica.performed()
+    }
+
+    /// The first slot that isn't decided.
+    pub(crate) fn slot_out(&self) -> u64
+        ensures { IfSome self.now (λ n. result ≡ n.replica.slot_out) }
+    {
+        self.replica.slot_out()
+    }
+
+    /// Whether the leader has its ballot.
+    pub(crate) fn is_active(&self) -> bool
+        ensures { IfSome self.now (λ n. result ≡ phase_is_active n.leader.phase) }
+    {
+        self.leader.is_active()
+    }
+
+    /// Whether an answer is awaited that isn't there.
+    pub(crate) fn waiting(&self) -> bool
+        ensures { IfSome self.now (λ n. result ≡ is_waiting n.replica.awaited) }
+    {
+        self.replica.is_waiting()
+    }
+}
