@@ -108,7 +108,7 @@ module _ {A : Type 0} where
             command = p.1;
             order = refl;
             its = its;
-            new = none;
+            none_before = none;
             outcome = sym is ∙ ap (λ m. outcome_at m p.1) (own_maildrop p.1.user (users_at first) before);
           }
       go false q ih f =
@@ -129,7 +129,7 @@ module _ {A : Type 0} where
         command = h.command;
         order = sym p.1 ∙ ap (λ zs. zs ++ p.0) h.order ∙ append_assoc h.before ((h.slot, h.command) ∷ h.after) p.0;
         its = h.its;
-        new = h.new;
+        none_before = h.none_before;
         outcome = h.outcome;
       }
 

@@ -7,7 +7,7 @@ use Rattle.leader.proofs.Orderly.{new_orderly}
 use Rattle.replica.proofs.Settled.{settled_new}
 use Rattle.maildrop.specs.Office.{new_user}
 use Rattle.maildrop.specs.declared.command.Command.{Command}
-use Rattle.node.specs.Replay.{NodeState, Move, mail_rules, new_node, replayed, sends_of, command_for}
+use Rattle.node.specs.Replay.{NodeState, Move, mail_rules, new_node, replayed, next_ticket, sends_of, command_for}
 use Rattle.node.specs.Replay as node
 use Rattle.node.specs.Nodes.{logged}
 use Rattle.node.specs.declared.input.Input.{Input}
@@ -74,7 +74,7 @@ module _ {A : Type 0} where
         go (Submit name op) e f = (
           logged log i,
           log_same w.logs n log (logged log i) at,
-          record { before = log.inputs; after = []; inputs = ap (λ j. log.inputs ++ j ∷ []) e; ticket = refl },
+          record { before = log.inputs; after = []; inputs = ap (λ j. log.inputs ++ j ∷ []) e; ticket = ap (λ m. Some (next_ticket m name log.inputs)) its_number },
         )
         go (Arrive e) q f = f
         go Tick e f = tt

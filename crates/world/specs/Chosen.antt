@@ -1,4 +1,4 @@
--- What the messages that were sent choose.
+-- What is chosen, by the messages that were sent and nothing else.
 use Rattle.std.specs.Prelude.{◌≡◌, refl, ℕ, ◌*◌, List, [], ◌∷◌, map, Bool, false, ◌==◌, ◌&&◌, nat_lt}
 use Rattle.std.specs.List.{filter, flat_map, list_any}
 use Rattle.ballot.specs.Ballots.{BallotNumber, same_ballot}

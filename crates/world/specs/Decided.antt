@@ -5,16 +5,16 @@ use Rattle.ballot.specs.declared.message.Envelope.{Envelope}
 use Rattle.replica.specs.Replicas.{Rules, rules_of, is_decided, first_slots, once}
 use Rattle.world.specs.Chosen.{chosen}
 
--- xs is how ys begins
+-- xs is a prefix of ys
 abbrev pub IsPrefix : {X : Type 0} → List X → List X → Type 0
 IsPrefix {X} xs ys = (rest : List X) × (xs ++ rest ≡ ys)
 
--- the first slot from s on at which nothing stands, of n slots
+-- of n slots from s on the first at which nothing stands; the slot behind them where something stands at each
 abbrev pub first_gap : {X : Type 0} → ℕ → ℕ → List (ℕ × X) → ℕ
 first_gap zero s es = s
 first_gap (suc n) s es = if is_decided s es then first_gap n (s + 1) es else s
 
--- what stands at the slots 1, 2, .. up to the first at which nothing stands
+-- what stands at the slots 1, 2, .. up to the first at which nothing stands. A list can't fill more slots than it has entries
 abbrev pub without_gap : {X : Type 0} → List (ℕ × X) → List (ℕ × X)
 without_gap es = first_slots (first_gap (length es) 1 es - 1) es
 

@@ -4,7 +4,7 @@ use Rattle.std.specs.List.{list_any}
 use Rattle.ballot.specs.declared.message.Envelope.{Envelope}
 use Rattle.maildrop.specs.declared.command.Command.{Command}
 use Rattle.maildrop.specs.declared.op.Op.{Op}
-use Rattle.node.specs.Replay.{sends_of, next_ticket}
+use Rattle.node.specs.Replay.{sends_of, ticket_of}
 use Rattle.node.specs.Nodes.{logged, is_crash}
 use Rattle.node.specs.declared.input.Input.{Input}
 use Rattle.node.specs.declared.input.Input.TheVariants.{Submit, Arrive, Tick, Campaign, Crash}
@@ -36,7 +36,7 @@ module _ {A : Type 0} where
   log_of zero logs = None
   log_of (suc n) logs = slice_get logs n
 
-  -- whether there is a node of this log that hasn't crashed
+  -- whether there is such a node, and it hasn't crashed
   abbrev pub is_up : Option (NodeLog A) → Bool
   is_up None = false
   is_up (Some log) = not (list_any is_crash log.inputs)
@@ -89,19 +89,19 @@ module _ {A : Type 0} where
   abbrev pub new_network : Opening A → Network A
   new_network first = record { logs = new_logs first 1 first.cluster; sent = [] }
 
-  -- a run: what these events lead to, where nodes begin as `first` does, each with its own number
+  -- a run: what these events lead to, where nodes begin as `first` does, each with its own number; the number in `first` counts for nothing
   abbrev pub network_of : Opening A → List (NodeEvent A) → Network A
   network_of first events = happen (new_network first) events
 
   abbrev pub envelopes : Network A → List (Envelope (Command A) A)
   envelopes w = map (λ s. s.envelope) w.sent
 
-  -- the log has a Submit of the command's operation for its user, and the command has the ticket that this Submit gets
+  -- the log has a Submit of the command's operation for its user, and the node gave it the command's ticket
   pub record IsSubmitIn (log : NodeLog A) (c : Command A) : Type 0 where
     pub before : List (Input A)
     pub after : List (Input A)
     pub inputs : log.inputs ≡ before ++ Submit c.user c.op ∷ after
-    pub ticket : c.ticket ≡ next_ticket c.ticket.node c.user before
+    pub ticket : ticket_of (record { opening = log.opening; inputs = before }) (Submit c.user c.op) ≡ Some c.ticket
 
   -- the command was submitted at the node of its ticket
   abbrev pub WasSubmitted : List (NodeLog A) → Command A → Type 0

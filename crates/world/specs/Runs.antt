@@ -8,7 +8,7 @@ use Rattle.maildrop.specs.Maildrop.{Maildrop}
 use Rattle.maildrop.specs.Office.{new_user, maildrop_of, maildrop_after_all, outcome_at, commands_of}
 use Rattle.maildrop.specs.Same.{identity_of}
 use Rattle.maildrop.specs.declared.outcome.Outcome.{Outcome}
-use Rattle.maildrop.specs.declared.outcome.Outcome.TheVariants.{NoSuchUser}
+use Rattle.maildrop.specs.declared.outcome.Outcome.TheVariants.{Taken}
 use Rattle.node.specs.Nodes.{answered}
 use Rattle.replica.specs.Replicas.{has_identity}
 use Rattle.node.specs.Replay.{mail_rules, replayed}
@@ -42,37 +42,52 @@ module _ {A : Type 0} where
     pub command : Command A
     pub order : commands ≡ before ++ (slot, command) ∷ after
     pub its : identity_of command ≡ id
-    pub new : has_identity mail_rules id before ≡ false
+    pub none_before : has_identity mail_rules id before ≡ false
     pub outcome : answer ≡ outcome_at (maildrop_after_all (first_maildrop first command.user) (own_of command.user before)) command
 
 -- a worked example: a service of one node, which is given a command and asks to lead. Each message arrives once
 module _ (A : Type 0) (limits : Limits) where
   abbrev alone : Opening A
-  alone = record { me = 1; cluster = 1; window = 5; names = []; limits = limits }
+  alone = record { me = 1; cluster = 1; window = 5; names = (97 ∷ []) ∷ []; limits = limits }
 
   abbrev its_command : Command A
   its_command = record { user = 97 ∷ []; ticket = record { node = 1; seq = 1 }; op = Take }
 
-  abbrev until_the_vote : List (NodeEvent A)
-  until_the_vote = Submits 1 (97 ∷ []) Take ∷ Campaigns 1 ∷ Arrives 0 ∷ Arrives 1 ∷ Arrives 2 ∷ []
+  abbrev before_the_vote : List (NodeEvent A)
+  before_the_vote = Submits 1 (97 ∷ []) Take ∷ Campaigns 1 ∷ Arrives 0 ∷ Arrives 1 ∷ Arrives 2 ∷ []
 
   -- no acceptor has voted
-  not_yet : order_of alone until_the_vote ≡ []
+  not_yet : order_of alone before_the_vote ≡ []
   not_yet = refl
 
-  abbrev until_the_decision : List (NodeEvent A)
-  until_the_decision = Submits 1 (97 ∷ []) Take ∷ Campaigns 1 ∷ Arrives 0 ∷ Arrives 1 ∷ Arrives 2 ∷ Arrives 3 ∷ []
+  abbrev with_the_vote : List (NodeEvent A)
+  with_the_vote = Submits 1 (97 ∷ []) Take ∷ Campaigns 1 ∷ Arrives 0 ∷ Arrives 1 ∷ Arrives 2 ∷ Arrives 3 ∷ []
 
   -- its vote is a majority
-  decides : order_of alone until_the_decision ≡ (1, its_command) ∷ []
-  decides = refl
+  chooses : order_of alone with_the_vote ≡ (1, its_command) ∷ []
+  chooses = refl
 
-  -- the decision comes back to it. It performs the command, and its answer is there: no user has a maildrop
+  -- the decision comes back to it. It performs the command, and its answer is there: the lock, and no messages
   abbrev until_the_answer : List (NodeEvent A)
   until_the_answer = Submits 1 (97 ∷ []) Take ∷ Campaigns 1 ∷ Arrives 0 ∷ Arrives 1 ∷ Arrives 2 ∷ Arrives 3 ∷ Arrives 4 ∷ Arrives 5 ∷ []
 
   performs : option_map (λ log. (replayed log).replica.performed) (log_of 1 (network_of alone until_the_answer).logs) ≡ Some ((1, its_command) ∷ [])
   performs = refl
 
-  answers : option_map (λ log. answered log (identity_of its_command)) (log_of 1 (network_of alone until_the_answer).logs) ≡ Some (Some NoSuchUser)
+  answers : option_map (λ log. answered log (identity_of its_command)) (log_of 1 (network_of alone until_the_answer).logs) ≡ Some (Some (Taken []))
   answers = refl
+
+  -- of three nodes the first alone has accepted its user's command when the second asks to lead, for which another one is proposed: the first one is chosen
+  abbrev three : Opening A
+  three = record { me = 1; cluster = 3; window = 5; names = []; limits = limits }
+
+  abbrev before_the_last_vote : List (NodeEvent A)
+  before_the_last_vote =
+      Submits 1 (97 ∷ []) Take ∷ Campaigns 1 ∷ Arrives 3 ∷ Arrives 4 ∷ Arrives 6 ∷ Arrives 7 ∷ Arrives 0 ∷ Arrives 8
+      ∷ Campaigns 2 ∷ Submits 2 (98 ∷ []) Take ∷ Arrives 16 ∷ Arrives 12 ∷ Arrives 13 ∷ Arrives 18 ∷ Arrives 19 ∷ Arrives 21 ∷ []
+
+  one_vote_is_missing : order_of three before_the_last_vote ≡ []
+  one_vote_is_missing = refl
+
+  taken_over : order_of three (before_the_last_vote ++ Arrives 22 ∷ []) ≡ (1, its_command) ∷ []
+  taken_over = refl
