@@ -1,5 +1,6 @@
 -- A node whose answers were taken, beside one that keeps them, takes the same steps and sends the same.
 use Rattle.std.proofs.Common.{◌≡◌, refl, ap, ◌∙◌, ℕ, List, [], ◌∷◌, ◌++◌, map, Bool, true, false, if◌then◌else◌, ◌==◌}
+use Rattle.std.specs.List.{list_any}
 use Rattle.ballot.specs.declared.message.Message.{Message}
 use Rattle.ballot.specs.declared.message.Message.TheVariants.{Propose, P1a, P1b, P2a, P2b, Decision, Ask}
 use Rattle.acceptor.specs.Acceptors.{AcceptorState, after_p1a, after_p2a, promise_for, vote_for}
@@ -11,7 +12,7 @@ use Rattle.replica.specs.Replicas.{ReplicaState, at_slot}
 use Rattle.replica.specs.Replicas as replica
 use Rattle.replica.proofs.ButAwaited.{requested_alike, decided_alike}
 use Rattle.replica.proofs.Left.{requested_left, decided_left}
-use Rattle.node.specs.Replay.{NodeState, MailReplica, Move, mail_rules, stays, submits, hears, told, ticks, campaigns, command_for, takes}
+use Rattle.node.specs.Replay.{NodeState, MailReplica, Move, mail_rules, stays, submits, hears, told, ticks, campaigns, command_for, acts, is_crash, takes}
 use Rattle.node.specs.Nodes.{IsButTaken}
 use Rattle.node.specs.declared.input.Input.{Input}
 use Rattle.node.specs.declared.input.Input.TheVariants.{Submit, Arrive, Tick, Campaign, Crash}
@@ -89,9 +90,12 @@ module _ {A : Type 0} where
         sends = ap (λ (l : LeaderState (Command A)). (campaigned {A = A} l).sends) h.leader;
       }
 
+  acts_alike : (o : Opening A) (me : ℕ) (before : List (Input A)) (m n : NodeState A) (i : Input A) → IsButTaken o m n → AreAlike o (acts me before m i) (acts me before n i)
+  acts_alike o me before m n (Submit name op) h = submits_alike o m n (command_for me name op before) h
+  acts_alike o me before m n (Arrive e) h = pick o (e.to == me) _ _ _ _ (hears_alike o m n e.from e.message h) (stays_alike o m n h)
+  acts_alike o me before m n Tick h = ticks_alike o m n h
+  acts_alike o me before m n Campaign h = campaigns_alike o m n h
+  acts_alike o me before m n Crash h = stays_alike o m n h
+
   pub takes_alike : (o : Opening A) (me : ℕ) (before : List (Input A)) (m n : NodeState A) (i : Input A) → IsButTaken o m n → AreAlike o (takes me before m i) (takes me before n i)
-  takes_alike o me before m n (Submit name op) h = submits_alike o m n (command_for me name op before) h
-  takes_alike o me before m n (Arrive e) h = pick o (e.to == me) _ _ _ _ (hears_alike o m n e.from e.message h) (stays_alike o m n h)
-  takes_alike o me before m n Tick h = ticks_alike o m n h
-  takes_alike o me before m n Campaign h = campaigns_alike o m n h
-  takes_alike o me before m n Crash h = stays_alike o m n h
+  takes_alike o me before m n i h = pick o (list_any is_crash before) _ _ _ _ (stays_alike o m n h) (acts_alike o me before m n i h)

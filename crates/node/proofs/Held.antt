@@ -1,5 +1,6 @@
 -- Which answers are there after an input.
 use Rattle.std.proofs.Common.{◌≡◌, refl, ap, ◌∙◌, sym, ℕ, ◌==◌, List, Bool, true, false, Option, Some, None, inl, inr, if◌then◌else◌}
+use Rattle.std.specs.List.{list_any}
 use Rattle.ballot.specs.declared.message.Message.{Message}
 use Rattle.ballot.specs.declared.message.Message.TheVariants.{Propose, P1a, P1b, P2a, P2b, Decision, Ask}
 use Rattle.maildrop.specs.CommandId.{CommandId}
@@ -10,7 +11,7 @@ use Rattle.replica.specs.Calls.{awaited_for, answered_with}
 use Rattle.replica.specs.Taken.{IsLeft}
 use Rattle.replica.proofs.History.{requests_add_none}
 use Rattle.replica.proofs.Left.{decided_answered}
-use Rattle.node.specs.Replay.{NodeState, Move, mail_rules, stays, submits, hears, command_for, takes, replayed}
+use Rattle.node.specs.Replay.{NodeState, Move, mail_rules, stays, submits, hears, command_for, acts, is_crash, takes, replayed}
 use Rattle.node.specs.Nodes.{answer_of, answered, left_after, answer_after, IsButTaken, IsCurrent}
 use Rattle.node.specs.declared.input.Input.{Input}
 use Rattle.node.specs.declared.input.Input.TheVariants.{Submit, Arrive, Tick, Campaign, Crash}
@@ -61,12 +62,15 @@ module _ {A : Type 0} where
   pick true m n id m' n' m'' n'' p q = p
   pick false m n id m' n' m'' n'' p q = q
 
+  acts_follow : (o : Opening A) (me : ℕ) (before : List (Input A)) (m n : NodeState A) (i : Input A) (id : CommandId) → IsButTaken o m n → Follows id m n (acts me before m i) (acts me before n i)
+  acts_follow o me before m n (Submit name op) id h = submits_follow o m n (command_for me name op before) id h
+  acts_follow o me before m n (Arrive e) id h = pick (e.to == me) m n id (hears m e.from e.message) (hears n e.from e.message) (stays m) (stays n) (hears_follow o m n e.from e.message id h) (unchanged m n id)
+  acts_follow o me before m n Tick id h = unchanged m n id
+  acts_follow o me before m n Campaign id h = unchanged m n id
+  acts_follow o me before m n Crash id h = unchanged m n id
+
   takes_follow : (o : Opening A) (me : ℕ) (before : List (Input A)) (m n : NodeState A) (i : Input A) (id : CommandId) → IsButTaken o m n → Follows id m n (takes me before m i) (takes me before n i)
-  takes_follow o me before m n (Submit name op) id h = submits_follow o m n (command_for me name op before) id h
-  takes_follow o me before m n (Arrive e) id h = pick (e.to == me) m n id (hears m e.from e.message) (hears n e.from e.message) (stays m) (stays n) (hears_follow o m n e.from e.message id h) (unchanged m n id)
-  takes_follow o me before m n Tick id h = unchanged m n id
-  takes_follow o me before m n Campaign id h = unchanged m n id
-  takes_follow o me before m n Crash id h = unchanged m n id
+  takes_follow o me before m n i id h = pick (list_any is_crash before) m n id (stays m) (stays n) (acts me before m i) (acts me before n i) (unchanged m n id) (acts_follow o me before m n i id h)
 
   -- the answers of a node after an input are those that were there, and what its log gets by the input
   pub answers_follow : (log : NodeLog A) (i : Input A) (roles : Option (NodeState A)) (given : List (List ℕ × ℕ)) (h : IsCurrent log roles given) (id : CommandId)

@@ -10,9 +10,9 @@ use Rattle.replica.proofs.History.{always_answers}
 use Rattle.replica.specs.Replicas.{is_waiting}
 use Rattle.replica.proofs.Left.{left_itself, taken_left}
 use Rattle.replica.proofs.Waiting.{waiting_left}
-use Rattle.node.specs.Replay.{NodeState, MailReplica, mail_rules, new_node, takes, replayed, counts}
+use Rattle.node.specs.Replay.{NodeState, MailReplica, mail_rules, new_node, takes, replayed, counts, is_crash}
 use Rattle.node.specs.Tickets.{tickets_of}
-use Rattle.node.specs.Nodes.{logged, is_crash, taken_of, stops_after, IsButTaken, IsCurrent, IsKept, IsKnown}
+use Rattle.node.specs.Nodes.{logged, taken_of, stops_after, IsButTaken, IsCurrent, IsKept, IsKnown}
 use Rattle.node.specs.declared.stopped.Stopped.{Stopped}
 use Rattle.node.specs.declared.stopped.Stopped.TheVariants.{Crashed, Memory, TicketsUsed}
 use Rattle.node.specs.declared.input.Input.TheVariants.{Submit, Arrive, Tick, Campaign, Crash}
@@ -102,11 +102,11 @@ module _ {A : Type 0} where
       → ((name : List ℕ) → tickets_of name given' ≡ counts name i + tickets_of name given)
       → IsKept (logged log i) roles' given' (stops_after i)
   kept_after log i roles roles' given given' h works tickets =
-      go i (next_current log i roles roles' given given' h.0 works tickets) (crash-push log.inputs i h.1)
+      go i refl (next_current log i roles roles' given given' h.0 works tickets) (crash-push log.inputs i h.1)
     where
-      go : (i : Input A) → IsCurrent (logged log i) roles' given' → list_any is_crash (log.inputs ++ i ∷ []) ≡ is_crash i → IsKept (logged log i) roles' given' (stops_after i)
-      go (Submit name op) current crash = (current, crash)
-      go (Arrive e) current crash = (current, crash)
-      go Tick current crash = (current, crash)
-      go Campaign current crash = (current, crash)
-      go Crash current crash = (current, crash)
+      go : (j : Input A) → i ≡ j → IsCurrent (logged log i) roles' given' → list_any is_crash (log.inputs ++ i ∷ []) ≡ is_crash i → IsKept (logged log i) roles' given' (stops_after j)
+      go (Submit name op) same current crash = (current, crash ∙ ap is_crash same)
+      go (Arrive e) same current crash = (current, crash ∙ ap is_crash same)
+      go Tick same current crash = (current, crash ∙ ap is_crash same)
+      go Campaign same current crash = (current, crash ∙ ap is_crash same)
+      go Crash same current crash = (current, (log.inputs, ap (λ j. log.inputs ++ j ∷ []) same, h.1))

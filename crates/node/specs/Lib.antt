@@ -3,3 +3,4 @@ pub mod Tickets
 pub mod Replay
 pub mod Roles
 pub mod Nodes
+pub mod Examples

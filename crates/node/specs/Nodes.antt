@@ -1,5 +1,5 @@
 -- What contracts see of a node, and what its type keeps.
-use Rattle.std.specs.Prelude.{◌≡◌, ℕ, ◌==◌, List, [], ◌∷◌, ◌++◌, map, Bool, true, false, Option, Some, None}
+use Rattle.std.specs.Prelude.{◌≡◌, ℕ, ◌==◌, List, [], ◌∷◌, ◌++◌, map, Bool, false, Option, Some, None}
 use Rattle.std.specs.List.{list_any}
 use Rattle.std.specs.Map.{lookup}
 use Rattle.std.specs.BTreeMap.{is_at}
@@ -8,7 +8,7 @@ use Rattle.maildrop.specs.declared.outcome.Outcome.{Outcome}
 use Rattle.replica.specs.Replicas.{answer_for, taken}
 use Rattle.maildrop.specs.Office.{new_user}
 use Rattle.replica.specs.Taken as replica
-use Rattle.node.specs.Replay.{NodeState, mail_rules, replayed, submits_of}
+use Rattle.node.specs.Replay.{NodeState, mail_rules, replayed, submits_of, is_crash}
 use Rattle.node.specs.Tickets.{tickets_of}
 use Rattle.node.specs.declared.input.Input.{Input}
 use Rattle.node.specs.declared.input.Input.TheVariants.{Submit, Crash}
@@ -39,10 +39,6 @@ LAST_TICKET = 18446744073709551615
 module _ {A : Type 0} where
   abbrev pub logged : NodeLog A → Input A → NodeLog A
   logged log i = record { opening = log.opening; inputs = log.inputs ++ i ∷ [] }
-
-  abbrev pub is_crash : Input A → Bool
-  is_crash Crash = true
-  is_crash _ = false
 
   -- why a node stops after an input
   abbrev pub stops_after : Input A → Option Stopped
@@ -95,8 +91,12 @@ module _ {A : Type 0} where
     pub replay : IsButTaken log.opening node (replayed log)
     pub tickets : (name : List ℕ) → tickets_of name given ≡ submits_of name log.inputs
 
-  -- what holds of a node between steps; it has crashed where its log says so
+  -- the last input is a crash, and no other is
+  abbrev pub EndsInCrash : List (Input A) → Type 0
+  EndsInCrash inputs = (before : List (Input A)) × (inputs ≡ before ++ Crash ∷ []) × (list_any is_crash before ≡ false)
+
+  -- what holds of a node between steps; it has crashed where its log ends in a crash
   abbrev pub IsKept : NodeLog A → Option (NodeState A) → List (List ℕ × ℕ) → Option Stopped → Type 0
   IsKept log roles given (Some Memory) = Unit {0}
-  IsKept log roles given (Some Crashed) = IsCurrent log roles given × (list_any is_crash log.inputs ≡ true)
+  IsKept log roles given (Some Crashed) = IsCurrent log roles given × EndsInCrash log.inputs
   IsKept log roles given _ = IsCurrent log roles given × (list_any is_crash log.inputs ≡ false)

@@ -1,5 +1,6 @@
 -- A node: what each input makes of it, what it sends, and what a log leads to.
-use Rattle.std.specs.Prelude.{ℕ, ◌+◌, ◌==◌, List, [], ◌∷◌, ◌++◌, map, Option, Some, None, if◌then◌else◌}
+use Rattle.std.specs.Prelude.{ℕ, ◌+◌, ◌==◌, List, [], ◌∷◌, ◌++◌, map, Bool, true, false, Option, Some, None, if◌then◌else◌}
+use Rattle.std.specs.List.{list_any}
 use Rattle.std.specs.Str.{bytes_eq}
 use Rattle.ballot.specs.declared.message.Message.{Message}
 use Rattle.ballot.specs.declared.message.Message.TheVariants.{Propose, P1a, P1b, P2a, P2b, Decision, Ask}
@@ -116,13 +117,21 @@ module _ {A : Type 0} where
   abbrev pub campaigns : NodeState A → Move A
   campaigns n = by_leader n (campaigned n.leader)
 
-  -- an input of node me, behind those before
+  -- an input of node me that hasn't crashed, behind those before
+  abbrev pub acts : ℕ → List (Input A) → NodeState A → Input A → Move A
+  acts me before n (Submit name op) = submits n (command_for me name op before)
+  acts me before n (Arrive e) = arrives me n e
+  acts me before n Tick = ticks n
+  acts me before n Campaign = campaigns n
+  acts me before n Crash = stays n
+
+  abbrev pub is_crash : Input A → Bool
+  is_crash Crash = true
+  is_crash _ = false
+
+  -- a crash is for good: an input behind one changes nothing
   abbrev pub takes : ℕ → List (Input A) → NodeState A → Input A → Move A
-  takes me before n (Submit name op) = submits n (command_for me name op before)
-  takes me before n (Arrive e) = arrives me n e
-  takes me before n Tick = ticks n
-  takes me before n Campaign = campaigns n
-  takes me before n Crash = stays n
+  takes me before n i = if list_any is_crash before then stays n else acts me before n i
 
   -- inputs, one after another
   abbrev pub takes_all : ℕ → List (Input A) → NodeState A → List (Input A) → NodeState A

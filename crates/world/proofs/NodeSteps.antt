@@ -19,7 +19,8 @@ use Rattle.replica.proofs.Settled.{decided_settled, requested_settled}
 use Rattle.maildrop.specs.Same.{same_command}
 use Rattle.maildrop.specs.Equality.{command_decides}
 use Rattle.maildrop.specs.declared.command.Command.{Command}
-use Rattle.node.specs.Replay.{NodeState, Move, mail_rules, by_acceptor, by_leader, by_replica, stays, told, hears, ticks, command_for, takes}
+use Rattle.std.specs.List.{list_any}
+use Rattle.node.specs.Replay.{NodeState, Move, mail_rules, by_acceptor, by_leader, by_replica, stays, told, hears, ticks, command_for, takes, acts, is_crash}
 use Rattle.node.specs.declared.input.Input.{Input}
 use Rattle.node.specs.declared.input.Input.TheVariants.{Submit, Arrive, Tick, Campaign, Crash}
 use Rattle.world.specs.Chosen.{asked, IsChosen}
@@ -320,13 +321,13 @@ module _ {A : Type 0} (size : ℕ) (S : Command A → Type 0) (nodes : ℕ → N
         holds = i.holds n;
       }
 
-  pub given_steps : (before : List (Input A)) (input : Input A) → IsGiven S sent n before input → Shows (takes n before (nodes n) input)
-  given_steps before (Submit name op) h =
+  acts_steps : (before : List (Input A)) (input : Input A) → IsGiven S sent n before input → Shows (acts n before (nodes n) input)
+  acts_steps before (Submit name op) h =
       let c : Command A = command_for n name op before in
       let on = goes_requested mail_rules S A c (nodes n).replica h (i.holds n) in
       replied (requested mail_rules c (nodes n).replica) on.sends (requested_settled mail_rules A c (nodes n).replica (i.settled n)) on.holds
       (subst (λ ds. (t : ℕ) (d : Command A) → at_slot t ds ≡ Some d → IsChosen size sent t d) (sym on.decisions) (i.learned.known n))
-  given_steps before (Arrive e) h =
+  acts_steps before (Arrive e) h =
       go (eqb e.to n) refl
     where
       go : (t : Bool) → eqb e.to n ≡ t → Shows (cond t (hears (nodes n) e.from e.message) (stays (nodes n)))
@@ -334,6 +335,15 @@ module _ {A : Type 0} (size : ℕ) (S : Command A → Type 0) (nodes : ℕ → N
           let mine : e ≡ record { from = e.from; to = n; message = e.message } = λ k. record { from = e.from; to = eqb-true e.to n q k; message = e.message } in
           heard_steps e.from e.message (subst (λ (y : Envelope (Command A) A). IsIn y sent) mine h)
       go false q = quiet
-  given_steps before Tick h = ticked_steps
-  given_steps before Campaign h = led Campaigns tt tt
-  given_steps before Crash h = quiet
+  acts_steps before Tick h = ticked_steps
+  acts_steps before Campaign h = led Campaigns tt tt
+  acts_steps before Crash h = quiet
+
+  -- what it is given, also behind a crash
+  pub given_steps : (before : List (Input A)) (input : Input A) → IsGiven S sent n before input → Shows (takes n before (nodes n) input)
+  given_steps before input h =
+      go (list_any is_crash before)
+    where
+      go : (t : Bool) → Shows (cond t (stays (nodes n)) (acts n before (nodes n) input))
+      go true = quiet
+      go false = acts_steps before input h

@@ -17,7 +17,8 @@ use Rattle.maildrop.specs.declared.command.Command.{Command}
 use Rattle.maildrop.specs.declared.outcome.Outcome.{Outcome}
 use Rattle.maildrop.proofs.IdOrder.{ids_eq}
 use Rattle.maildrop.proofs.Isolation.{maildrop_of-own, maildrop_of-other}
-use Rattle.node.specs.Replay.{NodeState, mail_rules, new_node, hears, takes, takes_all, replayed, command_for}
+use Rattle.std.specs.List.{list_any}
+use Rattle.node.specs.Replay.{NodeState, mail_rules, new_node, hears, acts, is_crash, takes, takes_all, replayed, command_for}
 use Rattle.node.specs.Nodes.{answered}
 use Rattle.node.specs.declared.input.Input.{Input}
 use Rattle.node.specs.declared.input.Input.TheVariants.{Submit, Arrive, Tick, Campaign, Crash}
@@ -43,17 +44,25 @@ module _ {A : Type 0} (users : List (User A)) where
   hears_answers n from (P2b v) h = h
   hears_answers n from (Ask s) h = h
 
-  takes_answers : (me : ℕ) (before : List (Input A)) (n : NodeState A) (i : Input A) → Answering n → Answering (takes me before n i).node
-  takes_answers me before n (Submit name op) h = called_answers A mail_rules ids_total users (Requests (command_for me name op before)) n.replica h
-  takes_answers me before n (Arrive e) h =
+  acts_answers : (me : ℕ) (before : List (Input A)) (n : NodeState A) (i : Input A) → Answering n → Answering (acts me before n i).node
+  acts_answers me before n (Submit name op) h = called_answers A mail_rules ids_total users (Requests (command_for me name op before)) n.replica h
+  acts_answers me before n (Arrive e) h =
       go (eqb e.to me)
     where
       go : (t : Bool) → Answering (cond t (hears n e.from e.message) (record { node = n; sends = [] })).node
       go true = hears_answers n e.from e.message h
       go false = h
-  takes_answers me before n Tick h = h
-  takes_answers me before n Campaign h = h
-  takes_answers me before n Crash h = h
+  acts_answers me before n Tick h = h
+  acts_answers me before n Campaign h = h
+  acts_answers me before n Crash h = h
+
+  takes_answers : (me : ℕ) (before : List (Input A)) (n : NodeState A) (i : Input A) → Answering n → Answering (takes me before n i).node
+  takes_answers me before n i h =
+      go (list_any is_crash before)
+    where
+      go : (t : Bool) → Answering (cond t (record { node = n; sends = [] }) (acts me before n i)).node
+      go true = h
+      go false = acts_answers me before n i h
 
   all_answers : (me : ℕ) (before : List (Input A)) (n : NodeState A) (is : List (Input A)) → Answering n → Answering (takes_all me before n is)
   all_answers me before n [] h = h

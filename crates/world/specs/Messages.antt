@@ -4,8 +4,8 @@ use Rattle.std.specs.List.{list_any}
 use Rattle.ballot.specs.declared.message.Envelope.{Envelope}
 use Rattle.maildrop.specs.declared.command.Command.{Command}
 use Rattle.maildrop.specs.declared.op.Op.{Op}
-use Rattle.node.specs.Replay.{sends_of, ticket_of}
-use Rattle.node.specs.Nodes.{logged, is_crash}
+use Rattle.node.specs.Replay.{sends_of, ticket_of, is_crash}
+use Rattle.node.specs.Nodes.{logged}
 use Rattle.node.specs.declared.input.Input.{Input}
 use Rattle.node.specs.declared.input.Input.TheVariants.{Submit, Arrive, Tick, Campaign, Crash}
 use Rattle.node.specs.declared.log.Opening.{Opening}

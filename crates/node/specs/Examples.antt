@@ -1,0 +1,55 @@
+-- Worked examples: node 2 of three.
+use Rattle.std.specs.Prelude.{◌≡◌, refl, ℕ, List, [], ◌∷◌, Some}
+use Rattle.ballot.specs.Ballots.{BallotNumber}
+use Rattle.ballot.specs.declared.message.Message.{Message}
+use Rattle.ballot.specs.declared.message.Message.TheVariants.{P1a, P1b, Decision, Ask}
+use Rattle.ballot.specs.declared.message.Envelope.{Envelope}
+use Rattle.maildrop.specs.Limits.{Limits}
+use Rattle.maildrop.specs.declared.command.Command.{Command}
+use Rattle.maildrop.specs.declared.op.Op.TheVariants.{Take}
+use Rattle.node.specs.Replay.{sends_of, ticket_of}
+use Rattle.node.specs.declared.input.Input.{Input}
+use Rattle.node.specs.declared.input.Input.TheVariants.{Submit, Arrive, Tick, Campaign, Crash}
+use Rattle.node.specs.declared.log.NodeLog.{NodeLog}
+
+module _ (A : Type 0) (limits : Limits) (c : Command A) where
+  abbrev after : List (Input A) → NodeLog A
+  after inputs = record { opening = record { me = 2; cluster = 3; window = 5; names = []; limits = limits }; inputs = inputs }
+
+  abbrev from_to : ℕ → ℕ → Message (Command A) A → Envelope (Command A) A
+  from_to from to message = record { from = from; to = to; message = message }
+
+  abbrev alice : List ℕ
+  alice = 97 ∷ []
+
+  abbrev bob : List ℕ
+  bob = 98 ∷ []
+
+  abbrev first_ballot : BallotNumber
+  first_ballot = record { round = 0; leader = 1 }
+
+  -- tickets are counted by user
+  counted_by_user : ticket_of (after (Submit alice Take ∷ Submit bob Take ∷ Submit alice Take ∷ [])) (Submit alice Take) ≡ Some (record { node = 2; seq = 3 })
+  counted_by_user = refl
+
+  -- a message to another node is nothing to it
+  to_another : sends_of (after []) (Arrive (from_to 1 3 (P1a first_ballot))) ≡ []
+  to_another = refl
+
+  to_itself : sends_of (after []) (Arrive (from_to 1 2 (P1a first_ballot))) ≡ from_to 2 1 (P1b (record { asked = first_ballot; ballot = first_ballot; accepted = [] })) ∷ []
+  to_itself = refl
+
+  -- a decision that it knows goes to the node that asks
+  tells_the_asker : sends_of (after (Arrive (from_to 1 2 (Decision 1 c)) ∷ [])) (Arrive (from_to 3 2 (Ask 1))) ≡ from_to 2 3 (Decision 1 c) ∷ []
+  tells_the_asker = refl
+
+  knows_none : sends_of (after []) (Arrive (from_to 3 2 (Ask 1))) ≡ []
+  knows_none = refl
+
+  -- it asks for the next decision
+  asks_on : sends_of (after []) Tick ≡ from_to 2 1 (Ask 1) ∷ from_to 2 2 (Ask 1) ∷ from_to 2 3 (Ask 1) ∷ []
+  asks_on = refl
+
+  -- behind a crash it does nothing
+  nothing_after_a_crash : sends_of (after (Crash ∷ [])) Campaign ≡ []
+  nothing_after_a_crash = refl
