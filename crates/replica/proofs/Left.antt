@@ -65,7 +65,7 @@ module _ {C I R M : Type 0} (A : Type 0) (rules : Rules C I R M) (total : IsTota
       let machine : r.machine ≡ s.machine = ap (λ (x : ReplicaState C I R M). x.machine) h.same in
       let more : p.more ≡ q.more = append_cancel_left s.performed p.more q.more (ap (λ (xs : List (ℕ × C)). xs ++ p.more) (sym performed) ∙ sym p.performed ∙ ap (λ (x : ReplicaState C I R M). x.performed) same ∙ q.performed) in
       let answer : answer_among rules i r.machine p.more ≡ answer_among rules i s.machine q.more =
-          ap (λ (m : M). answer_among rules i m p.more) machine ∙ ap (answer_among rules i s.machine) more in
+      ap (λ (m : M). answer_among rules i m p.more) machine ∙ ap (answer_among rules i s.machine) more in
       (answer_among rules i s.machine q.more, (p.answers i ∙ ap (λ (o : Option R). answered_with o (awaited_for rules i r)) answer, q.answers i))
 
   requested_awaited : (c : C) (i : I) (r : ReplicaState C I R M) → awaited_for rules i (requested {A = A} rules c r).replica ≡ awaited_for rules i (awaiting rules c r)
