@@ -11,7 +11,7 @@ use Rattle.acceptor.specs.Acceptors.{AcceptorState, Reached, raised, takes, Hold
 use Rattle.acceptor.proofs.Raised.{raised_keeps, raised_takes}
 use Rattle.acceptor.proofs.Kept.{reached_p1a, reached_p2a, held_stays, taken_held, accepted_cases}
 use Rattle.world.specs.Chosen.{asked}
-use Rattle.world.proofs.Sent.{vote_of}
+use Rattle.world.proofs.Chosen.{vote_of}
 use Rattle.world.proofs.Invariant.{Roles, Covers, AreUpTo, Sound}
 use Rattle.world.proofs.Step.{Steps}
 

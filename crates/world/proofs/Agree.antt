@@ -6,7 +6,7 @@ use Rattle.ballot.specs.declared.pvalue.PValue.{PValue}
 use Rattle.ballot.proofs.Count.{majorities_share}
 use Rattle.ballot.proofs.Order.{most_or_below, most_trans, by_ballots, three}
 use Rattle.world.specs.Chosen.{asked, voted, IsChosenBy, IsChosen}
-use Rattle.world.proofs.Sent.{voted_sent}
+use Rattle.world.proofs.Chosen.{voted_sent}
 use Rattle.world.proofs.Invariant.{Roles, Sound}
 
 module _ {C A : Type 0} where

@@ -13,8 +13,9 @@ use Rattle.leader.proofs.Slots.{at_slot-among}
 use Rattle.replica.specs.Replicas.{Rules, ReplicaState, at_slot, is_decided, first_slots, once, IsFrontOf}
 use Rattle.replica.proofs.Slots.{first_slots-same}
 use Rattle.world.specs.Chosen.{asked, voted, is_chosen, chosen, IsChosenBy, IsChosen}
-use Rattle.world.specs.Decided.{IsPrefix, first_gap, decided_order}
-use Rattle.world.proofs.Sent.{chosen_more}
+use Rattle.session.specs.Prefix.{IsPrefix}
+use Rattle.world.specs.Decided.{first_gap, decided_order}
+use Rattle.world.proofs.Chosen.{chosen_more}
 use Rattle.world.proofs.Invariant.{Roles, Sound}
 use Rattle.world.proofs.Agree.{agree}
 use Rattle.world.proofs.Gaps.{below_gap, gap_from, front_first}

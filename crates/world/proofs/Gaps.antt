@@ -4,7 +4,8 @@ use Rattle.std.proofs.lemmas.Bool.{cases_eq, true≢false}
 use Rattle.std.proofs.lemmas.List.{append-nil}
 use Rattle.replica.proofs.Slots.{from_slot, from_slot_few, from_slot_falls}
 use Rattle.replica.specs.Replicas.{Rules, at_slot, is_decided, in_slot, first_slots, has_identity, once}
-use Rattle.world.specs.Decided.{IsPrefix, first_gap, without_gap}
+use Rattle.session.specs.Prefix.{IsPrefix}
+use Rattle.world.specs.Decided.{first_gap, without_gap}
 
 module _ {X : Type 0} where
   -- below the first gap something stands at each slot

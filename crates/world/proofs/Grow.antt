@@ -8,7 +8,7 @@ use Rattle.ballot.specs.declared.message.Envelope.{Envelope}
 use Rattle.ballot.proofs.Order.{below_not_most}
 use Rattle.acceptor.specs.Acceptors.{AcceptorState, Reached}
 use Rattle.leader.specs.Leaders.{Phase, Passive, Scouting, Active, Over}
-use Rattle.world.proofs.Sent.{Voted, asked_more}
+use Rattle.world.proofs.Chosen.{Voted, asked_more}
 use Rattle.world.proofs.Invariant.{put, Covers, AreBelow, AreUpTo, Backs, IsBacked}
 
 pub put_same : {X : Type 0} (f : ℕ → X) (n : ℕ) (x : X) → put f n x n ≡ x

@@ -14,7 +14,7 @@ use Rattle.leader.specs.Leaders.{LeaderState, Phase, Scouting, Active, at_slot}
 use Rattle.leader.specs.Calls.{IsOrderly}
 use Rattle.leader.proofs.Asked.{Past}
 use Rattle.world.specs.Chosen.{asked}
-use Rattle.world.proofs.Sent.{Voted, sent_by}
+use Rattle.world.proofs.Chosen.{Voted, sent_by}
 
 -- the acceptors and leaders of a cluster, by their nodes' numbers, and all messages that were sent
 pub record Roles (C A : Type 0) : Type 0 where

@@ -31,7 +31,7 @@ use Rattle.leader.specs.Calls.{Call, Proposes, HearsPromise, HearsVote, Adopts, 
 use Rattle.leader.proofs.Slots.{at_slot-with_slot, at_slot-with_other, at_slot-among, in_with_slot, in_set_slot, in_without_set}
 use Rattle.leader.proofs.Orderly.{in_commanders}
 use Rattle.world.specs.Chosen.{asked, voted, IsChosen}
-use Rattle.world.proofs.Sent.{vote_of, sent_by, in_sent_by, sent_voted, asks_sent, asked_more, asked_now, voted_more, chosen_more}
+use Rattle.world.proofs.Chosen.{vote_of, sent_by, in_sent_by, sent_voted, asks_sent, asked_more, asked_now, voted_more, chosen_more}
 use Rattle.world.proofs.Invariant.{Roles, put, moved, Sound}
 use Rattle.world.proofs.Grow.{put_each}
 use Rattle.world.proofs.LeaderSends.{IsNoVote, asking_sends}

@@ -1,4 +1,4 @@
-pub mod Sent
+pub mod Chosen
 pub mod Invariant
 pub mod Agree
 pub mod Grow

@@ -11,7 +11,8 @@ use Rattle.node.specs.declared.input.Input.{Input}
 use Rattle.node.specs.declared.input.Input.TheVariants.{Submit}
 use Rattle.node.specs.declared.log.Opening.{Opening}
 use Rattle.node.specs.declared.log.NodeLog.{NodeLog}
-use Rattle.world.specs.Messages.{Sent, log_of, newly_sent, with_arrival, new_logs, IsSubmitIn, WasSubmitted}
+use Rattle.world.specs.Messages.{log_of, newly_sent, with_arrival, new_logs, IsSubmitIn, WasSubmitted}
+use Rattle.world.specs.declared.sent.Sent.{Sent}
 
 next_number : (a b : ℕ) → eqb (suc a) (suc b) ≡ eqb a b
 next_number a b =

@@ -24,7 +24,7 @@ use Rattle.node.specs.Replay.{NodeState, Move, mail_rules, by_acceptor, by_leade
 use Rattle.node.specs.declared.input.Input.{Input}
 use Rattle.node.specs.declared.input.Input.TheVariants.{Submit, Arrive, Tick, Campaign, Crash}
 use Rattle.world.specs.Chosen.{asked, IsChosen}
-use Rattle.world.proofs.Sent.{sent_by, in_sent_by, asked_sent, sent_asked}
+use Rattle.world.proofs.Chosen.{sent_by, in_sent_by, asked_sent, sent_asked}
 use Rattle.world.proofs.Invariant.{Roles, put, moved, Sound}
 use Rattle.world.proofs.Grow.{put_each}
 use Rattle.world.proofs.Step.{Steps, step}

@@ -25,7 +25,7 @@ use Rattle.node.specs.declared.input.Input.TheVariants.{Submit, Arrive, Tick, Ca
 use Rattle.node.specs.declared.log.Opening.{Opening}
 use Rattle.node.specs.declared.log.NodeLog.{NodeLog}
 use Rattle.node.proofs.Orders.{ids_total}
-use Rattle.world.specs.Decided.{IsPrefix}
+use Rattle.session.specs.Prefix.{IsPrefix}
 use Rattle.world.specs.Messages.{NodeEvent, log_of, network_of}
 use Rattle.world.specs.Runs.{own_of, order_of, IsOutcomeOf}
 use Rattle.world.proofs.Runs.{every_run}

@@ -8,7 +8,7 @@ use Rattle.ballot.proofs.Member.{in_either}
 use Rattle.acceptor.specs.Acceptors.{AcceptorState}
 use Rattle.leader.specs.Leaders.{LeaderState, at_slot}
 use Rattle.world.specs.Chosen.{IsChosen}
-use Rattle.world.proofs.Sent.{sent_by, sent_by-append}
+use Rattle.world.proofs.Chosen.{sent_by, sent_by-append}
 use Rattle.world.proofs.Invariant.{Roles, Sound}
 use Rattle.world.proofs.Step.{Steps}
 use Rattle.world.proofs.Learn.{Learned, Learns, AreLeaderVoted, all_voted_on, unmoved_voted}

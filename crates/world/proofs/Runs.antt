@@ -15,8 +15,9 @@ use Rattle.node.specs.declared.input.Input.TheVariants.{Submit, Arrive, Tick, Ca
 use Rattle.node.specs.declared.log.Opening.{Opening}
 use Rattle.node.specs.declared.log.NodeLog.{NodeLog}
 use Rattle.node.proofs.Replaying.{replayed-push}
-use Rattle.world.specs.Messages.{Sent, Network, NodeEvent, Submits, Arrives, Ticks, Campaigns, Crashes, log_of, is_up, newly_sent, taken_by, takes, with_arrival, arrives, happens, happen, new_network, network_of, envelopes, WasSubmitted}
-use Rattle.world.proofs.Sent.{sent_by}
+use Rattle.world.specs.Messages.{Network, NodeEvent, Submits, Arrives, Ticks, Campaigns, Crashes, log_of, is_up, newly_sent, taken_by, takes, with_arrival, arrives, happens, happen, new_network, network_of, envelopes, WasSubmitted}
+use Rattle.world.specs.declared.sent.Sent.{Sent}
+use Rattle.world.proofs.Chosen.{sent_by}
 use Rattle.world.proofs.Invariant.{put, Sound}
 use Rattle.world.proofs.NodeSteps.{AreKept, IsGiven, kept_step, kept_also, given_steps, roles_of}
 use Rattle.world.proofs.Logs.{log_set, log_same, log_other, new_log_of, submitted_more, in_sent, arrival_alike, envelopes_more}

@@ -14,7 +14,7 @@ use Rattle.leader.specs.Leaders.{LeaderState, Phase, Passive, Scouting, Active, 
 use Rattle.leader.specs.Calls.{Asks, IsAsked, IsOrderly}
 use Rattle.leader.proofs.Asked.{Past, asked_stands, stands_active, one_command}
 use Rattle.world.specs.Chosen.{asked}
-use Rattle.world.proofs.Sent.{Voted, vote_of, sent_by, in_sent_by, asked_more, asked_either, asks_of}
+use Rattle.world.proofs.Chosen.{Voted, vote_of, sent_by, in_sent_by, asked_more, asked_either, asks_of}
 use Rattle.world.proofs.Invariant.{Roles, put, moved, Covers, AreUpTo, Backs, IsChoice, AreChoices, IsBacked, IsLeaderBacked, Sound}
 use Rattle.world.proofs.Grow.{put_each, put_here, Advances, AllAdvance, covers_on, up_to_on, backs_on, backed_on}
 

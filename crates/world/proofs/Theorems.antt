@@ -15,10 +15,12 @@ use Rattle.node.specs.declared.input.Input.TheVariants.{Submit, Arrive, Tick, Ca
 use Rattle.node.specs.declared.log.Opening.{Opening}
 use Rattle.node.specs.declared.log.NodeLog.{NodeLog}
 use Rattle.world.specs.Chosen.{chosen, IsChosen}
-use Rattle.world.specs.Decided.{IsPrefix, first_gap, without_gap}
-use Rattle.world.specs.Messages.{Sent, Network, NodeEvent, Submits, Arrives, Ticks, Campaigns, Crashes, log_of, is_up, newly_sent, taken_by, takes, with_arrival, arrives, happens, happen, new_network, network_of, envelopes, WasSubmitted}
+use Rattle.session.specs.Prefix.{IsPrefix}
+use Rattle.world.specs.Decided.{first_gap, without_gap}
+use Rattle.world.specs.Messages.{Network, NodeEvent, Submits, Arrives, Ticks, Campaigns, Crashes, log_of, is_up, newly_sent, taken_by, takes, with_arrival, arrives, happens, happen, new_network, network_of, envelopes, WasSubmitted}
+use Rattle.world.specs.declared.sent.Sent.{Sent}
 use Rattle.world.specs.Runs.{IsChosenIn, order_of}
-use Rattle.world.proofs.Sent.{asked_sent, chosen_more}
+use Rattle.world.proofs.Chosen.{asked_sent, chosen_more}
 use Rattle.world.proofs.Invariant.{Roles}
 use Rattle.world.proofs.Agree.{agree}
 use Rattle.world.proofs.DecidedOrder.{listed_chosen, performed_first, order_grows}

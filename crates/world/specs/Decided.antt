@@ -1,13 +1,9 @@
 -- The decided order.
-use Rattle.std.specs.Prelude.{◌≡◌, refl, ℕ, zero, suc, ◌+◌, ◌-◌, List, [], ◌∷◌, ◌++◌, length, if◌then◌else◌}
+use Rattle.std.specs.Prelude.{◌≡◌, refl, ℕ, zero, suc, ◌+◌, ◌-◌, List, [], ◌∷◌, length, if◌then◌else◌}
 use Rattle.std.specs.Ordering.{nat_cmp}
 use Rattle.ballot.specs.declared.message.Envelope.{Envelope}
 use Rattle.replica.specs.Replicas.{Rules, rules_of, is_decided, first_slots, once}
 use Rattle.world.specs.Chosen.{chosen}
-
--- xs is a prefix of ys
-abbrev pub IsPrefix : {X : Type 0} → List X → List X → Type 0
-IsPrefix {X} xs ys = (rest : List X) × (xs ++ rest ≡ ys)
 
 -- of n slots from s on the first at which nothing stands; the slot behind them where something stands at each
 abbrev pub first_gap : {X : Type 0} → ℕ → ℕ → List (ℕ × X) → ℕ

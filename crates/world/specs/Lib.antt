@@ -2,3 +2,9 @@ pub mod Chosen
 pub mod Decided
 pub mod Messages
 pub mod Runs
+pub mod Clients
+pub mod Services
+pub mod Refusals
+pub mod Projection
+pub mod Worlds
+pub mod Examples

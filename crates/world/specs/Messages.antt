@@ -10,11 +10,7 @@ use Rattle.node.specs.declared.input.Input.{Input}
 use Rattle.node.specs.declared.input.Input.TheVariants.{Submit, Arrive, Tick, Campaign, Crash}
 use Rattle.node.specs.declared.log.Opening.{Opening}
 use Rattle.node.specs.declared.log.NodeLog.{NodeLog}
-
--- a message that was sent, and how often it has arrived
-pub record Sent (A : Type 0) : Type 0 where
-  pub envelope : Envelope (Command A) A
-  pub arrived : ℕ
+use Rattle.world.specs.declared.sent.Sent.{Sent}
 
 -- the logs of the nodes, in the order of their numbers, and all messages, in the order in which they were sent
 pub record Network (A : Type 0) : Type 0 where

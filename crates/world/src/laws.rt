@@ -13,7 +13,7 @@ ghost use Rattle.node.specs.Nodes.{answered};
 ghost use Rattle.node.specs.Replay.{replayed};
 ghost use Rattle.node.specs.declared.log.NodeLog.{NodeLog};
 ghost use Rattle.node.specs.declared.log.Opening.{Opening};
-ghost use Rattle.world.specs.Decided.{IsPrefix};
+ghost use Rattle.session.specs.Prefix.{IsPrefix};
 ghost use Rattle.world.specs.Messages.{NodeEvent, log_of, network_of, envelopes, WasSubmitted};
 ghost use Rattle.world.specs.Runs.{IsChosenIn, IsOutcomeOf, order_of};
 

@@ -1,8 +1,19 @@
-//! Runs of the whole service: what its nodes decide, whatever is lost, repeated, late or crashed.
+//! A whole service under a list of events: what its nodes decide and what its clients are told, whatever is lost,
+//! repeated, late or crashed.
 #![tactic(auto)]
 
+mod config;
+mod event;
 mod laws;
+mod refused;
+mod sent;
+mod session_id;
 
+pub use config::Config;
+pub use event::Event;
 pub use laws::{
     agreement, answers_are_of_own_commands, learning, the_decided_order_grows, validity,
 };
+pub use refused::Refused;
+pub use sent::Sent;
+pub use session_id::SessionId;

@@ -1,0 +1,108 @@
+-- Worked runs of a service of one node with one user.
+use Rattle.std.specs.Prelude.{◌≡◌, refl, ℕ, List, [], ◌∷◌, ◌++◌, Option, Some, None, option_map, codes}
+use Rattle.std.specs.List.{concat, flat_map}
+use Rattle.std.specs.Fmt.{digits}
+use Rattle.maildrop.specs.Limits.{Limits}
+use Rattle.maildrop.specs.declared.op.Op.{Op}
+use Rattle.maildrop.specs.declared.op.Op.TheVariants.{Take, Free}
+use Rattle.apop.specs.declared.method.Method.TheVariants.{Pass}
+use Rattle.pop3_wire.specs.declared.line.Line.TheVariants.{Whole}
+use Rattle.node.specs.declared.input.Input.{Input}
+use Rattle.node.specs.declared.input.Input.TheVariants.{Submit}
+use Rattle.world.specs.Clients.{client_of}
+use Rattle.world.specs.Messages.{log_of}
+use Rattle.world.specs.Refusals.{refusal_of, step_refusal}
+use Rattle.world.specs.Services.{Happening, Occurs, Lost, Service, run_of}
+use Rattle.world.specs.declared.config.Config.{Config}
+use Rattle.world.specs.declared.event.Event.{Event}
+use Rattle.world.specs.declared.event.Event.TheVariants.{Connect, Line, Hangup, Collect, Mail, Arrive, Tick, Campaign, Crash}
+use Rattle.world.specs.declared.refused.Refused.TheVariants.{NotSent, Down, NoSession, Busy, NoSuchUser, SessionExists}
+
+module _ (A : Type 0) (limits : Limits) where
+  abbrev alice : List ℕ
+  alice = codes "alice"
+
+  abbrev cfg : Config A
+  cfg = record { accounts = record { name = alice; method = Pass; secret = codes "s" } ∷ []; limits = limits; cluster = 1; window = 5 }
+
+  abbrev connects : Event A
+  connects = Connect 1 1 (record { nonce = codes "1.1"; host = codes "localhost" })
+
+  abbrev says : List ℕ → Happening A
+  says bytes = Occurs (Line 1 (Whole bytes))
+
+  abbrev arrive : ℕ → Happening A
+  arrive which = Occurs (Arrive which)
+
+  abbrev replies_to : ℕ → Service A → Option (List ℕ)
+  replies_to session w = option_map (λ c. c.replies) (client_of session w.clients)
+
+  abbrev submitted : Input A → List (List ℕ × Op A)
+  submitted (Submit user op) = (user, op) ∷ []
+  submitted input = []
+
+  -- the operations that were submitted at a node
+  abbrev operations_at : ℕ → Service A → Option (List (List ℕ × Op A))
+  operations_at node w = option_map (λ log. flat_map submitted log.inputs) (log_of node w.network.logs)
+
+  -- the node leads, and the client has logged in: its Take is submitted, and decided
+  abbrev until_the_lock : List (Happening A)
+  until_the_lock =
+      Occurs connects ∷ says (codes "USER alice") ∷ says (codes "PASS s") ∷ Occurs (Campaign 1)
+      ∷ arrive 0 ∷ arrive 1 ∷ arrive 2 ∷ arrive 3 ∷ arrive 4 ∷ arrive 5 ∷ []
+
+  -- the client quits: its Free is submitted, and decided
+  abbrev until_the_end : List (Happening A)
+  until_the_end =
+      Occurs (Collect 1) ∷ says (codes "STAT") ∷ says (codes "QUIT") ∷ arrive 6 ∷ arrive 7 ∷ arrive 8 ∷ arrive 9 ∷ Occurs (Collect 1) ∷ []
+
+  a_session : replies_to 1 (run_of cfg (until_the_lock ++ until_the_end))
+      ≡ Some (concat (codes "+OK POP3 server ready <1.1@localhost>\r\n" ∷ codes "+OK send PASS\r\n" ∷ codes "+OK maildrop has 0 messages (0 octets)\r\n"
+      ∷ codes "+OK 0 0\r\n" ∷ codes "+OK signing off\r\n" ∷ []))
+  unfolding digits
+  a_session = refl
+
+  -- nothing more is said before the answer is taken
+  waiting : replies_to 1 (run_of cfg until_the_lock) ≡ Some (concat (codes "+OK POP3 server ready <1.1@localhost>\r\n" ∷ codes "+OK send PASS\r\n" ∷ []))
+  waiting = refl
+
+  -- an answer that is lost still brings the lock. The hangup that is left gives it back; a second one does nothing
+  lost_answer : operations_at 1 (run_of cfg (until_the_lock ++ Lost 1 ∷ Occurs (Hangup 1) ∷ Occurs (Hangup 1) ∷ []))
+      ≡ Some ((alice, Take) ∷ (alice, Free (record { node = 1; seq = 1 })) ∷ [])
+  lost_answer = refl
+
+  -- a session that is lost before it has got the lock gives nothing back
+  lost_early : operations_at 1 (run_of cfg (Occurs connects ∷ says (codes "USER alice") ∷ Lost 1 ∷ Occurs (Hangup 1) ∷ [])) ≡ Some []
+  lost_early = refl
+
+  -- once the node has crashed its client is told no more
+  crashed : replies_to 1 (run_of cfg (Occurs connects ∷ Occurs (Crash 1) ∷ says (codes "USER alice") ∷ [])) ≡ Some (codes "+OK POP3 server ready <1.1@localhost>\r\n")
+  crashed = refl
+
+  -- refusals
+  abbrev connected : List (Happening A)
+  connected = Occurs connects ∷ []
+
+  no_such_node : refusal_of (run_of cfg connected) (Tick 2) ≡ Some Down
+  no_such_node = refl
+
+  connected_twice : refusal_of (run_of cfg connected) connects ≡ Some SessionExists
+  connected_twice = refl
+
+  unknown_session : refusal_of (run_of cfg connected) (Line 9 (Whole (codes "NOOP"))) ≡ Some NoSession
+  unknown_session = refl
+
+  unknown_user : step_refusal cfg (run_of cfg connected) (Mail 1 (codes "zoe") (codes "x" ∷ []) None) ≡ Some NoSuchUser
+  unknown_user = refl
+
+  not_sent : refusal_of (run_of cfg connected) (Arrive 0) ≡ Some NotSent
+  not_sent = refl
+
+  awaiting : refusal_of (run_of cfg (Occurs connects ∷ says (codes "USER alice") ∷ says (codes "PASS s") ∷ [])) (Line 1 (Whole (codes "NOOP"))) ≡ Some Busy
+  awaiting = refl
+
+  down_before_busy : refusal_of (run_of cfg (Occurs connects ∷ says (codes "USER alice") ∷ says (codes "PASS s") ∷ Occurs (Crash 1) ∷ [])) (Line 1 (Whole (codes "NOOP"))) ≡ Some Down
+  down_before_busy = refl
+
+  over_before_down : refusal_of (run_of cfg (Occurs connects ∷ says (codes "QUIT") ∷ Occurs (Crash 1) ∷ [])) (Line 1 (Whole (codes "NOOP"))) ≡ Some NoSession
+  over_before_down = refl

@@ -1,0 +1,87 @@
+-- What the sessions of a service are told, beside what a server tells them that has their user's maildrop alone.
+use Rattle.std.specs.Prelude.{◌≡◌, ℕ, List, [], ◌∷◌, true, Some, is_some, ⊤}
+use Rattle.std.specs.List.{concat}
+use mathlib.Core.Logic.{◌⊎◌}
+use Rattle.maildrop.specs.Ticket.{Ticket}
+use Rattle.maildrop.specs.declared.command.Command.{Command}
+use Rattle.apop.specs.Login.{account_named}
+use Rattle.pop3_wire.specs.declared.line.Line.{Line}
+use Rattle.session.specs.Alone.{replies_alone}
+use Rattle.session.specs.Asking.{AreFor}
+use Rattle.session.specs.Conversation.{Answer, Request, conversation}
+use Rattle.session.specs.Prefix.{IsPrefix}
+use Rattle.node.specs.Replay.{mail_rules}
+use Rattle.node.specs.declared.log.NodeLog.{NodeLog}
+use Rattle.world.specs.Clients.{Client}
+use Rattle.world.specs.Decided.{decided_order}
+use Rattle.world.specs.Messages.{envelopes, log_of, IsSubmitIn}
+use Rattle.world.specs.Runs.{first_maildrop, own_of}
+use Rattle.world.specs.Services.{Service, opening_of}
+use Rattle.world.specs.declared.config.Config.{Config}
+
+-- one of the two is a prefix of the other
+abbrev pub AreComparable : {X : Type 0} → List X → List X → Type 0
+AreComparable xs ys = IsPrefix xs ys ⊎ IsPrefix ys xs
+
+module _ {A : Type 0} where
+  -- what the nodes of a service have decided, each command with its slot
+  abbrev pub decided : Config A → Service A → List (ℕ × Command A)
+  decided cfg w = decided_order mail_rules cfg.cluster (envelopes w.network)
+
+  -- the user's decided commands, in order, each once
+  abbrev pub own_commands : Config A → Service A → List ℕ → List (Command A)
+  own_commands cfg w user = own_of user (decided cfg w)
+
+  -- what the client's lines ask for, where they are answered so
+  abbrev pub asked_by : Config A → Client A → List (Answer A) → List (Request A)
+  asked_by cfg c answers = (conversation cfg.accounts c.stamp c.lines answers).asked
+
+  -- whatever is answered, all that the client's lines ask for is for this user
+  abbrev pub IsUserOf : Config A → Client A → List ℕ → Type 0
+  IsUserOf cfg c user = (answers : List (Answer A)) → AreFor user (asked_by cfg c answers)
+
+  abbrev pub AsksNothing : Config A → Client A → Type 0
+  AsksNothing cfg c = (answers : List (Answer A)) → asked_by cfg c answers ≡ []
+
+  -- the client asks for nothing, or all of it is for one user, who has an account
+  abbrev pub HasOneUser : Config A → Client A → Type 0
+  HasOneUser cfg c = AsksNothing cfg c ⊎ ((user : List ℕ) × (is_some (account_named cfg.accounts user) ≡ true) × IsUserOf cfg c user)
+
+  -- the bytes of the replies of a server that has the user's maildrop alone, to the client's greeting and these lines,
+  -- where the operations that they ask for have these tickets, and these are the user's commands
+  abbrev pub alone_bytes : Config A → Client A → List ℕ → List Line → List Ticket → List (Command A) → List ℕ
+  alone_bytes cfg c user lines tickets own = concat (replies_alone cfg.accounts c.stamp (first_maildrop (opening_of cfg) user) lines tickets own)
+
+  -- What the client was told is a prefix of what that server says: to the client's lines, with its tickets and its user's
+  -- commands, and to any lists that these are prefixes of.
+  abbrev pub IsProjected : Config A → Service A → Client A → Type 0
+  IsProjected cfg w c = (user : List ℕ) (lines : List Line) (tickets : List Ticket) (own : List (Command A)) →
+      IsUserOf cfg c user → IsPrefix c.lines lines → IsPrefix c.tickets tickets → IsPrefix (own_commands cfg w user) own →
+      IsPrefix c.replies (alone_bytes cfg c user lines tickets own)
+
+  -- Two clients of two services agree: on the greeting, and as far as both have come on the lines, the tickets and the
+  -- user's decided commands.
+  pub record Agree (cfg cfg2 : Config A) (w w2 : Service A) (c c2 : Client A) (user : List ℕ) : Type 0 where
+    pub accounts : cfg.accounts ≡ cfg2.accounts
+    pub limits : cfg.limits ≡ cfg2.limits
+    pub greetings : c.stamp ≡ c2.stamp
+    pub its_user : IsUserOf cfg c user
+    pub same_user : IsUserOf cfg2 c2 user
+    pub lines : AreComparable c.lines c2.lines
+    pub tickets : AreComparable c.tickets c2.tickets
+    pub commands : AreComparable (own_commands cfg w user) (own_commands cfg2 w2 user)
+
+  -- these operations were submitted to the node of this log, and got these tickets, one for one and in order
+  abbrev pub AreSubmitted : NodeLog A → List (Request A) → List Ticket → Type 0
+  AreSubmitted log [] [] = ⊤
+  AreSubmitted log [] (ticket ∷ tickets) = ⊥
+  AreSubmitted log (request ∷ requests) [] = ⊥
+  AreSubmitted log (request ∷ requests) (ticket ∷ tickets) =
+      IsSubmitIn log (record { user = request.user; ticket = ticket; op = request.op }) × AreSubmitted log requests tickets
+
+  -- the tickets of a client are those of what its lines ask for, where they were answered so
+  pub record HasTickets (cfg : Config A) (w : Service A) (c : Client A) : Type 0 where
+    pub log : NodeLog A
+    pub its_node : log_of c.node w.network.logs ≡ Some log
+    pub answers : List (Answer A)
+    pub submitted : AreSubmitted log (asked_by cfg c answers) c.tickets

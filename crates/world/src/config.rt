@@ -1,0 +1,19 @@
+//! What a service begins with.
+
+use apop::Accounts;
+use ballot::Cluster;
+use maildrop::Limits;
+use std::alloc::{Allocator, Global};
+
+/// What a service begins with. Its nodes have the same accounts, limits and window.
+#[derive(Drop)]
+pub struct Config<A: Allocator = Global> {
+    /// The users who may log in. Each has a maildrop.
+    pub accounts: Accounts<A>,
+    /// The limits of each maildrop.
+    pub limits: Limits,
+    /// The nodes.
+    pub cluster: Cluster,
+    /// For how many slots a node proposes, from the next one on that it performs: 1 to 1,000.
+    pub window: u64,
+}

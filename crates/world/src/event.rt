@@ -1,0 +1,52 @@
+//! What a service is given to do.
+
+use crate::session_id::SessionId;
+use apop::Stamp;
+use ballot::NodeId;
+use maildrop::{Key, Name, Text};
+use pop3_wire::Line;
+use std::alloc::{Allocator, Global};
+
+/// One event of a service. Whoever gives the events decides what comes when, and what never comes.
+#[derive(Drop)]
+pub enum Event<A: Allocator = Global> {
+    /// A client connects to a node, which greets it with this timestamp.
+    Connect {
+        session: SessionId,
+        node: NodeId,
+        stamp: Stamp,
+    },
+    /// A client sends a line.
+    Line {
+        session: SessionId,
+        line: Line,
+    },
+    /// A client is gone, without QUIT.
+    Hangup {
+        session: SessionId,
+    },
+    /// A session takes the answer that it awaits.
+    Collect {
+        session: SessionId,
+    },
+    /// A message for a user comes in at a node: with a key it is stored once, however often it comes.
+    Mail {
+        node: NodeId,
+        user: Name,
+        text: Text<A>,
+        key: Option<Key>,
+    },
+    /// An operator takes the lock of a user's maildrop away.
+    Break {
+        node: NodeId,
+        user: Name,
+    },
+    /// The message that was sent as this number, counted from 0, reaches its addressee, once more where it did before.
+    Arrive(usize),
+    /// Time passes at a node.
+    Tick(NodeId),
+    /// A node asks to lead.
+    Campaign(NodeId),
+    /// A node stops, for good.
+    Crash(NodeId),
+}
