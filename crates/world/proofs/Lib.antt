@@ -17,3 +17,10 @@ pub mod Logs
 pub mod Runs
 pub mod Theorems
 pub mod Outcomes
+pub mod OwnOutcomes
+pub mod ServiceRuns
+pub mod Sessions
+pub mod Serving
+pub mod Projected
+pub mod OneUser
+pub mod Unchanged

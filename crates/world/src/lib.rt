@@ -7,6 +7,7 @@ mod event;
 mod laws;
 mod refused;
 mod sent;
+mod service_laws;
 mod session_id;
 
 pub use config::Config;
@@ -16,4 +17,8 @@ pub use laws::{
 };
 pub use refused::Refused;
 pub use sent::Sent;
+pub use service_laws::{
+    one_user, projection, refused_changes_nothing, services_run_on_nodes, tickets_of_sessions,
+    two_runs,
+};
 pub use session_id::SessionId;

@@ -1,0 +1,114 @@
+-- What a served client was told is a prefix of what a lone server says.
+use Rattle.std.proofs.Common.{◌≡◌, ℕ, List, [], ◌∷◌, ◌++◌, Some, refl, sym, ap, ◌∙◌, subst, inl, inr, ⊎_elim, append_assoc}
+use Rattle.std.specs.List.{concat}
+use Rattle.std.proofs.lemmas.List.{append-nil}
+use Rattle.maildrop.specs.Limits.{Limits}
+use Rattle.maildrop.specs.declared.command.Command.{Command}
+use Rattle.apop.specs.Accounts.{Account}
+use Rattle.apop.specs.Stamp.{Stamp}
+use Rattle.node.specs.declared.log.NodeLog.{NodeLog}
+use Rattle.session.specs.Alone.{answers_for, answer_before, replies_alone}
+use Rattle.session.specs.Asking.{AreFor}
+use Rattle.session.specs.Conversation.{Answer, conversation}
+use Rattle.session.specs.Prefix.{IsPrefix}
+use Rattle.session.proofs.Calls.{talk_conversation}
+use Rattle.session.proofs.Longer.{replies_longer}
+use Rattle.world.specs.Clients.{Client, client_of}
+use Rattle.world.specs.Messages.{log_of}
+use Rattle.world.specs.Projection.{AreComparable, decided, own_commands, alone_bytes, IsProjected, Agree, AreSubmitted, HasTickets}
+use Rattle.world.specs.Runs.{first_maildrop, own_of}
+use Rattle.world.specs.Services.{Service, Happening, opening_of, run_of}
+use Rattle.world.specs.declared.config.Config.{Config}
+use Rattle.world.proofs.Sessions.{concat_append, IsServed, AreOwn, tickets_in, tickets_front}
+use Rattle.world.proofs.Serving.{every_service}
+
+-- prefixes
+prefix_on : {X : Type 0} (xs ys zs : List X) → IsPrefix xs ys → IsPrefix ys zs → IsPrefix xs zs
+prefix_on {X} xs ys zs a b = (a.0 ++ b.0, sym (append_assoc xs a.0 b.0) ∙ (ap (λ (q : List X). q ++ b.0) a.1 ∙ b.1))
+
+concat_prefix : (xs ys : List (List ℕ)) → IsPrefix xs ys → IsPrefix (concat xs) (concat ys)
+concat_prefix xs ys p = (concat p.0, sym (concat_append xs p.0) ∙ ap concat p.1)
+
+-- of two fronts of one list one is a front of the other
+shorter : {X : Type 0} (xs ys ps qs : List X) → xs ++ ps ≡ ys ++ qs → AreComparable xs ys
+shorter [] ys ps qs e = inl (ys, refl)
+shorter (x ∷ xs) [] ps qs e = inr (x ∷ xs, refl)
+shorter {X} (x ∷ xs) (y ∷ ys) ps qs e =
+    let first : x ≡ y = cc in
+    let rest : xs ++ ps ≡ ys ++ qs = cc in
+    ⊎_elim
+    (λ (p : IsPrefix xs ys). inl (p.0, ap (λ z. z ∷ (xs ++ p.0)) first ∙ ap (λ (zs : List X). y ∷ zs) p.1))
+    (λ (p : IsPrefix ys xs). inr (p.0, ap (λ z. z ∷ (ys ++ p.0)) (sym first) ∙ ap (λ (zs : List X). x ∷ zs) p.1))
+    (shorter xs ys ps qs rest)
+
+-- the longer of two comparable lists
+common : {X : Type 0} (xs ys : List X) → AreComparable xs ys → (zs : List X) × IsPrefix xs zs × IsPrefix ys zs
+common {X} xs ys h = ⊎_elim (λ (p : IsPrefix xs ys). (ys, p, ([], append-nil ys))) (λ (p : IsPrefix ys xs). (xs, ([], append-nil xs), p)) h
+
+same_bytes : (accounts accounts2 : List Account) (limits limits2 : Limits) (stamp stamp2 : Stamp) → accounts ≡ accounts2 → limits ≡ limits2 → stamp ≡ stamp2 →
+    (f : List Account → Limits → Stamp → List ℕ) → f accounts limits stamp ≡ f accounts2 limits2 stamp2
+same_bytes accounts accounts2 limits limits2 stamp stamp2 a l s f =
+    ap (λ x. f x limits stamp) a ∙ ap (λ x. f accounts2 x stamp) l ∙ ap (λ x. f accounts2 limits2 x) s
+
+module _ {A : Type 0} where
+  -- the answers that a client took are those of the lone server
+  own_answers : (cfg : Config A) (order : List (ℕ × Command A)) (user : List ℕ) (answers : List (Answer A)) → AreOwn cfg order user answers →
+      answers_for (first_maildrop (opening_of cfg) user) (own_of user order) (tickets_in answers) ≡ answers
+  own_answers cfg order user [] h = refl
+  own_answers cfg order user (a ∷ answers) h =
+      ap (λ found. answer_before a.ticket found (answers_for (first_maildrop (opening_of cfg) user) (own_of user order) (tickets_in answers))) h.0
+      ∙ ap (λ rest. a ∷ rest) (own_answers cfg order user answers h.1)
+
+  module _ (cfg : Config A) (w : Service A) (log : NodeLog A) (c : Client A) (s : IsServed cfg (decided cfg w) log c) where
+    -- the conversation of its lines and of the answers that it took
+    talked : conversation cfg.accounts c.stamp c.lines s.talk.answers ≡ record { replies = s.talk.replies; asked = s.talk.asked; state = s.talk.state }
+    talked = ap (λ lines. conversation cfg.accounts c.stamp lines s.talk.answers) (sym s.lines) ∙ talk_conversation cfg.accounts c.stamp s.talk s.is
+
+    pub projected : IsProjected cfg w c
+    projected user lines tickets own its l t o =
+        let maildrop = first_maildrop (opening_of cfg) user in
+        let asks : AreFor user s.talk.asked = subst (AreFor user) (ap (λ q. q.asked) talked) (its s.talk.answers) in
+        let answers = own_answers cfg (decided cfg w) user s.talk.answers (s.own user asks) in
+        let first = prefix_on (tickets_in s.talk.answers) c.tickets tickets (tickets_front cfg (decided cfg w) log c s) t in
+        let same : replies_alone cfg.accounts c.stamp maildrop c.lines (tickets_in s.talk.answers) (own_commands cfg w user) ≡ s.talk.replies =
+        ap (λ (taken : List (Answer A)). (conversation cfg.accounts c.stamp c.lines taken).replies) answers ∙ ap (λ q. q.replies) talked in
+        let longer : IsPrefix (replies_alone cfg.accounts c.stamp maildrop c.lines (tickets_in s.talk.answers) (own_commands cfg w user)) (replies_alone cfg.accounts c.stamp maildrop lines tickets own) =
+        subst (λ ls. IsPrefix (replies_alone cfg.accounts c.stamp maildrop c.lines (tickets_in s.talk.answers) (own_commands cfg w user)) (replies_alone cfg.accounts c.stamp maildrop ls tickets own)) l.1
+        (subst (λ ts. IsPrefix (replies_alone cfg.accounts c.stamp maildrop c.lines (tickets_in s.talk.answers) (own_commands cfg w user)) (replies_alone cfg.accounts c.stamp maildrop (c.lines ++ l.0) ts own)) first.1
+        (subst (λ cs. IsPrefix (replies_alone cfg.accounts c.stamp maildrop c.lines (tickets_in s.talk.answers) (own_commands cfg w user)) (replies_alone cfg.accounts c.stamp maildrop (c.lines ++ l.0) (tickets_in s.talk.answers ++ first.0) cs)) o.1
+        (replies_longer cfg.accounts c.stamp maildrop c.lines l.0 (tickets_in s.talk.answers) first.0 (own_commands cfg w user) o.0))) in
+        subst (λ bytes. IsPrefix bytes (alone_bytes cfg c user lines tickets own)) (ap concat same ∙ sym s.replies)
+        (concat_prefix (replies_alone cfg.accounts c.stamp maildrop c.lines (tickets_in s.talk.answers) (own_commands cfg w user)) (replies_alone cfg.accounts c.stamp maildrop lines tickets own) longer)
+
+    pub has_tickets : log_of c.node w.network.logs ≡ Some log → HasTickets cfg w c
+    has_tickets at = record {
+      log = log;
+      its_node = at;
+      answers = s.talk.answers;
+      submitted = subst (λ asked. AreSubmitted log asked c.tickets) (sym (ap (λ q. q.asked) talked)) s.submitted;
+    }
+
+  pub every_projected : (cfg : Config A) (happenings : List (Happening A)) (session : ℕ) (c : Client A) → client_of session (run_of cfg happenings).clients ≡ Some c → IsProjected cfg (run_of cfg happenings) c
+  every_projected cfg happenings session c at = let x = (every_service cfg happenings).clients session c at in projected cfg (run_of cfg happenings) x.0 c x.2
+
+  pub every_ticket : (cfg : Config A) (happenings : List (Happening A)) (session : ℕ) (c : Client A) → client_of session (run_of cfg happenings).clients ≡ Some c → HasTickets cfg (run_of cfg happenings) c
+  every_ticket cfg happenings session c at = let x = (every_service cfg happenings).clients session c at in has_tickets cfg (run_of cfg happenings) x.0 c x.2 x.1
+
+  -- two services
+  pub comparable : (cfg cfg2 : Config A) (w w2 : Service A) (c c2 : Client A) (user : List ℕ) → IsProjected cfg w c → IsProjected cfg2 w2 c2 → Agree cfg cfg2 w w2 c c2 user → AreComparable c.replies c2.replies
+  comparable cfg cfg2 w w2 c c2 user h h2 a =
+      let lines = common c.lines c2.lines a.lines in
+      let tickets = common c.tickets c2.tickets a.tickets in
+      let own = common (own_commands cfg w user) (own_commands cfg2 w2 user) a.commands in
+      let one = h user lines.0 tickets.0 own.0 a.its_user lines.1 tickets.1 own.1 in
+      let two = h2 user lines.0 tickets.0 own.0 a.same_user lines.2 tickets.2 own.2 in
+      let same : alone_bytes cfg c user lines.0 tickets.0 own.0 ≡ alone_bytes cfg2 c2 user lines.0 tickets.0 own.0 =
+      same_bytes cfg.accounts cfg2.accounts cfg.limits cfg2.limits c.stamp c2.stamp a.accounts a.limits a.greetings
+      (λ accounts limits stamp. alone_bytes (record { accounts = accounts; limits = limits; cluster = cfg.cluster; window = cfg.window }) (record c { stamp = stamp }) user lines.0 tickets.0 own.0) in
+      shorter c.replies c2.replies one.0 two.0 (one.1 ∙ same ∙ sym two.1)
+
+  pub comparable_runs : (cfg cfg2 : Config A) (happenings happenings2 : List (Happening A)) (session session2 : ℕ) (c c2 : Client A) (user : List ℕ) →
+      client_of session (run_of cfg happenings).clients ≡ Some c → client_of session2 (run_of cfg2 happenings2).clients ≡ Some c2 →
+      Agree cfg cfg2 (run_of cfg happenings) (run_of cfg2 happenings2) c c2 user → AreComparable c.replies c2.replies
+  comparable_runs cfg cfg2 happenings happenings2 session session2 c c2 user at at2 a =
+      comparable cfg cfg2 (run_of cfg happenings) (run_of cfg2 happenings2) c c2 user (every_projected cfg happenings session c at) (every_projected cfg2 happenings2 session2 c2 at2) a
