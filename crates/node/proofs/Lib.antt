@@ -1,6 +1,9 @@
 pub mod Replaying
 pub mod Orders
 pub mod Alike
+pub mod Giving
 pub mod Kept
 pub mod Views
 pub mod Held
+pub mod Taking
+pub mod Steps

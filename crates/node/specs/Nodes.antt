@@ -1,21 +1,23 @@
 -- What contracts see of a node, and what its type keeps.
-use Rattle.std.specs.Prelude.{◌≡◌, ℕ, ◌==◌, List, [], ◌∷◌, ◌++◌, map, Bool, false, Option, Some, None}
+use Rattle.std.specs.Prelude.{◌≡◌, ℕ, ◌+◌, nat_le, List, [], ◌∷◌, ◌++◌, map, Bool, false, ◌&&◌, Option, Some, None}
 use Rattle.std.specs.List.{list_any}
 use Rattle.std.specs.Map.{lookup}
 use Rattle.std.specs.BTreeMap.{is_at}
+use Rattle.ballot.specs.Nodes.{in_cluster}
 use Rattle.maildrop.specs.CommandId.{CommandId, compare_ids}
 use Rattle.maildrop.specs.declared.outcome.Outcome.{Outcome}
 use Rattle.replica.specs.Replicas.{answer_for, taken}
 use Rattle.maildrop.specs.Office.{new_user}
 use Rattle.replica.specs.Taken as replica
-use Rattle.node.specs.Replay.{NodeState, mail_rules, replayed, submits_of, is_crash}
-use Rattle.node.specs.Tickets.{tickets_of}
+use Rattle.node.specs.Replay.{NodeState, mail_rules, replayed, counts, submits_of, is_crash}
+use Rattle.node.specs.Tickets.{tickets_of, has_all_tickets}
 use Rattle.node.specs.declared.input.Input.{Input}
 use Rattle.node.specs.declared.input.Input.TheVariants.{Submit, Crash}
 use Rattle.node.specs.declared.log.NodeLog.{NodeLog}
 use Rattle.node.specs.declared.log.Opening.{Opening}
 use Rattle.node.specs.declared.stopped.Stopped.{Stopped}
 use Rattle.node.specs.declared.stopped.Stopped.TheVariants.{Crashed, Memory}
+use Rattle.node.specs.declared.node.TheConstants.{WIDEST_WINDOW}
 
 -- the identities of commands that were submitted here and whose answers weren't taken, each with its answer once it is there
 abbrev pub Awaited : Type 0 → Type 0
@@ -32,11 +34,15 @@ abbrev pub IsKnown : Option Stopped → Type 0
 IsKnown (Some Memory) = ⊥
 IsKnown _ = Unit {0}
 
--- the highest number of a ticket
-abbrev pub LAST_TICKET : ℕ
-LAST_TICKET = 18446744073709551615
+-- whether a node can begin so: it is one of the cluster, and proposes for 1 to 1,000 slots
+abbrev pub can_begin : ℕ → ℕ → ℕ → Bool
+can_begin me cluster window = in_cluster cluster me && nat_le 1 window && nat_le window WIDEST_WINDOW
 
 module _ {A : Type 0} where
+  -- a node that has taken no input
+  abbrev pub opened : Opening A → NodeValue A
+  opened opening = record { log = record { opening = opening; inputs = [] }; stopped = None; awaited = [] }
+
   abbrev pub logged : NodeLog A → Input A → NodeLog A
   logged log i = record { opening = log.opening; inputs = log.inputs ++ i ∷ [] }
 
@@ -47,7 +53,7 @@ module _ {A : Type 0} where
 
   -- whether the input is for a user who has got the last ticket
   abbrev pub no_ticket_for : NodeLog A → Input A → Bool
-  no_ticket_for log (Submit name op) = submits_of name log.inputs == LAST_TICKET
+  no_ticket_for log (Submit name op) = has_all_tickets (submits_of name log.inputs)
   no_ticket_for log _ = false
 
   abbrev pub awaited_for : CommandId → Awaited A → Option (Option (Outcome A))
@@ -84,12 +90,20 @@ module _ {A : Type 0} where
     pub leader : m.leader ≡ n.leader
     pub replica : replica.IsButTaken mail_rules (map (new_user opening.limits) opening.names) m.replica n.replica
 
+  -- each user has got as many tickets as there are operations for the user among the inputs
+  abbrev pub AreGiven : List (Input A) → List (List ℕ × ℕ) → Type 0
+  AreGiven inputs given = (name : List ℕ) → tickets_of name given ≡ submits_of name inputs
+
+  -- an input gives its user one ticket more, if it is an operation
+  abbrev pub ArePassed : Input A → (before after : List (List ℕ × ℕ)) → Type 0
+  ArePassed i before after = (name : List ℕ) → tickets_of name after ≡ counts name i + tickets_of name before
+
   -- the roles are those to which the log leads, and each user has got as many tickets as the log says
   pub record IsCurrent (log : NodeLog A) (roles : Option (NodeState A)) (given : List (List ℕ × ℕ)) : Type 0 where
     pub node : NodeState A
     pub works : roles ≡ Some node
     pub replay : IsButTaken log.opening node (replayed log)
-    pub tickets : (name : List ℕ) → tickets_of name given ≡ submits_of name log.inputs
+    pub tickets : AreGiven log.inputs given
 
   -- the last input is a crash, and no other is
   abbrev pub EndsInCrash : List (Input A) → Type 0
@@ -97,6 +111,6 @@ module _ {A : Type 0} where
 
   -- what holds of a node between steps; it has crashed where its log ends in a crash
   abbrev pub IsKept : NodeLog A → Option (NodeState A) → List (List ℕ × ℕ) → Option Stopped → Type 0
-  IsKept log roles given (Some Memory) = Unit {0}
+  IsKept log roles given (Some Memory) = list_any is_crash log.inputs ≡ false
   IsKept log roles given (Some Crashed) = IsCurrent log roles given × EndsInCrash log.inputs
   IsKept log roles given _ = IsCurrent log roles given × (list_any is_crash log.inputs ≡ false)

@@ -1,6 +1,8 @@
 //! What a node is given to do.
 ghost use Rattle.std.specs.Prelude.{◌≡◌, IfOk};
+ghost use Rattle.node.specs.Nodes.{stops_after};
 
+use crate::stopped::Stopped;
 use ballot::{Envelope, Memory};
 use maildrop::{Command, Name, Op};
 use std::alloc::{Allocator, Global};
@@ -32,5 +34,15 @@ impl<A: Allocator + Copy> Input<A> {
             Input::Campaign => Input::Campaign,
             Input::Crash => Input::Crash,
         })
+    }
+
+    /// Why a node stops after it.
+    pub(crate) fn stops(&self) -> Option<Stopped>
+        ensures { result ≡ stops_after self.now }
+    {
+        match self {
+            Input::Crash => Some(Stopped::Crashed),
+            _ => None,
+        }
     }
 }

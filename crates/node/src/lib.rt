@@ -1,15 +1,18 @@
-//! One node of the service: an acceptor, a leader and a replica over the maildrops of all users. Here are the inputs of a
-//! node, its log, and the definition of what a log leads to.
+//! One node of the service: an acceptor, a leader and a replica over the maildrops of all users. It takes one input in one
+//! step, and all that it is follows from the inputs that it took: its log.
 #![tactic(auto)]
 
 mod input;
 mod log;
+mod node;
 mod outputs;
 mod roles;
+mod step;
 mod stopped;
 mod tickets;
 
 pub use input::Input;
 pub use log::{NodeLog, Opening};
+pub use node::{Node, WIDEST_WINDOW};
 pub use outputs::{Envelopes, Outputs};
 pub use stopped::Stopped;

@@ -1,8 +1,7 @@
 //! The tickets that a node gives.
-ghost use Rattle.std.specs.Prelude.{◌≡◌, ℕ, ◌+◌, List, OnOk, OnErr, IfOk, IfErr, Err, if◌then◌else◌};
+ghost use Rattle.std.specs.Prelude.{◌≡◌, true, ℕ, ◌+◌, List, OnOk, OnErr, IfOk, IfErr, Err, if◌then◌else◌};
 ghost use Rattle.std.specs.Str.{bytes_eq};
-ghost use Rattle.node.specs.Nodes.{LAST_TICKET};
-ghost use Rattle.node.specs.Tickets.{tickets_of};
+ghost use Rattle.node.specs.Tickets.{tickets_of, has_all_tickets, CanStop};
 ghost use Rattle.node.specs.declared.stopped.Stopped.TheVariants.{TicketsUsed};
 
 use crate::stopped::Stopped;
@@ -23,8 +22,8 @@ pub(crate) fn next_ticket<A: Allocator + Copy>(
 ) -> Result<Ticket, Stopped>
     ensures ticket { IfOk result (λ ticket. ticket ≡ record { node = me; seq = 1 + tickets_of user given.old.entries }) }
     ensures given { OnOk result ((name : List ℕ) → tickets_of name given.new.entries ≡ (if bytes_eq user name then 1 else 0) + tickets_of name given.old.entries) }
-    ensures used { tickets_of user given.old.entries ≡ LAST_TICKET → result ≡ Err TicketsUsed }
-    ensures left { IfErr result (λ stopped. stopped ≡ TicketsUsed → tickets_of user given.old.entries ≡ LAST_TICKET) }
+    ensures used { has_all_tickets (tickets_of user given.old.entries) ≡ true → result ≡ Err TicketsUsed }
+    ensures cause { IfErr result (λ stop. CanStop (has_all_tickets (tickets_of user given.old.entries)) stop) }
     ensures err { OnErr result (given.new.entries ≡ given.old.entries) }
 {
     let last = given.get(&user).copied().unwrap_or(0);

@@ -1,0 +1,25 @@
+use Rattle.std.proofs.Common.{◌∙◌, ap, Some}
+use Rattle.maildrop.specs.declared.command.Command.{Command}
+use Rattle.node.specs.Replay.{submits}
+use Rattle.node.specs.Tickets.{has_all_tickets}
+use Rattle.node.proofs.Views.{moved_to}
+use Rattle.node.proofs.Giving.{ticket_is, command_is}
+use Rattle.node.proofs.step.submit.Goals as goal
+
+pub returns-clause-node : goal.returns-clause-node
+returns-clause-node g c n is =
+    moved_to _ _ _ n is c.in_ok-sends.ensures.node
+    ∙ ap (λ (d : Command g.row.A.Denot). Some (submits n d).node)
+    (command_is c.args.log.now c.args.given.now.entries c.args.user c.in_ok-ticket.ticket c.args.op.now c.in_ok-op.op c.requires c.in_ok-ticket.ensures.ticket c.in_ok-op.ensures.value)
+
+pub returns-clause-sends : goal.returns-clause-sends
+returns-clause-sends g c n is =
+    c.in_ok-sends.ensures.sends n is
+    ∙ ap (λ (d : Command g.row.A.Denot). (submits n d).sends)
+    (command_is c.args.log.now c.args.given.now.entries c.args.user c.in_ok-ticket.ticket c.args.op.now c.in_ok-op.op c.requires c.in_ok-ticket.ensures.ticket c.in_ok-op.ensures.value)
+
+pub returns-clause-ticket : goal.returns-clause-ticket
+returns-clause-ticket g c = ap (λ t. Some t) (ticket_is c.args.log.now c.args.given.now.entries c.args.user c.in_ok-ticket.ticket c.requires c.in_ok-ticket.ensures.ticket)
+
+pub returns-clause-used : goal.returns-clause-used
+returns-clause-used g c used = absurd (cc (c.in_ok-ticket.ensures.used (ap has_all_tickets (c.requires c.args.user) ∙ used)))

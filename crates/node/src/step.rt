@@ -1,0 +1,109 @@
+//! One step of a node that runs.
+ghost use Rattle.std.specs.Prelude.{◌≡◌, true, Some, Err, IfOk, OnOk, IfErr, OnErr};
+ghost use Rattle.node.specs.Replay.{NodeState, acts, submits, command_for, ticket_of};
+ghost use Rattle.node.specs.Replay as spec;
+ghost use Rattle.node.specs.Nodes.{AreGiven, ArePassed, logged, no_ticket_for};
+ghost use Rattle.node.specs.Tickets.{CanStop};
+ghost use Rattle.node.specs.declared.input.Input.TheVariants.{Submit};
+ghost use Rattle.node.specs.declared.stopped.Stopped.TheVariants.{TicketsUsed};
+
+use crate::input::Input;
+use crate::log::NodeLog;
+use crate::outputs::{Outputs, sent_from};
+use crate::roles::Roles;
+use crate::stopped::Stopped;
+use crate::tickets::{Given, next_ticket};
+use ballot::{Items, Sends};
+use maildrop::{Command, Name, Op, Ticket};
+use std::alloc::{Allocator, Global};
+
+/// What an input brings: messages, and after a `Submit` the ticket of its command.
+#[derive(Drop)]
+struct Acted<A: Allocator = Global> {
+    sends: Sends<Command<A>, A>,
+    ticket: Option<Ticket>,
+}
+
+/// Gives a command for the user its ticket, and has it requested.
+fn submit<A: Allocator + Copy>(
+    log: &NodeLog<A>,
+    roles: &mut Roles<A>,
+    given: &mut Given<A>,
+    user: Name,
+    op: &Op<A>,
+) -> Result<Acted<A>, Stopped>
+    requires { AreGiven log.now.inputs given.old.entries }
+    ensures node { (n : NodeState A) → roles.old ≡ Some n → OnOk result (roles.new ≡ Some ((submits n (command_for log.now.opening.me user op.now log.now.inputs)).node)) }
+    ensures sends { (n : NodeState A) → roles.old ≡ Some n → IfOk result (λ acted. acted.sends ≡ (submits n (command_for log.now.opening.me user op.now log.now.inputs)).sends) }
+    ensures ticket { IfOk result (λ acted. acted.ticket ≡ ticket_of log.now (Submit user op.now)) }
+    ensures given { OnOk result (ArePassed (Submit user op.now) given.old.entries given.new.entries) }
+    ensures used { no_ticket_for log.now (Submit user op.now) ≡ true → result ≡ Err TicketsUsed }
+    ensures cause { IfErr result (λ stop. CanStop (no_ticket_for log.now (Submit user op.now)) stop) }
+    ensures unchanged { IfErr result (λ stop. stop ≡ TicketsUsed → (roles.new ≡ roles.old) × (given.new.entries ≡ given.old.entries)) }
+{
+    let ticket = next_ticket(log.opening.me, given, user)?;
+    let op = op.copy()?;
+    let sends = roles.request(Command { user, ticket, op })?;
+    Ok(Acted {
+        sends,
+        ticket: Some(ticket),
+    })
+}
+
+/// What an input makes of the roles, and what it brings.
+fn act<A: Allocator + Copy>(
+    alloc: A,
+    log: &NodeLog<A>,
+    roles: &mut Roles<A>,
+    given: &mut Given<A>,
+    input: &Input<A>,
+) -> Result<Acted<A>, Stopped>
+    requires { AreGiven log.now.inputs given.old.entries }
+    ensures node { (n : NodeState A) → roles.old ≡ Some n → OnOk result (roles.new ≡ Some ((acts log.now.opening.me log.now.inputs n input.now).node)) }
+    ensures sends { (n : NodeState A) → roles.old ≡ Some n → IfOk result (λ acted. acted.sends ≡ (acts log.now.opening.me log.now.inputs n input.now).sends) }
+    ensures ticket { IfOk result (λ acted. acted.ticket ≡ ticket_of log.now input.now) }
+    ensures given { OnOk result (ArePassed input.now given.old.entries given.new.entries) }
+    ensures used { no_ticket_for log.now input.now ≡ true → result ≡ Err TicketsUsed }
+    ensures cause { IfErr result (λ stop. CanStop (no_ticket_for log.now input.now) stop) }
+    ensures unchanged { IfErr result (λ stop. stop ≡ TicketsUsed → (roles.new ≡ roles.old) × (given.new.entries ≡ given.old.entries)) }
+{
+    let sends = match input {
+        Input::Submit(user, op) => return submit(log, roles, given, *user, op),
+        Input::Arrive(envelope) => roles.arrive(log.opening.me, envelope.copy()?)?,
+        Input::Tick => roles.tick()?,
+        Input::Campaign => roles.campaign()?,
+        Input::Crash => Items::new(alloc),
+    };
+    Ok(Acted {
+        sends,
+        ticket: None,
+    })
+}
+
+/// Takes an input: the log has it last. After an error the log is as it was, and after `TicketsUsed` all is.
+pub(crate) fn take<A: Allocator + Copy>(
+    alloc: A,
+    log: &mut NodeLog<A>,
+    roles: &mut Roles<A>,
+    given: &mut Given<A>,
+    input: Input<A>,
+) -> Result<Outputs<A>, Stopped>
+    requires { AreGiven log.old.inputs given.old.entries }
+    ensures log { OnOk result (log.new ≡ logged log.old input) }
+    ensures node { (n : NodeState A) → roles.old ≡ Some n → OnOk result (roles.new ≡ Some ((acts log.old.opening.me log.old.inputs n input).node)) }
+    ensures sends { (n : NodeState A) → roles.old ≡ Some n → IfOk result (λ outputs. outputs.sends ≡ spec.sent_from log.old.opening.me (acts log.old.opening.me log.old.inputs n input).sends) }
+    ensures ticket { IfOk result (λ outputs. outputs.ticket ≡ ticket_of log.old input) }
+    ensures given { OnOk result (ArePassed input given.old.entries given.new.entries) }
+    ensures err { OnErr result (log.new ≡ log.old) }
+    ensures used { no_ticket_for log.old input ≡ true → result ≡ Err TicketsUsed }
+    ensures cause { IfErr result (λ stop. CanStop (no_ticket_for log.old input) stop) }
+    ensures unchanged { IfErr result (λ stop. stop ≡ TicketsUsed → (roles.new ≡ roles.old) × (given.new.entries ≡ given.old.entries)) }
+{
+    let acted = act(alloc, log, roles, given, &input)?;
+    let sends = sent_from(alloc, log.opening.me, acted.sends)?;
+    log.inputs.push(input)?;
+    Ok(Outputs {
+        sends,
+        ticket: acted.ticket,
+    })
+}
