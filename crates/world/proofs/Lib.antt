@@ -24,3 +24,4 @@ pub mod Serving
 pub mod Projected
 pub mod OneUser
 pub mod Unchanged
+pub mod Reached

@@ -85,6 +85,8 @@ module _ {A : Type 0} where
       log = log;
       its_node = at;
       answers = s.talk.answers;
+      answered = tickets_front cfg (decided cfg w) log c s;
+      replied = s.replies ∙ sym (ap (λ q. concat q.replies) talked);
       submitted = subst (λ asked. AreSubmitted log asked c.tickets) (sym (ap (λ q. q.asked) talked)) s.submitted;
     }
 

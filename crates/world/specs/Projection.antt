@@ -1,5 +1,5 @@
 -- What the sessions of a service are told, beside what a server tells them that has their user's maildrop alone.
-use Rattle.std.specs.Prelude.{◌≡◌, ℕ, List, [], ◌∷◌, true, Some, is_some, ⊤}
+use Rattle.std.specs.Prelude.{◌≡◌, ℕ, List, [], ◌∷◌, map, true, Some, is_some, ⊤}
 use Rattle.std.specs.List.{concat}
 use mathlib.Core.Logic.{◌⊎◌}
 use Rattle.maildrop.specs.Ticket.{Ticket}
@@ -79,9 +79,12 @@ module _ {A : Type 0} where
   AreSubmitted log (request ∷ requests) (ticket ∷ tickets) =
       IsSubmitIn log (record { user = request.user; ticket = ticket; op = request.op }) × AreSubmitted log requests tickets
 
-  -- the tickets of a client are those of what its lines ask for, where they were answered so
+  -- With the answers that the client took, its replies are those of the conversation, and its tickets those of what that
+  -- asks. The answers are to the first of its tickets.
   pub record HasTickets (cfg : Config A) (w : Service A) (c : Client A) : Type 0 where
     pub log : NodeLog A
     pub its_node : log_of c.node w.network.logs ≡ Some log
     pub answers : List (Answer A)
+    pub answered : IsPrefix (map (λ answer. answer.ticket) answers) c.tickets
+    pub replied : c.replies ≡ concat (conversation cfg.accounts c.stamp c.lines answers).replies
     pub submitted : AreSubmitted log (asked_by cfg c answers) c.tickets

@@ -1,5 +1,6 @@
--- What contracts see of a world: a service in a run, and what its caller may take of it.
-use Rattle.std.specs.Prelude.{ℕ, zero, suc, ◌+◌, ◌==◌, ◌&&◌, nat_lt, Bool, true, false, List, [], ◌∷◌, ◌++◌, drop, find, map, position, Option, Some, None, is_some, option_map, if◌then◌else◌}
+-- What contracts see of a world: a service, and what its caller may take of it. A node that has found no memory is seen as
+-- one that has crashed.
+use Rattle.std.specs.Prelude.{◌≡◌, ℕ, zero, suc, ◌+◌, ◌==◌, ◌&&◌, nat_lt, Bool, true, false, List, [], ◌∷◌, ◌++◌, drop, find, map, position, Option, Some, None, is_some, option_map, if◌then◌else◌}
 use Rattle.std.specs.Option.{option_or}
 use Rattle.std.specs.Map.{lookup}
 use Rattle.maildrop.specs.CommandId.{CommandId, same_id}
@@ -11,7 +12,7 @@ use Rattle.node.specs.Replay.{replayed, submits_of}
 use Rattle.node.specs.declared.log.NodeLog.{NodeLog}
 use Rattle.world.specs.Clients.{Standing, Waits, Client}
 use Rattle.world.specs.Messages.{log_of, is_up}
-use Rattle.world.specs.Services.{Service, next_id, new_service, occurs}
+use Rattle.world.specs.Services.{Service, Happening, next_id, new_service, occurs, run_of}
 use Rattle.world.specs.declared.config.Config.{Config}
 use Rattle.world.specs.declared.event.Event.{Event}
 use Rattle.world.specs.declared.event.Event.TheVariants as event
@@ -38,6 +39,10 @@ abbrev pub with_taken : CommandId → List (CommandId × Bool) → List (Command
 with_taken id operations = map (λ e. (e.0, if same_id id e.0 then true else e.1)) operations
 
 module _ {A : Type 0} where
+  -- some run leads to the service
+  abbrev pub IsReached : Config A → Service A → Type 0
+  IsReached cfg w = (happenings : List (Happening A)) × (run_of cfg happenings ≡ w)
+
   abbrev pub new_world : Config A → World A
   new_world cfg = record { config = cfg; service = new_service cfg; operations = [] }
 
