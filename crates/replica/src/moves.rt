@@ -8,6 +8,7 @@ use crate::proposing::propose_all;
 use crate::state::State;
 use ballot::{Items, Machine, Memory, Sends, Slot};
 use std::alloc::Allocator;
+use std::cmp::Ordering;
 
 /// A command is requested: its answer is awaited, and it is proposed once the window allows it.
 pub fn request<M: Machine, A: Allocator + Copy>(
@@ -54,9 +55,15 @@ pub fn decide<M: Machine, A: Allocator + Copy>(
     propose_all(state)
 }
 
-/// Whether the slot has a decision.
+/// Whether the slot has a decision. Every slot below `slot_out` has one and `slot_out` has none, so a decision that
+/// comes in order is not looked up.
 fn has_decision<M: Machine, A: Allocator + Copy>(state: &State<M, A>, slot: Slot) -> bool
+    requires { IsSettled (rules_of M.Command.identity M.Command.Id.cmp M.answer_to M.after) state.now }
     ensures { result ≡ is_decided slot state.now.decisions }
 {
-    state.decisions.contains_key(&slot)
+    match slot.get().cmp(&state.slot_out) {
+        Ordering::Less => true,
+        Ordering::Equal => false,
+        Ordering::Greater => state.decisions.contains_key(&slot),
+    }
 }

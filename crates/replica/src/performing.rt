@@ -1,24 +1,22 @@
 //! Performing what is decided.
-ghost use Rattle.std.specs.Prelude.{◌≡◌, Some, length, OnOk};
-ghost use Rattle.replica.specs.Replicas.{rules_of, at_slot, gives_way, performs, performs_slots, with_decision};
+ghost use Rattle.std.specs.Prelude.{◌≡◌, Some, false, length, OnOk};
+ghost use Rattle.replica.specs.Replicas.{rules_of, at_slot, is_decided, gives_way, performs, performs_slots, with_decision};
 
 use crate::awaiting::answer;
 use crate::state::State;
 use ballot::{LAST_SLOT, Machine, Memory, Payload, Slot};
 use std::alloc::Allocator;
 
-/// Keeps a decision for a slot, unless it has one.
+/// Keeps a decision for a slot that has none.
 pub fn keep<M: Machine, A: Allocator + Copy>(
     state: &mut State<M, A>,
     slot: Slot,
     command: M::Command,
 ) -> Result<(), Memory>
+    requires { is_decided slot state.old.decisions ≡ false }
     ensures { OnOk result (state.new ≡ with_decision slot command state.old) }
 {
     prove!(slot.get() <= LAST_SLOT);
-    if state.decisions.contains_key(&slot) {
-        return Ok(());
-    }
     let _ = state.decisions.insert(slot, command)?;
     Ok(())
 }

@@ -45,13 +45,13 @@ fn propose_next<M: Machine, A: Allocator + Copy>(
     ensures sends { OnOk result (sends.new ≡ sends.old ++ (proposes_next state.old.requests state.old).sends) }
     ensures proposes { IfOk result (λ one. one ≡ can_propose state.old.requests state.old) }
 {
+    if state.requests.is_empty() {
+        return Ok(false);
+    }
     let Some(slot) = open_slot(state.slot_in, state.slot_out, state.window) else {
         return Ok(false);
     };
     if state.decisions.contains_key(&slot) {
-        if state.requests.is_empty() {
-            return Ok(false);
-        }
         state.slot_in = slot.get() + 1;
         return Ok(true);
     }
