@@ -21,6 +21,7 @@ pub mod OwnOutcomes
 pub mod ServiceRuns
 pub mod Sessions
 pub mod Serving
+pub mod Once
 pub mod Projected
 pub mod OneUser
 pub mod Unchanged

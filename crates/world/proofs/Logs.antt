@@ -14,6 +14,9 @@ use Rattle.node.specs.declared.log.NodeLog.{NodeLog}
 use Rattle.world.specs.Messages.{log_of, newly_sent, with_arrival, new_logs, IsSubmitIn, WasSubmitted}
 use Rattle.world.specs.declared.sent.Sent.{Sent}
 
+pub some_same : {X : Type 0} (a b : X) → Some a ≡ Some b → a ≡ b
+some_same a b q = cc
+
 next_number : (a b : ℕ) → eqb (suc a) (suc b) ≡ eqb a b
 next_number a b =
     ⊎_elim
@@ -79,9 +82,6 @@ module _ {A : Type 0} where
       ))
       (λ (ne : c.ticket.node ≢ n). (h.0, log_other logs n log (logged log i) e c.ticket.node ne ∙ h.1, h.2))
       (cases_eq c.ticket.node n)
-    where
-      some_same : (a b : NodeLog A) → Some a ≡ Some b → a ≡ b
-      some_same a b q = cc
 
   -- the messages, without their arrivals
   pub in_sent : (ss : List (Sent A)) (k : ℕ) (s : Sent A) → slice_get ss k ≡ Some s → IsIn s.envelope (map (λ (x : Sent A). x.envelope) ss)

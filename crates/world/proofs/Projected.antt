@@ -15,11 +15,13 @@ use Rattle.session.proofs.Calls.{talk_conversation}
 use Rattle.session.proofs.Longer.{replies_longer}
 use Rattle.world.specs.Clients.{Client, client_of}
 use Rattle.world.specs.Messages.{log_of}
-use Rattle.world.specs.Projection.{AreComparable, decided, own_commands, alone_bytes, IsProjected, Agree, AreSubmitted, HasTickets}
+use Rattle.world.specs.Projection.{AreComparable, decided, own_commands, alone_bytes, IsProjected, Agree, asked_by, AreSubmitted, AreDecidedAsAsked, HasTickets}
 use Rattle.world.specs.Runs.{first_maildrop, own_of}
 use Rattle.world.specs.Services.{Service, Happening, opening_of, run_of}
 use Rattle.world.specs.declared.config.Config.{Config}
 use Rattle.world.proofs.Sessions.{concat_append, IsServed, AreOwn, tickets_in, tickets_front}
+use Rattle.world.proofs.Once.{as_asked}
+use Rattle.world.proofs.ServiceRuns.{AreOfRun}
 use Rattle.world.proofs.Serving.{every_service}
 
 -- prefixes
@@ -80,21 +82,26 @@ module _ {A : Type 0} where
         subst (λ bytes. IsPrefix bytes (alone_bytes cfg c user lines tickets own)) (ap concat same ∙ sym s.replies)
         (concat_prefix (replies_alone cfg.accounts c.stamp maildrop c.lines (tickets_in s.talk.answers) (own_commands cfg w user)) (replies_alone cfg.accounts c.stamp maildrop lines tickets own) longer)
 
-    pub has_tickets : log_of c.node w.network.logs ≡ Some log → HasTickets cfg w c
-    has_tickets at = record {
+    submitted : AreSubmitted log (asked_by cfg c s.talk.answers) c.tickets
+    submitted = subst (λ asked. AreSubmitted log asked c.tickets) (sym (ap (λ q. q.asked) talked)) s.submitted
+
+    pub has_tickets : AreOfRun cfg w → log_of c.node w.network.logs ≡ Some log → HasTickets cfg w c
+    has_tickets run at = record {
       log = log;
       its_node = at;
       answers = s.talk.answers;
       answered = tickets_front cfg (decided cfg w) log c s;
       replied = s.replies ∙ sym (ap (λ q. concat q.replies) talked);
-      submitted = subst (λ asked. AreSubmitted log asked c.tickets) (sym (ap (λ q. q.asked) talked)) s.submitted;
+      submitted = submitted;
+      decided_as_asked = subst (λ n. AreDecidedAsAsked (decided cfg (record { network = n; clients = [] })) (asked_by cfg c s.talk.answers) c.tickets) (sym run.1)
+          (as_asked (opening_of cfg) run.0 c.node log (ap (λ n. log_of c.node n.logs) (sym run.1) ∙ at) (asked_by cfg c s.talk.answers) c.tickets submitted);
     }
 
   pub every_projected : (cfg : Config A) (happenings : List (Happening A)) (session : ℕ) (c : Client A) → client_of session (run_of cfg happenings).clients ≡ Some c → IsProjected cfg (run_of cfg happenings) c
   every_projected cfg happenings session c at = let x = (every_service cfg happenings).clients session c at in projected cfg (run_of cfg happenings) x.0 c x.2
 
   pub every_ticket : (cfg : Config A) (happenings : List (Happening A)) (session : ℕ) (c : Client A) → client_of session (run_of cfg happenings).clients ≡ Some c → HasTickets cfg (run_of cfg happenings) c
-  every_ticket cfg happenings session c at = let x = (every_service cfg happenings).clients session c at in has_tickets cfg (run_of cfg happenings) x.0 c x.2 x.1
+  every_ticket cfg happenings session c at = let x = (every_service cfg happenings).clients session c at in has_tickets cfg (run_of cfg happenings) x.0 c x.2 (every_service cfg happenings).nodes x.1
 
   -- two services
   pub comparable : (cfg cfg2 : Config A) (w w2 : Service A) (c c2 : Client A) (user : List ℕ) → IsProjected cfg w c → IsProjected cfg2 w2 c2 → Agree cfg cfg2 w w2 c c2 user → AreComparable c.replies c2.replies

@@ -20,7 +20,7 @@ use Rattle.world.specs.declared.sent.Sent.{Sent}
 use Rattle.world.proofs.Chosen.{sent_by}
 use Rattle.world.proofs.Invariant.{put, Sound}
 use Rattle.world.proofs.NodeSteps.{AreKept, IsGiven, kept_step, kept_also, given_steps, roles_of}
-use Rattle.world.proofs.Logs.{log_set, log_same, log_other, new_log_of, submitted_more, in_sent, arrival_alike, envelopes_more}
+use Rattle.world.proofs.Logs.{some_same, log_set, log_same, log_other, new_log_of, submitted_more, in_sent, arrival_alike, envelopes_more}
 
 module _ {A : Type 0} where
   -- node n, as its log leads to it
@@ -35,9 +35,6 @@ module _ {A : Type 0} where
   pub record IsRun (first : Opening A) (w : Network A) : Type 0 where
     pub begins : (n : ℕ) (log : NodeLog A) → log_of n w.logs ≡ Some log → log.opening ≡ record first { me = n }
     pub kept : AreKept first.cluster (WasSubmitted w.logs) (nodes_of first w.logs) (envelopes w)
-
-  some_same : (a b : NodeLog A) → Some a ≡ Some b → a ≡ b
-  some_same a b q = cc
 
   -- what a node is given in a run
   abbrev IsFrom : Network A → Input A → Type 0

@@ -31,7 +31,7 @@ use Rattle.world.specs.declared.config.Config.{Config}
 use Rattle.world.specs.declared.event.Event.{Event}
 use Rattle.world.specs.declared.event.Event.TheVariants as event
 use Rattle.world.specs.declared.sent.Sent.{Sent}
-use Rattle.world.proofs.Logs.{log_set, log_same}
+use Rattle.world.proofs.Logs.{some_same, log_set, log_same}
 use Rattle.world.proofs.ServiceRuns.{AreOfRun, next_of_run, decided_grows, answer_is_own}
 use Rattle.world.proofs.Sessions.{IsServed, tickets_in, Stands, later_served, new_served, ended, without_served, line_says, line_closes, line_asks, answer_served}
 
@@ -53,9 +53,6 @@ module _ {A : Type 0} where
       one its f true q =
           let same : its ≡ log = some_same its log (sym f ∙ ap (λ k. log_of k w.logs) (sym (eqb-true n m q)) ∙ e) in
           (i ∷ [], ap (λ l. Some (logged l i)) same)
-        where
-          some_same : (a b : NodeLog A) → Some a ≡ Some b → a ≡ b
-          some_same a b q = cc
       one its f false q = logs_same w n log e
 
       up : (its : NodeLog A) → log_of m w.logs ≡ Some its → (t : Bool) → Logs (cond t (record { logs = set w.logs (m - 1) (logged its i); sent = w.sent ++ newly_sent (sends_of its i) }) w) n log
@@ -280,9 +277,6 @@ module _ {A : Type 0} where
           let h = all session c its in
           let same : h.0 ≡ log = some_same h.0 log (sym h.1 ∙ at) in
           fine c log at up (subst (λ l. IsServed cfg order l c) same h.2))
-        where
-          some_same : (a b : NodeLog A) → Some a ≡ Some b → a ≡ b
-          some_same a b q = cc
 
       occurs_fine : (e : Event A) → Fine (occurs cfg w e)
       occurs_fine (event.Connect session node stamp) = if_up_fine (log_of node w.network.logs) _ (λ log at up. connects_fine session node stamp log at (client_of session w.clients))

@@ -2,6 +2,7 @@
 use Rattle.std.specs.Prelude.{◌≡◌, ℕ, List, [], ◌∷◌, map, true, Some, is_some, ⊤}
 use Rattle.std.specs.List.{concat}
 use mathlib.Core.Logic.{◌⊎◌}
+use Rattle.ballot.specs.Lists.{IsIn}
 use Rattle.maildrop.specs.Ticket.{Ticket}
 use Rattle.maildrop.specs.declared.command.Command.{Command}
 use Rattle.apop.specs.Login.{account_named}
@@ -79,6 +80,13 @@ module _ {A : Type 0} where
   AreSubmitted log (request ∷ requests) (ticket ∷ tickets) =
       IsSubmitIn log (record { user = request.user; ticket = ticket; op = request.op }) × AreSubmitted log requests tickets
 
+  -- Each of these operations is decided as it was asked for: a decided command of its user with its ticket is it.
+  abbrev pub AreDecidedAsAsked : List (ℕ × Command A) → List (Request A) → List Ticket → Type 0
+  AreDecidedAsAsked order (request ∷ requests) (ticket ∷ tickets) =
+      ((slot : ℕ) (command : Command A) → IsIn (slot, command) order → command.user ≡ request.user → command.ticket ≡ ticket → command.op ≡ request.op)
+      × AreDecidedAsAsked order requests tickets
+  AreDecidedAsAsked order requests tickets = ⊤
+
   -- With the answers that the client took, its replies are those of the conversation, and its tickets those of what that
   -- asks. The answers are to the first of its tickets.
   pub record HasTickets (cfg : Config A) (w : Service A) (c : Client A) : Type 0 where
@@ -88,3 +96,4 @@ module _ {A : Type 0} where
     pub answered : IsPrefix (map (λ answer. answer.ticket) answers) c.tickets
     pub replied : c.replies ≡ concat (conversation cfg.accounts c.stamp c.lines answers).replies
     pub submitted : AreSubmitted log (asked_by cfg c answers) c.tickets
+    pub decided_as_asked : AreDecidedAsAsked (decided cfg w) (asked_by cfg c answers) c.tickets
