@@ -19,10 +19,12 @@ pub mod Theorems
 pub mod Outcomes
 pub mod OwnOutcomes
 pub mod ServiceRuns
+pub mod Fitting
 pub mod Sessions
 pub mod Serving
 pub mod Once
 pub mod Projected
 pub mod OneUser
 pub mod Unchanged
+pub mod Fit
 pub mod Reached

@@ -67,7 +67,7 @@ module _ {A : Type 0} where
 
   module _ (first : Opening A) (events : List (NodeEvent A)) (node : ℕ) (log : NodeLog A) (at : log_of node (network_of first events).logs ≡ Some log) where
     -- a decided command with the identity of a Submit of the node is that Submit's
-    one_as_asked : (c d : Command A) (slot : ℕ) → IsIn (slot, d) (order_of first events) → IsSubmitIn log c → d.user ≡ c.user → d.ticket ≡ c.ticket → d.op ≡ c.op
+    pub one_as_asked : (c d : Command A) (slot : ℕ) → IsIn (slot, d) (order_of first events) → IsSubmitIn log c → d.user ≡ c.user → d.ticket ≡ c.ticket → d.op ≡ c.op
     one_as_asked c d slot among h user ticket =
         let was = chosen_submitted first events slot d (order_chosen first events slot d among) in
         let me : log.opening.me ≡ node = ap (λ o. o.me) ((every_run first events).begins node log at) in

@@ -33,6 +33,7 @@ use Rattle.world.specs.Projection.{AreSubmitted}
 use Rattle.world.specs.Runs.{first_maildrop, own_of}
 use Rattle.world.specs.Services.{next_id, after_answer, by_turn, opening_of}
 use Rattle.world.specs.declared.config.Config.{Config}
+use Rattle.world.proofs.Fitting.{Fits, StepFits, line_fits}
 use Rattle.world.proofs.OwnOutcomes.{outcome_later}
 
 pub concat_append : (xs ys : List (List ℕ)) → concat (xs ++ ys) ≡ concat xs ++ concat ys
@@ -51,10 +52,18 @@ module _ {A : Type 0} where
   AreOwn cfg order user [] = ⊤
   AreOwn cfg order user (a ∷ answers) = (outcome_of (first_maildrop (opening_of cfg) user) a.ticket (own_of user order) ≡ Some a.outcome) × AreOwn cfg order user answers
 
+  -- the last that was asked for is for the user of this command, and its answer is awaited in this state
+  pub record AsksLast (talk : Talk A) (id : CommandId) (state : State A) : Type 0 where
+    pub before : List (Request A)
+    pub last : Request A
+    pub asked : talk.asked ≡ before ++ last ∷ []
+    pub user : last.user ≡ id.user
+    pub fits : Fits last.op state
+
   -- where the session of a client is, by how it stands
   abbrev pub Stands : Talk A → List Ticket → Standing A → Type 0
   Stands talk tickets (Hears state) = (talk.state ≡ state) × (hears state ≡ true) × (tickets_in talk.answers ≡ tickets)
-  Stands talk tickets (Waits state id) = (talk.state ≡ state) × (tickets_in talk.answers ++ id.ticket ∷ [] ≡ tickets) × ((user : List ℕ) → AreFor user talk.asked → id.user ≡ user)
+  Stands talk tickets (Waits state id) = (talk.state ≡ state) × (tickets_in talk.answers ++ id.ticket ∷ [] ≡ tickets) × ((user : List ℕ) → AreFor user talk.asked → id.user ≡ user) × AsksLast talk id state
   Stands talk tickets (Shut lock) = IsPrefix (tickets_in talk.answers) tickets
   Stands talk tickets Stranded = IsPrefix (tickets_in talk.answers) tickets
   Stands talk tickets Over = IsPrefix (tickets_in talk.answers) tickets
@@ -83,7 +92,7 @@ module _ {A : Type 0} where
   tickets_push [] a = refl
   tickets_push (x ∷ answers) a = ap (λ ts. x.ticket ∷ ts) (tickets_push answers a)
 
-  front_for : (user : List ℕ) (rs : List (Request A)) (r : Request A) → AreFor user (rs ++ r ∷ []) → AreFor user rs × (r.user ≡ user)
+  pub front_for : (user : List ℕ) (rs : List (Request A)) (r : Request A) → AreFor user (rs ++ r ∷ []) → AreFor user rs × (r.user ≡ user)
   front_for user [] r h = (tt, h.0)
   front_for user (x ∷ rs) r h = let rest = front_for user rs r h.1 in ((h.0, rest.0), rest.1)
 
@@ -233,7 +242,12 @@ module _ {A : Type 0} where
             lines = ap (λ ls. ls ++ line ∷ []) s.lines;
             replies = s.replies;
             own = λ u k. s.own u (front_for u s.talk.asked request k).0;
-            stands = (refl, ap (λ ts. ts ++ (next_id log user).ticket ∷ []) tickets, λ u k. (front_for u s.talk.asked request k).1);
+            stands = (
+              refl,
+              ap (λ ts. ts ++ (next_id log user).ticket ∷ []) tickets,
+              λ u k. (front_for u s.talk.asked request k).1,
+              record { before = s.talk.asked; last = request; asked = refl; user = refl; fits = subst (λ st. StepFits st state) e (line_fits cfg.accounts c.stamp s.talk.state line) },
+            );
             submitted = submitted_push log (length s.talk.lines) user op s.talk.asked c.tickets s.submitted;
           }
 

@@ -19,7 +19,7 @@ pub use laws::{
 pub use refused::Refused;
 pub use sent::Sent;
 pub use service_laws::{
-    one_user, projection, refused_changes_nothing, services_run_on_nodes, tickets_of_sessions,
-    two_runs,
+    answers_fit, one_user, projection, refused_changes_nothing, services_run_on_nodes,
+    tickets_of_sessions, two_runs,
 };
 pub use session_id::SessionId;

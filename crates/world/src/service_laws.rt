@@ -3,9 +3,15 @@
 //! A run is any list of happenings: events, and sessions that are lost for want of memory. One that can't happen changes
 //! nothing, so a law of all lists is one of those too in which each event can happen. Where a node finds no memory its
 //! run has a crash.
-ghost use Rattle.std.specs.Prelude.{◌≡◌, ℕ, List, Some};
-ghost use Rattle.world.specs.Clients.{Client, client_of};
-ghost use Rattle.world.specs.Messages.{NodeEvent, network_of};
+ghost use Rattle.std.specs.Prelude.{◌≡◌, ℕ, List, Some, is_some, true};
+ghost use Rattle.maildrop.specs.CommandId.{CommandId};
+ghost use Rattle.maildrop.specs.declared.outcome.Outcome.{Outcome};
+ghost use Rattle.node.specs.Nodes.{answered};
+ghost use Rattle.node.specs.declared.log.NodeLog.{NodeLog};
+ghost use Rattle.session.specs.Session.{by_answer};
+ghost use Rattle.session.specs.declared.state.State.{State};
+ghost use Rattle.world.specs.Clients.{Client, Waits, client_of};
+ghost use Rattle.world.specs.Messages.{NodeEvent, log_of, network_of};
 ghost use Rattle.world.specs.Projection.{IsProjected, Agree, AreComparable, HasOneUser, HasTickets};
 ghost use Rattle.world.specs.Refusals.{refusal_of};
 ghost use Rattle.world.specs.Services.{Service, Happening, opening_of, run_of, occurs};
@@ -44,6 +50,16 @@ pub fn tickets_of_sessions<A: Allocator>()
     ensures { (config : Config A) (happenings : List (Happening A)) (session : ℕ) (c : Client A) →
         client_of session (run_of config happenings).clients ≡ Some c
         → HasTickets config (run_of config happenings) c }
+{}
+
+/// An answer that a session awaits fits what it asked for: once its node has got it, the session can take it and go on.
+pub fn answers_fit<A: Allocator>()
+    ensures { (config : Config A) (happenings : List (Happening A)) (session : ℕ) (c : Client A) (log : NodeLog A) (state : State A) (id : CommandId) (answer : Outcome A) →
+        client_of session (run_of config happenings).clients ≡ Some c
+        → c.standing ≡ Waits state id
+        → log_of c.node (run_of config happenings).network.logs ≡ Some log
+        → answered log id ≡ Some answer
+        → is_some (by_answer state id.ticket answer) ≡ true }
 {}
 
 /// An event that is refused changes nothing.
