@@ -288,7 +288,7 @@ module _ {A : Type 0} where
         after_served turn found (Ask user op) e settled = s
 
         turn_served : (turn : Option (Turn A)) → by_answer state id.ticket o ≡ turn → IsServed cfg order log (by_turn c turn)
-        turn_served None found = s
+        turn_served None found = ended Over (λ p. p)
         turn_served (Some turn) found = after_served turn found turn.step refl (answer_settles state id.ticket o turn found).settles
 
         pub answer_served : IsServed cfg order log (by_turn c (by_answer state id.ticket o))

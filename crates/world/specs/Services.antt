@@ -86,14 +86,14 @@ module _ {A : Type 0} where
       after_line w session (with_line c line) log turn.state turn.step
   hears_line cfg w session line c log standing = w
 
-  -- an answer is told, and may close the session; one that doesn't fit what was asked changes nothing
+  -- an answer is told, and may close the session; one that doesn't fit what was asked ends it
   abbrev pub after_answer : Client A → State A → Step A → Client A
   after_answer c state (Say bytes) = told c bytes (Hears state)
   after_answer c state (SayAndClose bytes) = told c bytes Over
   after_answer c state (Ask user op) = c
 
   abbrev pub by_turn : Client A → Option (Turn A) → Client A
-  by_turn c None = c
+  by_turn c None = standing_as c Over
   by_turn c (Some turn) = after_answer c turn.state turn.step
 
   -- the answer is there, or not yet
