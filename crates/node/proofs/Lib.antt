@@ -7,3 +7,7 @@ pub mod Views
 pub mod Held
 pub mod Taking
 pub mod Steps
+pub mod Submitting
+pub mod Answering
+pub mod OwnOutcomes
+pub mod Crashing

@@ -46,6 +46,9 @@ module _ {A : Type 0} where
   abbrev pub logged : NodeLog A → Input A → NodeLog A
   logged log i = record { opening = log.opening; inputs = log.inputs ++ i ∷ [] }
 
+  abbrev pub lengthened : NodeLog A → List (Input A) → NodeLog A
+  lengthened log more = record { opening = log.opening; inputs = log.inputs ++ more }
+
   -- why a node stops after an input
   abbrev pub stops_after : Input A → Option Stopped
   stops_after Crash = Some Crashed

@@ -3,6 +3,7 @@
 #![tactic(auto)]
 
 mod input;
+mod laws;
 mod log;
 mod node;
 mod outputs;
@@ -12,6 +13,10 @@ mod stopped;
 mod tickets;
 
 pub use input::Input;
+pub use laws::{
+    answers_are_of_submits, answers_are_outcomes, answers_stay, crashes_are_for_good,
+    tickets_name_one_submit,
+};
 pub use log::{NodeLog, Opening};
 pub use node::{Node, WIDEST_WINDOW};
 pub use outputs::{Envelopes, Outputs};

@@ -1,0 +1,58 @@
+//! Laws of logs, and of what they lead to. Each is a function that does nothing: its contract is the law.
+ghost use Rattle.std.specs.Prelude.{◌≡◌, ◌↔◌, ℕ, List, [], Some, true};
+ghost use Rattle.std.specs.List.{list_any};
+ghost use Rattle.maildrop.specs.CommandId.{CommandId};
+ghost use Rattle.maildrop.specs.declared.op.Op.{Op};
+ghost use Rattle.maildrop.specs.declared.outcome.Outcome.{Outcome};
+ghost use Rattle.node.specs.Replay.{is_crash, new_node, replayed, sends_of};
+ghost use Rattle.node.specs.Nodes.{logged, lengthened, answered};
+ghost use Rattle.node.specs.Submits.{IsSubmitted, next_id, op_of};
+ghost use Rattle.node.specs.Outcomes.{IsOutcomeOf};
+ghost use Rattle.node.specs.declared.input.Input.{Input};
+ghost use Rattle.node.specs.declared.input.Input.TheVariants.{Submit, Crash};
+ghost use Rattle.node.specs.declared.log.NodeLog.{NodeLog};
+ghost use Rattle.node.specs.declared.log.Opening.{Opening};
+
+use std::alloc::Allocator;
+
+/// An answer that a log has got stays, whatever inputs follow.
+pub fn answers_stay<A: Allocator>()
+    ensures { (log : NodeLog A) (more : List (Input A)) (id : CommandId) (answer : Outcome A) →
+        answered log id ≡ Some answer → answered (lengthened log more) id ≡ Some answer }
+{}
+
+/// A log has an answer only for an operation that was submitted in it, under a ticket of its own node.
+pub fn answers_are_of_submits<A: Allocator>()
+    ensures submitted { (log : NodeLog A) (id : CommandId) (answer : Outcome A) →
+        answered log id ≡ Some answer → (op : Op A) × IsSubmitted log id op }
+    ensures own { (log : NodeLog A) (id : CommandId) (answer : Outcome A) →
+        answered log id ≡ Some answer → id.ticket.node ≡ log.opening.me }
+{}
+
+/// Each answer that a log has got is that of its user's maildrop alone, after the user's own commands that were performed
+/// before it.
+pub fn answers_are_outcomes<A: Allocator>()
+    ensures { (log : NodeLog A) (id : CommandId) (answer : Outcome A) →
+        answered log id ≡ Some answer → IsOutcomeOf log.opening (replayed log).replica.performed id answer }
+{}
+
+/// A node gives a ticket of a user once, to one operation, which the ticket names from then on.
+pub fn tickets_name_one_submit<A: Allocator>()
+    ensures new { (log : NodeLog A) (user : List ℕ) (op : Op A) →
+        op_of (logged log (Submit user op)) (next_id log.opening.me user log.inputs) ≡ Some op }
+    ensures stays { (log : NodeLog A) (more : List (Input A)) (id : CommandId) (op : Op A) →
+        op_of log id ≡ Some op → op_of (lengthened log more) id ≡ Some op }
+    ensures found { (log : NodeLog A) (id : CommandId) (op : Op A) → (op_of log id ≡ Some op) ↔ IsSubmitted log id op }
+    ensures one { (log : NodeLog A) (id : CommandId) (op other : Op A) (here : IsSubmitted log id op) (there : IsSubmitted log id other) →
+        (here.before ≡ there.before) × (op ≡ other) × (here.after ≡ there.after) }
+{}
+
+/// A node begins without a crash, and a crash is for good: it sends and answers nothing, and no input behind it changes or
+/// sends anything.
+pub fn crashes_are_for_good<A: Allocator>()
+    ensures opening { (opening : Opening A) → replayed (record { opening = opening; inputs = [] }) ≡ new_node opening }
+    ensures sends { (log : NodeLog A) → sends_of log Crash ≡ [] }
+    ensures answers { (log : NodeLog A) (id : CommandId) → answered (logged log Crash) id ≡ answered log id }
+    ensures behind { (log : NodeLog A) (more : List (Input A)) → list_any is_crash log.inputs ≡ true → replayed (lengthened log more) ≡ replayed log }
+    ensures silent { (log : NodeLog A) (i : Input A) → list_any is_crash log.inputs ≡ true → sends_of log i ≡ [] }
+{}
