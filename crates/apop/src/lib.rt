@@ -16,4 +16,5 @@ pub use accounts::Accounts;
 pub use error::AccountsError;
 pub use from_parts::stamp;
 pub use method::Method;
+pub use row::{Row, row_of};
 pub use timestamp::Stamp;

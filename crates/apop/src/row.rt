@@ -20,10 +20,11 @@ const FIRST_BEYOND_ASCII: u8 = 0x80;
 
 /// The parts of a row `name method secret`.
 #[derive(Drop)]
-pub(crate) struct Row<'a> {
-    pub(crate) name: Name,
-    pub(crate) method: Method,
-    pub(crate) secret: &'a [u8],
+pub struct Row<'a> {
+    pub name: Name,
+    pub method: Method,
+    /// 1 to 255 bytes of 0x20 to 0x7E or 0x80 to 0xFF.
+    pub secret: &'a [u8],
 }
 
 fn place_of_space(bytes: &[u8]) -> Option<usize>
@@ -59,8 +60,8 @@ pub(crate) fn is_secret(bytes: &[u8]) -> bool
     !bytes.is_empty() && bytes.len() <= LONGEST_SECRET && are_secret_bytes(bytes)
 }
 
-/// The parts of a line, if it is a row.
-pub(crate) fn row_of(line: &[u8]) -> Option<Row<'_>>
+/// The parts of a line, if it is a row of an accounts file. Takes no memory.
+pub fn row_of(line: &[u8]) -> Option<Row<'_>>
     ensures { option_map (λ row. record { name = row.name; method = row.method; secret = row.secret.now }) result
         ≡ spec.row_of line.now }
 {
