@@ -8,7 +8,7 @@ use Rattle.pop3_wire.specs.Commands.{name_of}
 use Rattle.pop3_wire.specs.declared.line.Line.{Line}
 use Rattle.pop3_wire.specs.declared.line.Line.TheVariants.{Whole, TooLong}
 use Rattle.script.specs.Kinds.{kind_named}
-use Rattle.script.specs.Words.{number_between, number_of, node_of, key_of, is_nonce, is_host, last_node}
+use Rattle.script.specs.Words.{number_between, number_of, node_of, key_of, is_nonce, is_host, last_node, widest_window}
 use Rattle.script.specs.declared.message_kind.MessageKind.{MessageKind}
 use Rattle.script.specs.declared.keyword.Keyword.{Keyword}
 use Rattle.script.specs.declared.keyword.Keyword.TheVariants as keyword
@@ -156,14 +156,14 @@ abbrev pub limits_of : List ℕ → Option Limits
 limits_of rest =
     option_and_then (λ (messages, behind). option_and_then (λ (octets, ids). limits_with (number_of messages) (number_of octets) (number_of ids)) (cut_at_space behind)) (cut_at_space rest)
 
-abbrev pub widest_window : ℕ
-widest_window = 1000
+abbrev pub window_of : List ℕ → Option ℕ
+window_of rest = number_between 1 widest_window rest
 
 -- the setting of a keyword and what stands behind its space
 abbrev pub setting_with : SettingKeyword → List ℕ → Option Setting
 setting_with word.Nodes rest = option_map setting.Nodes (cluster_of rest)
 setting_with word.Limits rest = option_map setting.Limits (limits_of rest)
-setting_with word.Window rest = option_map setting.Window (number_between 1 widest_window rest)
+setting_with word.Window rest = option_map setting.Window (window_of rest)
 setting_with word.Host rest = if is_host rest then Some (setting.Host rest) else None
 setting_with word.Account rest = if is_some (row_of rest) then Some (setting.Account rest) else None
 

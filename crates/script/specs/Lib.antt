@@ -1,4 +1,11 @@
 pub mod Words
 pub mod Kinds
 pub mod Commands
+pub mod Written
+pub mod Rows
+pub mod Scripts
 pub mod Output
+pub mod Keys
+pub mod Requests
+pub mod Instructions
+pub mod Examples

@@ -41,3 +41,7 @@ is_nonce text = nat_le (length text) longest_nonce && are_runs false text
 
 abbrev pub is_host : List ℕ → Bool
 is_host text = nat_le (length text) longest_host && are_runs true text
+
+-- the most slots of a window
+abbrev pub widest_window : ℕ
+widest_window = 1000

@@ -9,8 +9,7 @@ use crate::message_kind::MessageKind;
 use crate::nonce::Nonce;
 use crate::numbers::{node_of, number_between, number_of};
 use crate::rest::Rest;
-use crate::words::cut_at_space;
-use ballot::NodeId;
+use crate::words::{cut_at_space, node_and_user};
 use maildrop::{Key, Name};
 use pop3_wire::{Line, LineBytes};
 
@@ -65,15 +64,6 @@ fn keyed_in(rest: &[u8]) -> Option<Command<'_>>
         key: Some(key),
         written: Rest::new(written),
     })
-}
-
-fn break_in(rest: &[u8]) -> Option<(NodeId, Name)>
-    ensures { result ≡ spec.node_and_user rest.now }
-{
-    let (node, user) = cut_at_space(rest)?;
-    let node = node_of(node)?;
-    let user = Name::new(user)?;
-    Some((node, user))
 }
 
 fn connect_in(rest: &[u8]) -> Option<Command<'_>>
@@ -144,7 +134,7 @@ pub(crate) fn command_with(keyword: Keyword, rest: &[u8]) -> Option<Command<'_>>
         Keyword::Mail => mail_in(rest),
         Keyword::Keyed => keyed_in(rest),
         Keyword::Break => {
-            let (node, user) = break_in(rest)?;
+            let (node, user) = node_and_user(rest)?;
             Some(Command::Break { node, user })
         }
         Keyword::Connect => connect_in(rest),

@@ -2,6 +2,7 @@
 
 use crate::account_row::AccountRow;
 use crate::host::Host;
+use crate::window::Window;
 use ballot::Cluster;
 use maildrop::Limits;
 
@@ -13,7 +14,7 @@ pub enum Setting<'a> {
     /// `limits M O I`: the messages, octets and highest unique id of each maildrop.
     Limits(Limits),
     /// `window W`: how many slots behind the first undecided one a replica may propose for, 1 to 1,000.
-    Window(u64),
+    Window(Window),
     /// `host H`: what stands behind the `@` of all greetings.
     Host(Host),
     /// `account NAME METHOD SECRET`: a user who may log in.

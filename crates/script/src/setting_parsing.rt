@@ -1,5 +1,6 @@
 //! Reads the words behind the keyword of a setting.
 ghost use Rattle.std.specs.Prelude.{◌≡◌};
+ghost use Rattle.maildrop.specs.Text.{IsLine};
 ghost use Rattle.script.specs.Commands as spec;
 
 use crate::account_row::AccountRow;
@@ -7,18 +8,23 @@ use crate::host::Host;
 use crate::keyword::SettingKeyword;
 use crate::numbers::{number_between, number_of};
 use crate::setting::Setting;
+use crate::window::Window;
 use crate::words::cut_at_space;
 use ballot::{Cluster, LAST_NODE};
 use maildrop::Limits;
-
-/// The widest window.
-const WIDEST_WINDOW: u64 = 1000;
 
 fn cluster_of(rest: &[u8]) -> Option<Cluster>
     ensures { result ≡ spec.cluster_of rest.now }
 {
     let size = number_between(1, u64::from(LAST_NODE), rest)?;
     Cluster::new(size as u8)
+}
+
+fn window_of(rest: &[u8]) -> Option<Window>
+    ensures { result ≡ spec.window_of rest.now }
+{
+    let slots = number_of(rest)?;
+    Window::new(slots)
 }
 
 fn limits_of(rest: &[u8]) -> Option<Limits>
@@ -34,6 +40,7 @@ fn limits_of(rest: &[u8]) -> Option<Limits>
 
 /// The setting of a keyword and what stands behind its space.
 pub(crate) fn setting_with(keyword: SettingKeyword, rest: &[u8]) -> Option<Setting<'_>>
+    requires { IsLine rest.now }
     ensures { result ≡ spec.setting_with keyword rest.now }
 {
     match keyword {
@@ -46,7 +53,7 @@ pub(crate) fn setting_with(keyword: SettingKeyword, rest: &[u8]) -> Option<Setti
             Some(Setting::Limits(limits))
         }
         SettingKeyword::Window => {
-            let window = number_between(1, WIDEST_WINDOW, rest)?;
+            let window = window_of(rest)?;
             Some(Setting::Window(window))
         }
         SettingKeyword::Host => {

@@ -1,0 +1,217 @@
+-- Worked examples of the definitions.
+use Rattle.std.specs.Prelude.{◌≡◌, [], ◌∷◌, ◌++◌, replicate, refl, codes, true, false, None, Some, Ok, Err, Result, Option}
+use Rattle.std.specs.Fmt.{digits}
+use Rattle.apop.specs.declared.method.Method.TheVariants.{Pass}
+use Rattle.maildrop.specs.declared.outcome.Outcome.TheVariants as outcome
+use Rattle.maildrop.specs.declared.op.Op.TheVariants as op
+use Rattle.pop3_wire.specs.declared.line.Line.TheVariants.{Whole, TooLong}
+use Rattle.script.specs.Commands.{parsed}
+use Rattle.script.specs.Output.{outcome_line, performed_line, refusal_line, reply_lines, slot_line}
+use Rattle.script.specs.Scripts.{Script, default_settings, new_script, read_line}
+use Rattle.script.specs.Written.{lines_of}
+use Rattle.script.specs.declared.command.Command.{Command}
+use Rattle.script.specs.declared.command.Command.TheVariants as command
+use Rattle.script.specs.declared.fault.ScriptFault.{ScriptFault}
+use Rattle.script.specs.declared.fault.ScriptFault.TheVariants.{NoStatement, LateSetting, NameTwice}
+use Rattle.script.specs.declared.message_kind.MessageKind.TheVariants as kind
+use Rattle.script.specs.declared.refusal.Refusal.TheVariants as refusal
+use Rattle.script.specs.declared.setting.Setting.{Setting}
+use Rattle.script.specs.declared.setting.Setting.TheVariants as setting
+use Rattle.script.specs.declared.statement.Statement.{Statement}
+use Rattle.script.specs.declared.statement.Statement.TheVariants as statement
+
+abbrev says : Command → Result (Option Statement) ScriptFault
+says it = Ok (Some (statement.Command it))
+
+abbrev sets : Setting → Result (Option Statement) ScriptFault
+sets it = Ok (Some (statement.Setting it))
+
+empty_line : parsed [] ≡ Ok None
+empty_line = refl
+
+unknown_word : parsed (codes "campain 1") ≡ Err NoStatement
+unknown_word = refl
+
+-- mail, and its lines
+mail : parsed (codes "mail 1 alice Subject: a1||one") ≡ says (command.Mail 1 (codes "alice") None (codes "Subject: a1||one"))
+mail = refl
+
+mail_lines : lines_of (codes "Subject: a1||one") ≡ codes "Subject: a1" ∷ [] ∷ codes "one" ∷ []
+mail_lines = refl
+
+no_mail_lines : lines_of [] ≡ [] ∷ []
+no_mail_lines = refl
+
+mail_empty : parsed (codes "mail 1 alice ") ≡ says (command.Mail 1 (codes "alice") None [])
+mail_empty = refl
+
+mail_without_space : parsed (codes "mail 1 alice") ≡ Err NoStatement
+mail_without_space = refl
+
+two_spaces : parsed (codes "mail 1  alice x") ≡ Err NoStatement
+two_spaces = refl
+
+keyed : parsed (codes "keyed 1 alice k1 Subject: x||hi") ≡ says (command.Mail 1 (codes "alice") (Some (codes "k1")) (codes "Subject: x||hi"))
+keyed = refl
+
+no_key : parsed (codes "keyed 1 alice  hi") ≡ Err NoStatement
+no_key = refl
+
+-- sessions
+connect : parsed (codes "connect s1 2 n.1") ≡ says (command.Connect 1 2 (codes "n.1"))
+connect = refl
+
+session_of_zero : parsed (codes "connect s0 2 n.1") ≡ says (command.Connect 0 2 (codes "n.1"))
+session_of_zero = refl
+
+session_with_zeros : parsed (codes "hangup s01") ≡ Err NoStatement
+session_with_zeros = refl
+
+session_of_ten_digits : parsed (codes "hangup s1000000000") ≡ Err NoStatement
+session_of_ten_digits = refl
+
+bad_nonce : parsed (codes "connect s1 2 n..1") ≡ Err NoStatement
+bad_nonce = refl
+
+line : parsed (codes "line s1 USER alice") ≡ says (command.Line 1 (Whole (codes "USER alice")))
+line = refl
+
+line_empty : parsed (codes "line s1 ") ≡ says (command.Line 1 (Whole []))
+line_empty = refl
+
+line_without_space : parsed (codes "line s1") ≡ Err NoStatement
+line_without_space = refl
+
+longest_line : parsed (codes "line s1 " ++ replicate 510 65) ≡ says (command.Line 1 (Whole (replicate 510 65)))
+longest_line = refl
+
+line_too_long : parsed (codes "line s1 " ++ replicate 511 65) ≡ says (command.Line 1 TooLong)
+line_too_long = refl
+
+-- nodes and what they are told
+deliver : parsed (codes "deliver 1 2 p1b") ≡ says (command.Deliver 1 2 kind.P1b)
+deliver = refl
+
+other_kind : parsed (codes "deliver 1 2 p1c") ≡ Err NoStatement
+other_kind = refl
+
+node_zero : parsed (codes "crash 0") ≡ Err NoStatement
+node_zero = refl
+
+node_nine : parsed (codes "crash 9") ≡ says (command.Crash 9)
+node_nine = refl
+
+node_ten : parsed (codes "crash 10") ≡ Err NoStatement
+node_ten = refl
+
+space_behind : parsed (codes "tick 1 ") ≡ Err NoStatement
+space_behind = refl
+
+lose : parsed (codes "lose") ≡ says command.Lose
+lose = refl
+
+lose_with_word : parsed (codes "lose 1") ≡ Err NoStatement
+lose_with_word = refl
+
+highest_limit : parsed (codes "settle 18446744073709551615") ≡ says (command.Settle 18446744073709551615)
+highest_limit = refl
+
+limit_too_high : parsed (codes "settle 18446744073709551616") ≡ Err NoStatement
+limit_too_high = refl
+
+leading_zero : parsed (codes "settle 0100") ≡ Err NoStatement
+leading_zero = refl
+
+sign : parsed (codes "settle +1") ≡ Err NoStatement
+sign = refl
+
+storm : parsed (codes "storm 0 5") ≡ says (command.Storm 0 5)
+storm = refl
+
+-- settings
+nodes : parsed (codes "nodes 3") ≡ sets (setting.Nodes 3)
+nodes = refl
+
+nodes_ten : parsed (codes "nodes 10") ≡ Err NoStatement
+nodes_ten = refl
+
+limits : parsed (codes "limits 2 60 3") ≡ sets (setting.Limits (record { messages = 2; octets = 60; ids = 3 }))
+limits = refl
+
+limits_too_high : parsed (codes "limits 1000000000 60 3") ≡ Err NoStatement
+limits_too_high = refl
+
+window : parsed (codes "window 1000") ≡ sets (setting.Window 1000)
+window = refl
+
+window_too_wide : parsed (codes "window 1001") ≡ Err NoStatement
+window_too_wide = refl
+
+host : parsed (codes "host mail.test") ≡ sets (setting.Host (codes "mail.test"))
+host = refl
+
+bad_host : parsed (codes "host mail.") ≡ Err NoStatement
+bad_host = refl
+
+-- the secret is the rest of the line
+account : parsed (codes "account bob pass a b") ≡ sets (setting.Account (codes "bob pass a b"))
+account = refl
+
+bad_account : parsed (codes "account bob PASS s") ≡ Err NoStatement
+bad_account = refl
+
+-- settings come before commands, and accounts have different names
+abbrev begun : Script
+begun = record { settings = default_settings; begun = true }
+
+setting_late : read_line begun (codes "nodes 3") ≡ Err LateSetting
+setting_late = refl
+
+empty_line_late : read_line begun [] ≡ Ok (None, begun)
+empty_line_late = refl
+
+first_command : read_line new_script (codes "lose") ≡ Ok (Some command.Lose, begun)
+first_command = refl
+
+abbrev with_alice : Script
+with_alice = record {
+  settings = record {
+    cluster = 1;
+    limits = default_settings.limits;
+    window = 10;
+    host = codes "localhost";
+    accounts = record { name = codes "alice"; method = Pass; secret = codes "s3" } ∷ [];
+  };
+  begun = false;
+}
+
+one_account : read_line new_script (codes "account alice pass s3") ≡ Ok (None, with_alice)
+one_account = refl
+
+name_twice : read_line with_alice (codes "account alice apop s4") ≡ Err NameTwice
+name_twice = refl
+
+-- what is written
+stored : (A : Type 0) → outcome_line {A = A} (codes "bob") (record { node = 2; seq = 1 }) (outcome.Stored 1) ≡ codes "op bob 2/1 stored 1\n"
+unfolding digits
+stored A = refl
+
+too_large : (A : Type 0) → outcome_line {A = A} (codes "bob") (record { node = 2; seq = 13 }) outcome.TooLarge ≡ codes "op bob 2/13 too large\n"
+unfolding digits
+too_large A = refl
+
+no_session : refusal_line refusal.NoSession ≡ codes "refused 3 NoSession\n"
+unfolding digits
+no_session = refl
+
+performed : performed_line 3 2 ≡ codes "node 3 performed 2\n"
+unfolding digits
+performed = refl
+
+slot : (A : Type 0) → slot_line {A = A} 2 (record { user = codes "bob"; ticket = record { node = 2; seq = 1 }; op = op.Break }) ≡ codes "slot 2 bob 2/1 break\n"
+unfolding digits
+slot A = refl
+
+replies : reply_lines 1 (codes "+OK\r\n1 1\r\n.\r\n") ≡ codes "s1|+OK\ns1|1 1\ns1|.\n"
+unfolding digits
+replies = refl

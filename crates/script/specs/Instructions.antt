@@ -1,0 +1,51 @@
+-- What an operator writes on the command line.
+use Rattle.std.specs.Prelude.{ℕ, List, [], ◌∷◌, codes, if◌then◌else◌, Option, None, Some, Result, Ok, Err}
+use Rattle.std.specs.Option.{option_map}
+use Rattle.std.specs.Str.{bytes_eq}
+use Rattle.pop3_wire.specs.Commands.{name_of}
+use Rattle.script.specs.Commands.{both_of}
+use Rattle.script.specs.Keys.{prefix_of}
+use Rattle.script.specs.Requests.{single_word}
+use Rattle.script.specs.Words.{node_of}
+use Rattle.script.specs.declared.instruction.Instruction.{Instruction}
+use Rattle.script.specs.declared.instruction.Instruction.TheVariants as instruction
+use Rattle.script.specs.declared.instruction.WordsFault.{WordsFault}
+use Rattle.script.specs.declared.instruction.WordsFault.TheVariants as fault
+use Rattle.script.specs.declared.request.Request.{Request}
+use Rattle.script.specs.declared.request.Request.TheVariants as request
+
+abbrev pub ask_of : Option Request → Result Instruction WordsFault
+ask_of None = Err fault.Value
+ask_of (Some it) = Ok (instruction.Ask it)
+
+abbrev pub crash_with : List ℕ → List ℕ → Option Request
+crash_with word at = if bytes_eq word (codes "crash") then option_map request.Crash (node_of at) else None
+
+abbrev pub break_with : List ℕ → List ℕ → List ℕ → Option Request
+break_with word at user =
+    if bytes_eq word (codes "break") then option_map (λ both. request.Break both.0 both.1) (both_of (node_of at) (name_of user)) else None
+
+-- where mail is delivered, and to whom
+abbrev pub addressee_of : List ℕ → List ℕ → List ℕ → Option (ℕ × List ℕ)
+addressee_of word at user = if bytes_eq word (codes "deliver") then both_of (node_of at) (name_of user) else None
+
+abbrev pub deliver_with : Option (ℕ × List ℕ) → List ℕ → Result Instruction WordsFault
+deliver_with None file = Err fault.Value
+deliver_with (Some to) file = Ok (instruction.Deliver to.0 to.1 file None)
+
+abbrev pub with_key : (ℕ × List ℕ) → List ℕ → Option (List ℕ) → Result Instruction WordsFault
+with_key to file None = Err fault.Key
+with_key to file (Some key) = Ok (instruction.Deliver to.0 to.1 file (Some key))
+
+abbrev pub keyed_with : Option (ℕ × List ℕ) → List ℕ → List ℕ → Result Instruction WordsFault
+keyed_with None file key = Err fault.Value
+keyed_with (Some to) file key = with_key to file (prefix_of key)
+
+-- the instruction of the words of a command line
+abbrev pub instruction_of : List (List ℕ) → Result Instruction WordsFault
+instruction_of (word ∷ []) = ask_of (single_word word)
+instruction_of (word ∷ at ∷ []) = ask_of (crash_with word at)
+instruction_of (word ∷ at ∷ user ∷ []) = ask_of (break_with word at user)
+instruction_of (word ∷ at ∷ user ∷ file ∷ []) = deliver_with (addressee_of word at user) file
+instruction_of (word ∷ at ∷ user ∷ file ∷ key ∷ []) = keyed_with (addressee_of word at user) file key
+instruction_of words = Err fault.Value

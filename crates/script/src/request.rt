@@ -1,0 +1,123 @@
+//! What an operator asks of a running service.
+ghost use Rattle.std.specs.Prelude.{◌≡◌};
+ghost use Rattle.script.specs.Requests as spec;
+
+use crate::key_prefix::KeyPrefix;
+use crate::numbers::{node_of, number_between};
+use crate::words::{cut_at_space, node_and_user};
+use ballot::NodeId;
+use maildrop::Name;
+
+/// The most bytes of a request's line without its line feed: 512 octets with it.
+pub const LONGEST_REQUEST: usize = 511;
+
+/// The most bytes of a file that is delivered.
+pub const MOST_BYTES: u64 = 1 << 30;
+
+/// What an operator asks of a running service, one request a connection.
+#[derive(Drop)]
+pub enum Request {
+    /// `deliver NODE USER COUNT` or `deliver NODE USER COUNT KEY`: the messages of a mailbox file of so many bytes, which
+    /// stand behind the line, are delivered.
+    Deliver {
+        node: NodeId,
+        user: Name,
+        count: u64,
+        key: Option<KeyPrefix>,
+    },
+    /// `break NODE USER`: the user's lock is broken.
+    Break {
+        node: NodeId,
+        user: Name,
+    },
+    /// `crash NODE`: a node stops for good.
+    Crash {
+        node: NodeId,
+    },
+    /// `status`: what the nodes are doing.
+    Status,
+    /// `stop`: the service ends.
+    Stop,
+}
+
+fn count_of(bytes: &[u8]) -> Option<u64>
+    ensures { result ≡ spec.count_of bytes.now }
+{
+    number_between(0, MOST_BYTES, bytes)
+}
+
+/// `COUNT` or `COUNT KEY`.
+fn count_and_key(rest: &[u8]) -> Option<(u64, Option<KeyPrefix>)>
+    ensures { result ≡ spec.count_and_key rest.now }
+{
+    match cut_at_space(rest) {
+        None => {
+            let count = count_of(rest)?;
+            Some((count, None))
+        }
+        Some((count, key)) => {
+            let count = count_of(count)?;
+            let key = KeyPrefix::new(key)?;
+            Some((count, Some(key)))
+        }
+    }
+}
+
+fn deliver_in(rest: &[u8]) -> Option<Request>
+    ensures { result ≡ spec.deliver_in rest.now }
+{
+    let (node, behind) = cut_at_space(rest)?;
+    let (user, behind) = cut_at_space(behind)?;
+    let node = node_of(node)?;
+    let user = Name::new(user)?;
+    let (count, key) = count_and_key(behind)?;
+    Some(Request::Deliver {
+        node,
+        user,
+        count,
+        key,
+    })
+}
+
+/// The request of a first word and what stands behind its space.
+fn request_with(word: &[u8], rest: &[u8]) -> Option<Request>
+    ensures { result ≡ spec.request_with word.now rest.now }
+{
+    if word == b"deliver".as_slice() {
+        deliver_in(rest)
+    } else if word == b"break".as_slice() {
+        let (node, user) = node_and_user(rest)?;
+        Some(Request::Break { node, user })
+    } else if word == b"crash".as_slice() {
+        let node = node_of(rest)?;
+        Some(Request::Crash { node })
+    } else {
+        None
+    }
+}
+
+pub(crate) fn single_word(line: &[u8]) -> Option<Request>
+    ensures { result ≡ spec.single_word line.now }
+{
+    if line == b"status".as_slice() {
+        Some(Request::Status)
+    } else if line == b"stop".as_slice() {
+        Some(Request::Stop)
+    } else {
+        None
+    }
+}
+
+/// The request of a line without its line feed, if it is one and no longer than `LONGEST_REQUEST`. A carriage return at
+/// its end is part of it, and so makes it none. Takes no memory.
+pub fn parse_request(line: &[u8]) -> Option<Request>
+    ensures { result ≡ spec.request_of line.now }
+{
+    if line.len() > LONGEST_REQUEST {
+        return None;
+    }
+    match cut_at_space(line) {
+        Some((word, rest)) => request_with(word, rest),
+        None => single_word(line),
+    }
+}
