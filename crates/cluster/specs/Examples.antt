@@ -1,0 +1,32 @@
+-- Worked examples of nodes that wait in vain.
+use Rattle.std.specs.Prelude.{◌≡◌, refl, ℕ, List, [], ◌∷◌, ◌++◌, replicate, Bool, true, false}
+use Rattle.cluster.specs.declared.status.Status.{Status}
+use Rattle.cluster.specs.Patience.{patience_of, new_patience, campaigns_at}
+
+abbrev waits_at : ℕ → Status
+waits_at slot_out = record { up = true; active = false; slot_out = slot_out; waiting = true }
+
+abbrev idle_at : ℕ → Status
+idle_at slot_out = record { up = true; active = false; slot_out = slot_out; waiting = false }
+
+first_node : patience_of 1 ≡ 8
+first_node = refl
+
+last_node : patience_of 9 ≡ 40
+last_node = refl
+
+-- node 1 asks at its 8th tick in vain, and then at the 8th after that
+asks_and_counts_anew : campaigns_at (new_patience 1) (replicate 16 (waits_at 1)) ≡ replicate 7 false ++ true ∷ replicate 7 false ++ true ∷ []
+asks_and_counts_anew = refl
+
+-- node 2 asks at its 12th
+second_node : campaigns_at (new_patience 2) (replicate 12 (waits_at 1)) ≡ replicate 11 false ++ true ∷ []
+second_node = refl
+
+-- where a slot is decided the count begins anew: that tick isn't in vain
+a_decided_slot : campaigns_at (new_patience 1) (replicate 7 (waits_at 1) ++ replicate 9 (waits_at 2)) ≡ replicate 15 false ++ true ∷ []
+a_decided_slot = refl
+
+-- where nothing is awaited it never asks
+nothing_awaited : campaigns_at (new_patience 1) (replicate 7 (waits_at 1) ++ idle_at 1 ∷ replicate 8 (waits_at 1)) ≡ replicate 15 false ++ true ∷ []
+nothing_awaited = refl

@@ -1,0 +1,3 @@
+pub mod Patience
+pub mod Fits
+pub mod Examples
