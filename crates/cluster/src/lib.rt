@@ -1,11 +1,27 @@
-//! Nodes on threads.
+//! Nodes on threads: one thread a node, which hears what comes to its inbox, and desks by which sessions on threads of their
+//! own ask a node and await its answers. All that a thread does to a node is one step under the node's lock.
 #![tactic(auto)]
 
+mod cluster;
+mod desk;
+mod handle;
+mod hub;
+mod laws;
+mod link;
+mod member;
 mod op_kind;
 mod patience;
+mod sessions;
 mod setup;
+mod start_error;
 mod status;
 
+pub use cluster::Cluster;
+pub use desk::NodeDesk;
+pub use laws::outcomes_fit_their_operations;
+pub use link::{InboxLink, Link};
 pub use patience::Patience;
+pub use sessions::Job;
 pub use setup::{Deployment, Setup};
+pub use start_error::StartError;
 pub use status::Status;

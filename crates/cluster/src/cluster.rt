@@ -1,0 +1,286 @@
+//! A cluster of nodes, each with a thread of its own.
+ghost use Rattle.std.specs.Prelude.{◌≡◌, ◌+◌, ◌≤◌, IsTrue, IfOk, IfSome, length, vec_len, vec_capacity};
+ghost use Rattle.maildrop.specs.Name.{are_different};
+ghost use Rattle.node.specs.Nodes.{opened};
+ghost use Rattle.cluster.specs.Members.{opening_of, IsStatusOf};
+
+use crate::desk::NodeDesk;
+use crate::handle::{BATCH, NodeHandle};
+use crate::hub::{Hub, Inbox};
+use crate::link::{InboxLink, Link};
+use crate::member::Member;
+use crate::setup::{Deployment, Setup};
+use crate::start_error::StartError;
+use crate::status::Status;
+use ballot::{Envelope, Memory, NodeId};
+use maildrop::Command;
+use node::{Envelopes, Input, Node, NodeLog};
+use std::alloc::Global;
+use std::sync::{Arc, Wait};
+use std::thread;
+use std::thread::{JoinHandle, Threads};
+
+/// Nodes of a cluster that run here, each with a thread of its own, which hears what comes to the node's inbox. It stays
+/// on the thread that started it. One that is let go ends its threads, as `stop` does.
+pub struct Cluster<D: Deployment, R: Threads + Wait, L: Link> {
+    rt: R,
+    alloc: Global,
+    hub: Arc<Hub>,
+    nodes: Vec<NodeHandle<D, L>>,
+    threads: Vec<JoinHandle<()>>,
+    /// Room for the logs of all nodes.
+    logs: Vec<NodeLog>,
+    ghost room: { vec_len logs + vec_len nodes ≤ vec_capacity logs },
+}
+
+/// The thread of a node: hears what comes to the inbox, until the node has stopped or nobody can put anything in there.
+fn run_node<D: Deployment, R: Wait, L: Link>(
+    rt: &R,
+    node: &NodeHandle<D, L>,
+    inbox: &Inbox,
+    mut sends: Vec<Envelopes>,
+) {
+    for _ in rt.forever() {
+        let Ok(envelope) = inbox.recv(rt) else {
+            return;
+        };
+        if !node.hear(rt, envelope, inbox, &mut sends) {
+            return;
+        }
+    }
+}
+
+/// The node of this number, as it begins.
+fn new_member<D: Deployment>(
+    alloc: Global,
+    setup: &Setup,
+    me: NodeId,
+) -> Result<Member<D>, StartError>
+    requires deployment { setup.now ≡ D.setup }
+    requires names { IsTrue (are_different setup.now.names) }
+    ensures { IfOk result (λ member. member ≡ opened (opening_of setup.now me)) }
+{
+    match Node::new(
+        alloc,
+        me,
+        setup.cluster,
+        setup.window,
+        setup.names.get(),
+        setup.limits,
+    )? {
+        Some(node) => Ok(Member::new(node)),
+        None => Err(StartError::Setup),
+    }
+}
+
+impl<
+    D: Deployment + Send + Sync + 'static,
+    R: Threads + Wait + Copy + Send + Sync + 'static,
+> Cluster<D, R, InboxLink<R>> {
+    /// Starts all nodes of the cluster, which send to one another's inboxes.
+    pub fn start(rt: R, alloc: Global, setup: &Setup) -> Result<Self, StartError>
+        requires deployment { setup.now ≡ D.setup }
+        requires names { IsTrue (are_different setup.now.names) }
+    {
+        let hub = Hub::new(alloc)?;
+        let mut links = Vec::new(alloc);
+        for number in 1..=setup.cluster.get() {
+            let Some(node) = NodeId::new(number) else {
+                return Err(StartError::Setup);
+            };
+            let link = InboxLink::new(rt, Arc::try_clone(&hub)?);
+            links.push((node, link))?;
+        }
+        Cluster::start_on(rt, alloc, setup, hub, links)
+    }
+}
+
+impl<
+    D: Deployment + Send + Sync + 'static,
+    R: Threads + Wait + Copy + Send + Sync + 'static,
+    L: Link + Drop + Send + Sync + 'static,
+> Cluster<D, R, L> {
+    /// Starts these nodes of the cluster alone, each of which sends by its link.
+    pub fn start_over(
+        rt: R,
+        alloc: Global,
+        setup: &Setup,
+        links: Vec<(NodeId, L)>,
+    ) -> Result<Self, StartError>
+        requires deployment { setup.now ≡ D.setup }
+        requires names { IsTrue (are_different setup.now.names) }
+    {
+        let hub = Hub::new(alloc)?;
+        Cluster::start_on(rt, alloc, setup, hub, links)
+    }
+
+    fn start_on(
+        rt: R,
+        alloc: Global,
+        setup: &Setup,
+        hub: Arc<Hub>,
+        links: Vec<(NodeId, L)>,
+    ) -> Result<Self, StartError>
+        requires deployment { setup.now ≡ D.setup }
+        requires names { IsTrue (are_different setup.now.names) }
+    {
+        let mut cluster = Cluster {
+            rt,
+            alloc,
+            hub,
+            nodes: Vec::new(alloc),
+            threads: Vec::new(alloc),
+            logs: Vec::new(alloc),
+        };
+        for (me, link) in links {
+            match cluster.start_node(setup, me, link) {
+                Ok(()) => {}
+                Err(error) => return Err(error),
+            }
+        }
+        Ok(cluster)
+    }
+
+    /// Starts a node, which isn't here yet. Nothing comes to its inbox before the cluster has started.
+    fn start_node(&mut self, setup: &Setup, me: NodeId, link: L) -> Result<(), StartError>
+        requires deployment { setup.now ≡ D.setup }
+        requires names { IsTrue (are_different setup.now.names) }
+    {
+        if self.find(me).is_some() {
+            return Err(StartError::Setup);
+        }
+        let member = new_member(self.alloc, setup, me)?;
+        let node = NodeHandle::new(self.alloc, me, member, link)?;
+        let theirs = node.share()?;
+        let inbox = self.hub.open(&self.rt, self.alloc, me)?;
+        let sends = Vec::with_capacity(self.alloc, BATCH)?;
+        self.threads.reserve(1)?;
+        self.logs.reserve(self.nodes.len() + 1)?;
+        self.nodes.push(node)?;
+        let rt = self.rt;
+        match thread::spawn(&rt, move || run_node(&rt, &theirs, &inbox, sends)) {
+            Err(_) => Err(StartError::Thread),
+            Ok(thread) => {
+                self.threads.push_reserved(thread);
+                Ok(())
+            }
+        }
+    }
+
+    /// Puts an envelope into its addressee's inbox. Gives whether it is in there: not where that node doesn't run here,
+    /// where it has stopped, or without memory.
+    pub fn arrive(&self, envelope: Envelope<Command>) -> bool {
+        self.hub.deliver(&self.rt, envelope)
+    }
+
+    /// The desk of a node, if that node is here.
+    pub fn desk(&self, node: NodeId) -> Result<Option<NodeDesk<D, R, L>>, Memory>
+        ensures { IfOk result (λ desk. IfSome desk (λ desk. desk ≡ node)) }
+    {
+        let Some(handle) = self.find(node) else {
+            return Ok(None);
+        };
+        let hub = Arc::try_clone(&self.hub)?;
+        let handle = handle.share()?;
+        Ok(Some(NodeDesk::new(self.rt, handle, hub)))
+    }
+
+    /// The node stops, for good. Gives whether it was here and up until now.
+    pub fn crash(&self, node: NodeId) -> bool {
+        match self.find(node) {
+            None => false,
+            Some(handle) => handle.crash(&self.rt),
+        }
+    }
+
+    /// Time has passed for a node. Nothing where it isn't here, or has stopped.
+    pub fn tick(&self, node: NodeId) {
+        self.step(node, Input::Tick);
+    }
+
+    /// A node asks to lead. Nothing where it isn't here, or has stopped.
+    pub fn campaign(&self, node: NodeId) {
+        self.step(node, Input::Campaign);
+    }
+
+    fn step(&self, node: NodeId, input: Input) {
+        if let Some(handle) = self.find(node) {
+            let _none = handle.step(&self.rt, input);
+        }
+    }
+
+    /// How a node stands, if it is here.
+    pub fn status(&self, node: NodeId) -> Option<Status>
+        ensures { IfSome result (λ status. IsStatusOf D.setup node status) }
+    {
+        self.find(node)?.status(&self.rt)
+    }
+
+    fn find(&self, node: NodeId) -> Option<&NodeHandle<D, L>>
+        ensures { IfSome result (λ handle. handle.now.me ≡ node) }
+    {
+        self.nodes.iter().find(|handle| handle.me() == node)
+    }
+
+    pub(crate) fn runtime(&self) -> R {
+        self.rt
+    }
+
+    pub(crate) fn allocator(&self) -> Global {
+        self.alloc
+    }
+
+    /// Ends the threads, and gives the logs of the nodes, in the order in which these were started. From then on their
+    /// desks answer that they have stopped. Takes no memory.
+    pub fn stop(self) -> Vec<NodeLog> {
+        let Cluster {
+            rt,
+            alloc,
+            hub,
+            nodes,
+            threads,
+            logs,
+        } = self;
+        end_threads(&rt, alloc, &hub, threads);
+        retire_all(&rt, &nodes, logs)
+    }
+}
+
+impl<D: Deployment, R: Threads + Wait + Drop, L: Link + Drop> Drop for Cluster<D, R, L> {
+    fn drop(self) {
+        let Cluster {
+            rt,
+            alloc,
+            hub,
+            nodes,
+            threads,
+            logs,
+        } = self;
+        end_threads(&rt, alloc, &hub, threads);
+        drop(retire_all(&rt, &nodes, logs));
+    }
+}
+
+/// Closes the inboxes, so that each node's thread finds the end of its own, and joins the threads.
+fn end_threads<R: Threads + Wait>(rt: &R, alloc: Global, hub: &Hub, threads: Vec<JoinHandle<()>>) {
+    hub.close(rt, alloc);
+    for thread in threads {
+        thread.join(rt);
+    }
+}
+
+/// Takes the nodes away, and puts their logs behind those that are there.
+fn retire_all<D: Deployment, R: Wait, L: Link>(
+    rt: &R,
+    nodes: &[NodeHandle<D, L>],
+    mut logs: Vec<NodeLog>,
+) -> Vec<NodeLog>
+    requires { vec_len logs + length nodes.now ≤ vec_capacity logs }
+{
+    for node in nodes {
+        if let Some(log) = node.retire(rt) {
+            logs.push_reserved(log);
+        }
+    }
+    logs
+}

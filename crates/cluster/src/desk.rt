@@ -1,0 +1,117 @@
+//! A node's desk.
+ghost use Rattle.std.specs.Prelude.{◌≡◌, IfOk, IfSome};
+ghost use Rattle.session.specs.Desks.{given_by_ask, given_by_tell};
+ghost use Rattle.cluster.specs.Members.{IsGiven, IsStatusOf};
+
+use crate::handle::NodeHandle;
+use crate::hub::Hub;
+use crate::link::Link;
+use crate::op_kind::OpKind;
+use crate::setup::Deployment;
+use crate::status::Status;
+use ballot::{Envelope, Memory, NodeId};
+use maildrop::{Command, Name, Op, Outcome, Ticket};
+use node::Input;
+use session::{Desk, DeskStopped};
+use std::marker::Model;
+use std::sync::{Arc, Wait};
+
+/// The desk of one node: what it is asked is submitted there, and answered once it is decided and performed there. It may
+/// move to another thread. Contracts see it as the node's number.
+#[derive(Drop)]
+pub struct NodeDesk<D: Deployment, R: Wait, L: Link> {
+    rt: R,
+    node: NodeHandle<D, L>,
+    hub: Arc<Hub>,
+}
+
+impl<D: Deployment, R: Wait, L: Link> Model for NodeDesk<D, R, L> {
+    ghost use Rattle.std.specs.Prelude.{ℕ};
+
+    ghost Value = { ℕ };
+
+    ghost view = { λ d. d.node.me };
+}
+
+impl<D: Deployment, R: Wait, L: Link> NodeDesk<D, R, L> {
+    pub(crate) fn new(rt: R, node: NodeHandle<D, L>, hub: Arc<Hub>) -> Self
+        ensures { result ≡ node.me }
+    {
+        NodeDesk { rt, node, hub }
+    }
+
+    /// The node's number.
+    pub fn me(&self) -> NodeId
+        ensures { result ≡ self.now }
+    {
+        self.node.me()
+    }
+
+    /// The node stops, for good. Gives whether it was up until now.
+    pub fn crash(&self) -> bool {
+        self.node.crash(&self.rt)
+    }
+
+    /// Time has passed for the node. Nothing where it has stopped.
+    pub fn tick(&self) {
+        let _none = self.node.step(&self.rt, Input::Tick);
+    }
+
+    /// The node asks to lead. Nothing where it has stopped.
+    pub fn campaign(&self) {
+        let _none = self.node.step(&self.rt, Input::Campaign);
+    }
+
+    /// How the node stands, or nothing once its cluster has ended.
+    pub fn status(&self) -> Option<Status>
+        ensures { IfSome result (λ status. IsStatusOf D.setup self.now status) }
+    {
+        self.node.status(&self.rt)
+    }
+
+    /// Puts an envelope into the node's inbox. Gives whether it is in there: not where the envelope is to another node,
+    /// where the node has stopped, or without memory.
+    pub fn arrive(&self, envelope: Envelope<Command>) -> bool {
+        envelope.to == self.node.me() && self.hub.deliver(&self.rt, envelope)
+    }
+}
+
+impl<D: Deployment, R: Wait + Copy, L: Link> NodeDesk<D, R, L> {
+    /// Another desk of the same node.
+    pub fn share(&self) -> Result<Self, Memory>
+        ensures { IfOk result (λ desk. desk ≡ self.now) }
+    {
+        let hub = Arc::try_clone(&self.hub)?;
+        let node = self.node.share()?;
+        Ok(NodeDesk::new(self.rt, node, hub))
+    }
+}
+
+impl<D: Deployment, R: Wait, L: Link> Desk<Op, Outcome> for NodeDesk<D, R, L> {
+    ghost use Rattle.std.specs.Prelude.{◌≡◌};
+    ghost use Rattle.cluster.specs.Members.{IsGiven};
+
+    ghost gives = { λ before given after. (after ≡ before) × IsGiven D.setup before given };
+
+    /// Submits the operation, and waits until its outcome is there or the node has stopped.
+    fn ask(&mut self, name: Name, op: Op) -> Result<(Ticket, Outcome), DeskStopped> {
+        let kind = OpKind::of(&op);
+        let Some(ticket) = self.node.submit(&self.rt, name, op) else {
+            return Err(DeskStopped { ticket: None });
+        };
+        match self.node.wait_for(&self.rt, name, ticket) {
+            Some(outcome) if kind.fits(&outcome) => Ok((ticket, outcome)),
+            _ => Err(DeskStopped {
+                ticket: Some(ticket),
+            }),
+        }
+    }
+
+    /// Submits the operation.
+    fn tell(&mut self, name: Name, op: Op) -> Result<Ticket, DeskStopped> {
+        match self.node.submit(&self.rt, name, op) {
+            Some(ticket) => Ok(ticket),
+            None => Err(DeskStopped { ticket: None }),
+        }
+    }
+}

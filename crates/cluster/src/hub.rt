@@ -1,0 +1,59 @@
+//! The inboxes of a cluster.
+
+use ballot::{Envelope, Memory, NodeId};
+use crossbeam_channel::{Receiver, Sender, unbounded};
+use maildrop::Command;
+use std::alloc::{AllocError, Global};
+use std::sync::{Arc, RwLock, Wait};
+
+/// Where the thread of a node takes its envelopes from.
+pub(crate) type Inbox = Receiver<Envelope<Command>>;
+
+/// The end of an inbox that envelopes are put into.
+#[derive(Drop)]
+struct Slit {
+    node: NodeId,
+    sender: Sender<Envelope<Command>>,
+}
+
+/// The inboxes of all nodes that run here. No other place has a sender of them, so that closing the hub ends each
+/// inbox, and with it the thread that takes from it.
+#[derive(Drop)]
+pub(crate) struct Hub {
+    slits: RwLock<Vec<Slit>>,
+}
+
+impl Hub {
+    /// A hub without inboxes.
+    pub(crate) fn new(alloc: Global) -> Result<Arc<Hub>, Memory> {
+        let slits = RwLock::new(Vec::new(alloc));
+        Ok(Arc::new(alloc, Hub { slits })?)
+    }
+
+    /// Opens an inbox for a node.
+    pub(crate) fn open<R: Wait>(
+        &self,
+        rt: &R,
+        alloc: Global,
+        node: NodeId,
+    ) -> Result<Inbox, Memory> {
+        let (sender, inbox) = unbounded(alloc)?;
+        self.slits.write(rt).push(Slit { node, sender })?;
+        Ok(inbox)
+    }
+
+    /// Puts an envelope into its addressee's inbox. Gives whether it is in there: not where that node doesn't run here,
+    /// nor without memory.
+    pub(crate) fn deliver<R: Wait>(&self, rt: &R, envelope: Envelope<Command>) -> bool {
+        let slits = self.slits.read(rt);
+        match slits.iter().find(|slit| slit.node == envelope.to) {
+            None => false,
+            Some(slit) => slit.sender.send(rt, envelope).is_ok(),
+        }
+    }
+
+    /// Closes all inboxes: who takes from one finds what is left in it, and then its end. Takes no memory.
+    pub(crate) fn close<R: Wait>(&self, rt: &R, alloc: Global) {
+        *self.slits.write(rt) = Vec::new(alloc);
+    }
+}

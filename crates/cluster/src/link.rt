@@ -1,0 +1,33 @@
+//! How nodes reach one another.
+
+use crate::hub::Hub;
+use ballot::Envelope;
+use maildrop::Command;
+use std::sync::{Arc, Wait};
+
+/// Where a node's envelopes go. A link may lose them, and may hand each on late or more than once. It is called by
+/// several threads, none of which then has a node's lock.
+pub trait Link {
+    fn send(&self, envelope: Envelope<Command>);
+}
+
+/// A link to the inboxes of one cluster.
+#[derive(Drop)]
+pub struct InboxLink<R: Wait> {
+    rt: R,
+    hub: Arc<Hub>,
+}
+
+impl<R: Wait> InboxLink<R> {
+    pub(crate) fn new(rt: R, hub: Arc<Hub>) -> Self {
+        InboxLink { rt, hub }
+    }
+}
+
+impl<R: Wait> Link for InboxLink<R> {
+    /// An envelope to a node that isn't in the cluster, or that has stopped, is lost; so is one for which there is no
+    /// memory.
+    fn send(&self, envelope: Envelope<Command>) {
+        let _lost = self.hub.deliver(&self.rt, envelope);
+    }
+}

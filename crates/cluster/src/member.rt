@@ -1,0 +1,134 @@
+//! A node of a cluster, as it lies under its lock.
+ghost use Rattle.std.specs.Prelude.{◌≡◌, ℕ, [], false, IsSome, OnOk, IfOk, IfErr, IfSome, is_none, Some, None};
+ghost use Rattle.std.specs.Ordering.{is_eq};
+ghost use Rattle.maildrop.specs.CommandId.{CommandId, compare_ids};
+ghost use Rattle.node.specs.Replay.{sends_of, ticket_of};
+ghost use Rattle.node.specs.Nodes.{logged, stops_after, answer_of, answer_after, answered, IsKnown};
+ghost use Rattle.cluster.specs.Members.{IsLogOf, IsAnswered, IsStatusOf, status_of};
+
+use crate::setup::Deployment;
+use crate::status::Status;
+use ballot::NodeId;
+use maildrop::{Name, Outcome, Ticket};
+use node::{Input, Node, NodeLog, Outputs, Stopped};
+use std::marker::{Model, PhantomData};
+
+/// A node of the deployment. Whoever gets its lock knows with what it began, and by its own type that what it is
+/// follows from its log.
+#[derive(Drop)]
+pub(crate) struct Member<D: Deployment> {
+    node: Node,
+    of: PhantomData<D>,
+}
+
+impl<D: Deployment> Model for Member<D> {
+    ghost use Rattle.std.specs.declared.alloc.Global.{Global};
+    ghost use Rattle.node.specs.Nodes.{NodeValue};
+    ghost use Rattle.cluster.specs.Members.{IsLogOf};
+
+    ghost Value = { NodeValue Global };
+
+    ghost view = { λ m. m.node };
+
+    ghost invariant = { λ m. IsLogOf D.setup m.node.log.opening.me m.node.log };
+}
+
+impl<D: Deployment> Member<D> {
+    pub(crate) fn new(node: Node) -> Self
+        requires { IsLogOf D.setup node.log.opening.me node.log }
+        ensures { result ≡ node }
+    {
+        Member {
+            node,
+            of: PhantomData,
+        }
+    }
+
+    /// The node's number.
+    pub(crate) fn me(&self) -> NodeId
+        ensures { result ≡ self.now.log.opening.me }
+    {
+        self.node.me()
+    }
+
+    /// Whether the node takes inputs.
+    pub(crate) fn is_up(&self) -> bool
+        ensures { result ≡ is_none self.now.stopped }
+    {
+        self.node.stopped().is_none()
+    }
+
+    /// One input: an event of the node.
+    pub(crate) fn step(&mut self, input: Input) -> Result<Outputs, Stopped>
+        ensures log { OnOk result (self.new.log ≡ logged self.old.log input) }
+        ensures sends { IfOk result (λ outputs. outputs.sends ≡ sends_of self.old.log input) }
+        ensures ticket { IfOk result (λ outputs. outputs.ticket ≡ ticket_of self.old.log input) }
+        ensures stops { OnOk result (self.new.stopped ≡ stops_after input) }
+        ensures answers { OnOk result (stops_after input ≡ None → (id : CommandId) → answer_of id self.new.awaited ≡ answer_after self.old.log input id (answer_of id self.old.awaited)) }
+        ensures err { IfErr result (λ stop. self.new ≡ record { log = self.old.log; stopped = Some stop; awaited = [] }) }
+        ensures opening { self.new.log.opening ≡ self.old.log.opening }
+    {
+        self.node.step(input)
+    }
+
+    /// The node stops, for good. Gives whether it was up until now.
+    pub(crate) fn crash(&mut self) -> bool
+        ensures up { result ≡ is_none self.old.stopped }
+        ensures down { IsSome self.new.stopped }
+        ensures opening { self.new.log.opening ≡ self.old.log.opening }
+    {
+        let was_up = self.is_up();
+        let _crashed = self.step(Input::Crash);
+        was_up
+    }
+
+    /// Takes the answer to a user's command, once it is there.
+    pub(crate) fn take_answer(&mut self, user: Name, ticket: Ticket) -> Option<Outcome>
+        ensures answer { result ≡ answer_of (record { user = user; ticket = ticket }) self.old.awaited }
+        ensures given { IfSome result (λ outcome. answered self.old.log (record { user = user; ticket = ticket }) ≡ Some outcome) }
+        ensures logged { IfSome result (λ outcome. IsAnswered D.setup self.old.log.opening.me user ticket outcome) }
+        ensures gone { answer_of (record { user = user; ticket = ticket }) self.new.awaited ≡ None }
+        ensures others { (id : CommandId) → is_eq (compare_ids (record { user = user; ticket = ticket }) id) ≡ false
+            → answer_of id self.new.awaited ≡ answer_of id self.old.awaited }
+        ensures log { self.new.log ≡ self.old.log }
+        ensures stopped { self.new.stopped ≡ self.old.stopped }
+    {
+        let _ = &self.of;
+        self.node.take_answer(user, ticket)
+    }
+
+    /// How many commands the node has performed.
+    pub(crate) fn performed(&self) -> usize {
+        self.node.performed().len()
+    }
+
+    /// Whether it has performed a command of its own users, which wait for it here, behind as many others.
+    pub(crate) fn has_performed_own(&self, behind: usize) -> bool {
+        let me = self.node.me();
+        let mut news = self.node.performed().iter().skip(behind);
+        news.any(|(_, command)| command.ticket.get().0 == me)
+    }
+
+    /// How the node stands.
+    #[tactic(auto, using(crate::proofs::Statuses::status_as_logged))]
+    pub(crate) fn status(&self) -> Status
+        ensures up { result.up ≡ is_none self.now.stopped }
+        ensures known { IsKnown self.now.stopped → result ≡ status_of (is_none self.now.stopped) self.now.log }
+        ensures logged { IsStatusOf D.setup self.now.log.opening.me result }
+    {
+        let _ = &self.of;
+        Status {
+            up: self.is_up(),
+            active: self.node.is_active(),
+            slot_out: self.node.slot_out(),
+            waiting: self.node.waiting(),
+        }
+    }
+
+    pub(crate) fn into_log(self) -> NodeLog
+        ensures log { result ≡ self.log }
+        ensures opening { IsLogOf D.setup self.log.opening.me result }
+    {
+        self.node.into_log()
+    }
+}
