@@ -17,6 +17,7 @@ pub mod Logs
 pub mod Runs
 pub mod Theorems
 pub mod Outcomes
+pub mod Prefixes
 pub mod OwnOutcomes
 pub mod ServiceRuns
 pub mod Fitting
@@ -28,3 +29,4 @@ pub mod OneUser
 pub mod Unchanged
 pub mod Fit
 pub mod Reached
+pub mod Later

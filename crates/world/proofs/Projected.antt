@@ -1,7 +1,6 @@
 -- What a served client was told is a prefix of what a lone server says.
-use Rattle.std.proofs.Common.{◌≡◌, ℕ, List, [], ◌∷◌, ◌++◌, Some, refl, sym, ap, ◌∙◌, subst, inl, inr, ⊎_elim, append_assoc}
+use Rattle.std.proofs.Common.{◌≡◌, ℕ, List, [], ◌∷◌, ◌++◌, Some, refl, sym, ap, ◌∙◌, subst}
 use Rattle.std.specs.List.{concat}
-use Rattle.std.proofs.lemmas.List.{append-nil}
 use Rattle.maildrop.specs.Limits.{Limits}
 use Rattle.maildrop.specs.declared.command.Command.{Command}
 use Rattle.apop.specs.Accounts.{Account}
@@ -19,34 +18,13 @@ use Rattle.world.specs.Projection.{AreComparable, decided, own_commands, alone_b
 use Rattle.world.specs.Runs.{first_maildrop, own_of}
 use Rattle.world.specs.Services.{Service, Happening, opening_of, run_of}
 use Rattle.world.specs.declared.config.Config.{Config}
-use Rattle.world.proofs.Sessions.{concat_append, IsServed, AreOwn, tickets_in, tickets_front}
+use Rattle.world.proofs.Prefixes.{prefix_on, concat_prefix, shorter, common}
+use Rattle.world.proofs.Sessions.{IsServed, AreOwn, tickets_in, tickets_front}
 use Rattle.world.proofs.Once.{as_asked}
 use Rattle.world.proofs.ServiceRuns.{AreOfRun}
 use Rattle.world.proofs.Serving.{every_service}
 
 -- prefixes
-prefix_on : {X : Type 0} (xs ys zs : List X) → IsPrefix xs ys → IsPrefix ys zs → IsPrefix xs zs
-prefix_on {X} xs ys zs a b = (a.0 ++ b.0, sym (append_assoc xs a.0 b.0) ∙ (ap (λ (q : List X). q ++ b.0) a.1 ∙ b.1))
-
-concat_prefix : (xs ys : List (List ℕ)) → IsPrefix xs ys → IsPrefix (concat xs) (concat ys)
-concat_prefix xs ys p = (concat p.0, sym (concat_append xs p.0) ∙ ap concat p.1)
-
--- of two fronts of one list one is a front of the other
-shorter : {X : Type 0} (xs ys ps qs : List X) → xs ++ ps ≡ ys ++ qs → AreComparable xs ys
-shorter [] ys ps qs e = inl (ys, refl)
-shorter (x ∷ xs) [] ps qs e = inr (x ∷ xs, refl)
-shorter {X} (x ∷ xs) (y ∷ ys) ps qs e =
-    let first : x ≡ y = cc in
-    let rest : xs ++ ps ≡ ys ++ qs = cc in
-    ⊎_elim
-    (λ (p : IsPrefix xs ys). inl (p.0, ap (λ z. z ∷ (xs ++ p.0)) first ∙ ap (λ (zs : List X). y ∷ zs) p.1))
-    (λ (p : IsPrefix ys xs). inr (p.0, ap (λ z. z ∷ (ys ++ p.0)) (sym first) ∙ ap (λ (zs : List X). x ∷ zs) p.1))
-    (shorter xs ys ps qs rest)
-
--- the longer of two comparable lists
-common : {X : Type 0} (xs ys : List X) → AreComparable xs ys → (zs : List X) × IsPrefix xs zs × IsPrefix ys zs
-common {X} xs ys h = ⊎_elim (λ (p : IsPrefix xs ys). (ys, p, ([], append-nil ys))) (λ (p : IsPrefix ys xs). (xs, ([], append-nil xs), p)) h
-
 same_bytes : (accounts accounts2 : List Account) (limits limits2 : Limits) (stamp stamp2 : Stamp) → accounts ≡ accounts2 → limits ≡ limits2 → stamp ≡ stamp2 →
     (f : List Account → Limits → Stamp → List ℕ) → f accounts limits stamp ≡ f accounts2 limits2 stamp2
 same_bytes accounts accounts2 limits limits2 stamp stamp2 a l s f =

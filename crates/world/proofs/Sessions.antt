@@ -35,13 +35,7 @@ use Rattle.world.specs.Services.{next_id, after_answer, by_turn, opening_of}
 use Rattle.world.specs.declared.config.Config.{Config}
 use Rattle.world.proofs.Fitting.{Fits, StepFits, line_fits}
 use Rattle.world.proofs.OwnOutcomes.{outcome_later}
-
-pub concat_append : (xs ys : List (List ℕ)) → concat (xs ++ ys) ≡ concat xs ++ concat ys
-concat_append [] ys = refl
-concat_append (x ∷ xs) ys = ap (λ zs. x ++ zs) (concat_append xs ys) ∙ sym (append_assoc x (concat xs) (concat ys))
-
-concat_push : (xs : List (List ℕ)) (x : List ℕ) → concat (xs ++ x ∷ []) ≡ concat xs ++ x
-concat_push xs x = concat_append xs (x ∷ []) ∙ ap (λ zs. concat xs ++ zs) (append-nil x)
+use Rattle.world.proofs.Prefixes.{concat_push}
 
 module _ {A : Type 0} where
   abbrev pub tickets_in : List (Answer A) → List Ticket

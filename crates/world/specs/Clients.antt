@@ -1,5 +1,5 @@
 -- The clients of a service: what each sent, and what it was told.
-use Rattle.std.specs.Prelude.{ℕ, ◌==◌, List, [], ◌∷◌, ◌++◌, Option, map, if◌then◌else◌}
+use Rattle.std.specs.Prelude.{◌≡◌, ℕ, ◌==◌, List, [], ◌∷◌, ◌++◌, Option, map, if◌then◌else◌}
 use Rattle.std.specs.Map.{lookup}
 use Rattle.indexmap.specs.IndexMap.{insert_entry}
 use Rattle.maildrop.specs.CommandId.{CommandId}
@@ -7,6 +7,7 @@ use Rattle.maildrop.specs.Ticket.{Ticket}
 use Rattle.apop.specs.Stamp.{Stamp}
 use Rattle.pop3_wire.specs.Reply.{greeting}
 use Rattle.pop3_wire.specs.declared.line.Line.{Line}
+use Rattle.session.specs.Prefix.{IsPrefix}
 use Rattle.session.specs.Session.{opening}
 use Rattle.session.specs.declared.state.State.{State}
 
@@ -52,6 +53,14 @@ module _ {A : Type 0} where
   -- its last line asked for an operation, which got this ticket
   abbrev pub asking : Client A → Ticket → Standing A → Client A
   asking c ticket standing = record c { tickets = c.tickets ++ ticket ∷ []; standing = standing }
+
+  -- the same client later: what it sent, got and was told stays, and more comes behind
+  pub record IsLater (c later : Client A) : Type 0 where
+    pub node : later.node ≡ c.node
+    pub stamp : later.stamp ≡ c.stamp
+    pub lines : IsPrefix c.lines later.lines
+    pub tickets : IsPrefix c.tickets later.tickets
+    pub replies : IsPrefix c.replies later.replies
 
   -- by their sessions' numbers, in the order in which they connected
   abbrev pub client_of : ℕ → List (ℕ × Client A) → Option (Client A)

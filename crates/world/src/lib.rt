@@ -20,6 +20,6 @@ pub use refused::Refused;
 pub use sent::Sent;
 pub use service_laws::{
     answers_fit, one_user, projection, refused_changes_nothing, services_run_on_nodes,
-    tickets_of_sessions, two_runs,
+    tickets_of_sessions, two_runs, what_was_told_stays,
 };
 pub use session_id::SessionId;

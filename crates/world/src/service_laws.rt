@@ -3,14 +3,14 @@
 //! A run is any list of happenings: events, and sessions that are lost for want of memory. One that can't happen changes
 //! nothing, so a law of all lists is one of those too in which each event can happen. Where a node finds no memory its
 //! run has a crash.
-ghost use Rattle.std.specs.Prelude.{◌≡◌, ℕ, List, Some, is_some, true};
+ghost use Rattle.std.specs.Prelude.{◌≡◌, ℕ, List, ◌++◌, Some, is_some, true};
 ghost use Rattle.maildrop.specs.CommandId.{CommandId};
 ghost use Rattle.maildrop.specs.declared.outcome.Outcome.{Outcome};
 ghost use Rattle.node.specs.Nodes.{answered};
 ghost use Rattle.node.specs.declared.log.NodeLog.{NodeLog};
 ghost use Rattle.session.specs.Session.{by_answer};
 ghost use Rattle.session.specs.declared.state.State.{State};
-ghost use Rattle.world.specs.Clients.{Client, Waits, client_of};
+ghost use Rattle.world.specs.Clients.{Client, IsLater, Waits, client_of};
 ghost use Rattle.world.specs.Messages.{NodeEvent, log_of, network_of};
 ghost use Rattle.world.specs.Projection.{IsProjected, Agree, AreComparable, HasOneUser, HasTickets};
 ghost use Rattle.world.specs.Refusals.{refusal_of};
@@ -60,6 +60,13 @@ pub fn answers_fit<A: Allocator>()
         → log_of c.node (run_of config happenings).network.logs ≡ Some log
         → answered log id ≡ Some answer
         → is_some (by_answer state id.ticket answer) ≡ true }
+{}
+
+/// A client stays, with its node and its greeting. What it sent and was told stays, and more comes behind.
+pub fn what_was_told_stays<A: Allocator>()
+    ensures { (config : Config A) (early late : List (Happening A)) (session : ℕ) (c : Client A) →
+        client_of session (run_of config early).clients ≡ Some c
+        → (later : Client A) × (client_of session (run_of config (early ++ late)).clients ≡ Some later) × IsLater c later }
 {}
 
 /// An event that is refused changes nothing.
