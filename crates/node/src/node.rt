@@ -144,6 +144,7 @@ impl<A: Allocator + Copy> Node<A> {
         ensures given { IfSome result (λ outcome. answered self.old.log (record { user = user; ticket = ticket }) ≡ Some outcome) }
         ensures log { self.new.log ≡ self.old.log }
         ensures stopped { self.new.stopped ≡ self.old.stopped }
+        ensures none { IfSome self.old.stopped (λ _. result ≡ None) }
         ensures gone { answer_of (record { user = user; ticket = ticket }) self.new.awaited ≡ None }
         ensures others { (id : CommandId) → is_eq (compare_ids (record { user = user; ticket = ticket }) id) ≡ false
             → answer_of id self.new.awaited ≡ answer_of id self.old.awaited }
@@ -179,6 +180,7 @@ impl<A: Allocator + Copy> Node<A> {
     pub fn stopped(&self) -> Option<Stopped>
         ensures value { result ≡ self.now.stopped }
         ensures crashed { (result ≡ Some Stopped.Crashed) ↔ (list_any is_crash self.now.log.inputs ≡ true) }
+        ensures awaits_none { IfSome result (λ _. self.now.awaited ≡ []) }
     {
         self.stopped
     }
