@@ -14,7 +14,7 @@ use Rattle.script.specs.Keys.{IsKeyPrefix, last_message, numbered_key}
 digit_visible : (c : ℕ) → digit_value c < 10 → is_visible c ≡ true
 digit_visible c small = grind (arith, nat_tests)
 
-digits_visible : (ds : List ℕ) → AllDigits 10 ds → list_all is_visible ds ≡ true
+pub digits_visible : (ds : List ℕ) → AllDigits 10 ds → list_all is_visible ds ≡ true
 digits_visible [] all = refl
 digits_visible (c ∷ cs) all = and_from _ _ (digit_visible c all.0) (digits_visible cs all.1)
 

@@ -1,21 +1,22 @@
 -- What an operator asks: a word and then others, with one space between.
-use Rattle.std.specs.Prelude.{ℕ, ◌++◌, ◌^◌, nat_lt, List, [], length, codes, decimal, if◌then◌else◌, Option, None, Some, option_and_then}
+use Rattle.std.specs.Prelude.{ℕ, ◌≤◌, ◌++◌, ◌^◌, nat_lt, List, [], length, codes, decimal, if◌then◌else◌, Option, None, Some, option_and_then}
 use Rattle.std.specs.Option.{option_map}
 use Rattle.std.specs.Str.{bytes_eq}
 use Rattle.apop.specs.Accounts.{cut_at_space}
+use Rattle.maildrop.specs.Name.{IsName}
 use Rattle.pop3_wire.specs.Commands.{name_of}
 use Rattle.script.specs.Commands.{both_of, node_and_user}
-use Rattle.script.specs.Keys.{prefix_of}
-use Rattle.script.specs.Words.{number_between, node_of}
+use Rattle.script.specs.Keys.{IsKeyPrefix, prefix_of}
+use Rattle.script.specs.Words.{last_node, number_between, node_of}
 use Rattle.script.specs.declared.request.Request.{Request}
 use Rattle.script.specs.declared.request.Request.TheVariants as request
 
 -- the most bytes of a file that is delivered
-abbrev pub most_bytes : ℕ
-most_bytes = 2 ^ 30
+abbrev pub largest_file : ℕ
+largest_file = 2 ^ 30
 
 abbrev pub count_of : List ℕ → Option ℕ
-count_of bytes = number_between 0 most_bytes bytes
+count_of bytes = number_between 0 largest_file bytes
 
 abbrev pub count_and_key_of : Option (List ℕ × List ℕ) → List ℕ → Option (ℕ × Option (List ℕ))
 count_and_key_of None rest = option_map (λ count. (count, None)) (count_of rest)
@@ -72,3 +73,15 @@ request_text (request.Break at user) = codes "break " ++ decimal at ++ codes " "
 request_text (request.Crash at) = codes "crash " ++ decimal at
 request_text request.Status = codes "status"
 request_text request.Stop = codes "stop"
+
+abbrev pub HasKeyPrefix : Option (List ℕ) → Type 0
+HasKeyPrefix None = Unit {0}
+HasKeyPrefix (Some prefix) = IsKeyPrefix prefix
+
+-- the parts of a request are in their ranges
+abbrev pub IsRequest : Request → Type 0
+IsRequest (request.Deliver at user count key) = (1 ≤ at) × (at ≤ last_node) × IsName user × (count ≤ largest_file) × HasKeyPrefix key
+IsRequest (request.Break at user) = (1 ≤ at) × (at ≤ last_node) × IsName user
+IsRequest (request.Crash at) = (1 ≤ at) × (at ≤ last_node)
+IsRequest request.Status = Unit {0}
+IsRequest request.Stop = Unit {0}

@@ -12,7 +12,7 @@ use maildrop::Name;
 pub const LONGEST_REQUEST: usize = 511;
 
 /// The most bytes of a file that is delivered.
-pub const MOST_BYTES: u64 = 1 << 30;
+pub const LARGEST_FILE: u64 = 1 << 30;
 
 /// What an operator asks of a running service, one request a connection.
 #[derive(Drop)]
@@ -43,7 +43,7 @@ pub enum Request {
 fn count_of(bytes: &[u8]) -> Option<u64>
     ensures { result ≡ spec.count_of bytes.now }
 {
-    number_between(0, MOST_BYTES, bytes)
+    number_between(0, LARGEST_FILE, bytes)
 }
 
 /// `COUNT` or `COUNT KEY`.

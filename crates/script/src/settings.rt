@@ -14,6 +14,19 @@ use std::alloc::{Allocator, Global};
 use std::collections::BTreeSet;
 use std::marker::Model;
 
+/// The limits of each maildrop, where a script sets none.
+const MESSAGES: u64 = 1_000;
+
+const OCTETS: u64 = 1_000_000;
+
+const IDS: u64 = 1_000_000;
+
+/// The window, where a script sets none.
+const WINDOW: u64 = 10;
+
+/// The host, where a script sets none.
+const HOST: &[u8] = b"localhost";
+
 /// What a script sets: one node, maildrops of 1,000 messages, 1,000,000 octets and unique ids up to 1,000,000, a window
 /// of 10 slots, the host `localhost` and no accounts, where it sets nothing else.
 #[derive(Drop)]
@@ -51,9 +64,9 @@ impl<A: Allocator + Copy> Settings<A> {
     {
         Settings {
             cluster: Cluster::new(1).unwrap(),
-            limits: Limits::new(1000, 1_000_000, 1_000_000).unwrap(),
-            window: Window::new(10).unwrap(),
-            host: Host::new(b"localhost").unwrap(),
+            limits: Limits::new(MESSAGES, OCTETS, IDS).unwrap(),
+            window: Window::new(WINDOW).unwrap(),
+            host: Host::new(HOST).unwrap(),
             rows: Vec::new(alloc),
             names: BTreeSet::new(alloc),
         }
