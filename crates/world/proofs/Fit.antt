@@ -21,14 +21,16 @@ use Rattle.session.specs.declared.state.State.{State}
 use Rattle.session.proofs.Users.{user_asked}
 use Rattle.session.proofs.Calls.{talk_conversation}
 use Rattle.world.specs.Clients.{Client, Waits, client_of}
-use Rattle.world.specs.Messages.{log_of, network_of, IsSubmitIn}
+use Rattle.node.specs.Submits.{IsSubmitted}
+use Rattle.world.specs.Messages.{log_of, network_of}
 use Rattle.world.specs.Projection.{decided, AreSubmitted}
-use Rattle.world.specs.Runs.{IsOutcomeOf, order_of, first_maildrop, own_of}
+use Rattle.node.specs.Outcomes.{IsOutcomeOf, first_maildrop, own_of}
+use Rattle.world.specs.Runs.{order_of}
 use Rattle.world.specs.Services.{Service, Happening, opening_of, run_of}
 use Rattle.world.specs.declared.config.Config.{Config}
 use Rattle.world.proofs.Fitting.{outcome_fits}
 use Rattle.world.proofs.Logs.{some_same}
-use Rattle.world.proofs.Once.{one_as_asked}
+use Rattle.world.proofs.AsAsked.{one_as_asked}
 use Rattle.world.proofs.Outcomes.{answer_own}
 use Rattle.world.proofs.ServiceRuns.{AreOfRun}
 use Rattle.world.proofs.Serving.{every_service}
@@ -57,7 +59,7 @@ module _ {A : Type 0} where
   keeps_maildrop maildrop (c ∷ commands) = keeps_maildrop ((effect_of maildrop c.ticket c.op).after) commands
 
   -- the last ticket is that of the last that was asked for
-  last_submitted : (log : NodeLog A) (rs : List (Request A)) (r : Request A) (ts : List Ticket) (t : Ticket) → AreSubmitted log (rs ++ r ∷ []) (ts ++ t ∷ []) → IsSubmitIn log (record { user = r.user; ticket = t; op = r.op })
+  last_submitted : (log : NodeLog A) (rs : List (Request A)) (r : Request A) (ts : List Ticket) (t : Ticket) → AreSubmitted log (rs ++ r ∷ []) (ts ++ t ∷ []) → IsSubmitted log (record { user = r.user; ticket = t }) r.op
   last_submitted log [] r [] t h = h.0
   last_submitted log [] r (x ∷ []) t h = absurd h.1
   last_submitted log [] r (x ∷ (y ∷ ts)) t h = absurd h.1
@@ -94,7 +96,7 @@ module _ {A : Type 0} where
         let user : d.user ≡ asks.last.user = ap (λ x. x.user) outcome.its ∙ sym asks.user in
         let among : IsIn (outcome.slot, d) (order_of first run.0) = subst (IsIn (outcome.slot, d)) (sym outcome.order) (in_middle outcome.before outcome.after (outcome.slot, d)) in
         let op : d.op ≡ asks.last.op =
-        one_as_asked first run.0 c.node log its_log (record { user = asks.last.user; ticket = id.ticket; op = asks.last.op }) d outcome.slot among submitted user (ap (λ x. x.ticket) outcome.its) in
+        one_as_asked first run.0 c.node log its_log (record { user = asks.last.user; ticket = id.ticket }) asks.last.op d outcome.slot among submitted (λ i. record { user = user i; ticket = ap (λ x. x.ticket) outcome.its i }) in
         let one_user : AreForOneUser cfg.accounts s.talk.asked = subst (AreForOneUser cfg.accounts) (ap (λ q. q.asked) (talk_conversation cfg.accounts c.stamp s.talk s.is)) (user_asked cfg.accounts c.stamp s.talk.lines s.talk.answers) in
         let known : is_some (account_named cfg.accounts d.user) ≡ true = subst (λ u. is_some (account_named cfg.accounts u) ≡ true) (sym user) (last_known cfg.accounts s.talk.asked asks.before asks.last asks.asked one_user) in
         let begins = has_maildrop cfg.limits cfg.accounts d.user known in

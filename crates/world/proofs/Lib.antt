@@ -23,7 +23,7 @@ pub mod ServiceRuns
 pub mod Fitting
 pub mod Sessions
 pub mod Serving
-pub mod Once
+pub mod AsAsked
 pub mod Projected
 pub mod OneUser
 pub mod Unchanged

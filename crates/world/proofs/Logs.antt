@@ -1,5 +1,5 @@
 -- The logs of the nodes, by the nodes' numbers.
-use Rattle.std.proofs.Common.{◌≡◌, ◌≢◌, ℕ, zero, suc, ◌+◌, ◌-◌, List, [], ◌∷◌, ◌++◌, Some, refl, sym, ap, ◌∙◌, subst, inl, inr, ⊎_elim, arith, cond, eqb, set, map, append_assoc}
+use Rattle.std.proofs.Common.{◌≡◌, ◌≢◌, ℕ, zero, suc, ◌+◌, ◌-◌, List, [], ◌∷◌, ◌++◌, Some, refl, sym, ap, ◌∙◌, subst, inl, inr, ⊎_elim, arith, cond, eqb, set, map}
 use Rattle.std.specs.Prelude.{slice_get}
 use Rattle.std.proofs.lemmas.Bool.{cases_eq, eq-eqb, ne_eqb}
 use Rattle.ballot.specs.Lists.{IsIn}
@@ -8,10 +8,12 @@ use Rattle.ballot.proofs.Member.{in_got}
 use Rattle.maildrop.specs.declared.command.Command.{Command}
 use Rattle.node.specs.Nodes.{logged}
 use Rattle.node.specs.declared.input.Input.{Input}
-use Rattle.node.specs.declared.input.Input.TheVariants.{Submit}
 use Rattle.node.specs.declared.log.Opening.{Opening}
 use Rattle.node.specs.declared.log.NodeLog.{NodeLog}
-use Rattle.world.specs.Messages.{log_of, newly_sent, with_arrival, new_logs, IsSubmitIn, WasSubmitted}
+use Rattle.node.proofs.Submitting.{submitted_later}
+use Rattle.maildrop.specs.Same.{identity_of}
+use Rattle.node.specs.Submits.{IsSubmitted}
+use Rattle.world.specs.Messages.{log_of, newly_sent, with_arrival, new_logs, WasSubmitted}
 use Rattle.world.specs.declared.sent.Sent.{Sent}
 
 pub some_same : {X : Type 0} (a b : X) → Some a ≡ Some b → a ≡ b
@@ -70,15 +72,10 @@ module _ {A : Type 0} where
       ⊎_elim
       (λ (q : c.ticket.node ≡ n).
       let same : log ≡ h.0 = some_same log h.0 (sym e ∙ subst (λ k. log_of k logs ≡ Some h.0) q h.1) in
-      let x : IsSubmitIn log c = subst (λ l. IsSubmitIn l c) (sym same) h.2 in (
+      let x : IsSubmitted log (identity_of c) c.op = subst (λ l. IsSubmitted l (identity_of c) c.op) (sym same) h.2 in (
         logged log i,
         subst (λ k. log_of k (set logs (n - 1) (logged log i)) ≡ Some (logged log i)) (sym q) (log_same logs n log (logged log i) e),
-        record {
-          before = x.before;
-          after = x.after ++ i ∷ [];
-          inputs = ap (λ is. is ++ i ∷ []) x.inputs ∙ append_assoc x.before (Submit c.user c.op ∷ x.after) (i ∷ []);
-          ticket = x.ticket;
-        },
+        submitted_later log (i ∷ []) (identity_of c) c.op x,
       ))
       (λ (ne : c.ticket.node ≢ n). (h.0, log_other logs n log (logged log i) e c.ticket.node ne ∙ h.1, h.2))
       (cases_eq c.ticket.node n)

@@ -19,7 +19,7 @@ use Rattle.node.specs.declared.log.Opening.{Opening}
 use Rattle.session.specs.Alone.{outcome_of}
 use Rattle.session.specs.Prefix.{IsPrefix}
 use Rattle.session.proofs.Longer.{outcome-stays}
-use Rattle.world.specs.Runs.{IsOutcomeOf, first_maildrop, own_of}
+use Rattle.node.specs.Outcomes.{IsOutcomeOf, first_maildrop, own_of}
 
 module _ {A : Type 0} where
   own_append : (user : List ℕ) (xs ys : List (ℕ × Command A)) → own_of user (xs ++ ys) ≡ own_of user xs ++ own_of user ys

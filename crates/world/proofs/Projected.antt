@@ -15,12 +15,12 @@ use Rattle.session.proofs.Longer.{replies_longer}
 use Rattle.world.specs.Clients.{Client, client_of}
 use Rattle.world.specs.Messages.{log_of}
 use Rattle.world.specs.Projection.{AreComparable, decided, own_commands, alone_bytes, IsProjected, Agree, asked_by, AreSubmitted, AreDecidedAsAsked, HasTickets}
-use Rattle.world.specs.Runs.{first_maildrop, own_of}
+use Rattle.node.specs.Outcomes.{first_maildrop, own_of}
 use Rattle.world.specs.Services.{Service, Happening, opening_of, run_of}
 use Rattle.world.specs.declared.config.Config.{Config}
 use Rattle.world.proofs.Prefixes.{prefix_on, concat_prefix, shorter, common}
 use Rattle.world.proofs.Sessions.{IsServed, AreOwn, tickets_in, tickets_front}
-use Rattle.world.proofs.Once.{as_asked}
+use Rattle.world.proofs.AsAsked.{as_asked}
 use Rattle.world.proofs.ServiceRuns.{AreOfRun}
 use Rattle.world.proofs.Serving.{every_service}
 

@@ -72,7 +72,7 @@ module _ {A : Type 0} where
         go (Submit name op) e f = (
           logged log i,
           log_same w.logs n log (logged log i) at,
-          record { before = log.inputs; after = []; inputs = ap (λ j. log.inputs ++ j ∷ []) e; ticket = ap (λ m. Some (next_ticket m name log.inputs)) its_number },
+          record { before = log.inputs; after = []; inputs = ap (λ j. log.inputs ++ j ∷ []) e; ticket = sym (ap (λ m. next_ticket m name log.inputs) its_number) },
         )
         go (Arrive e) q f = f
         go Tick e f = tt

@@ -17,7 +17,8 @@ use Rattle.world.specs.Clients.{Standing, Hears, Waits, Shut, Stranded, Over, Cl
 use Rattle.world.specs.Messages.{Network, NodeEvent, Submits, Arrives, Ticks, Campaigns, Crashes, happen, log_of, is_up, network_of, new_network, envelopes}
 use Rattle.world.specs.Messages as network
 use Rattle.world.specs.Projection.{decided, own_commands}
-use Rattle.world.specs.Runs.{first_maildrop, order_of}
+use Rattle.node.specs.Outcomes.{first_maildrop}
+use Rattle.world.specs.Runs.{order_of}
 use Rattle.world.specs.Services.{Service, Happening, Occurs, Lost, opening_of, if_up, if_served, connects, after_line, hears_line, takes_answer, collects, gives_back, hangs_up, loses_answer, is_lost, occurs, happens}
 use Rattle.world.specs.declared.config.Config.{Config}
 use Rattle.world.specs.declared.event.Event.{Event}

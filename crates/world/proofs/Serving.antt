@@ -25,7 +25,7 @@ use Rattle.world.specs.Clients.{Standing, Hears, Waits, Shut, Stranded, Over, Cl
 use Rattle.world.specs.Messages.{Network, NodeEvent, Submits, Arrives, Ticks, Campaigns, Crashes, log_of, is_up, newly_sent, taken_by, takes, with_arrival, arrives}
 use Rattle.world.specs.Messages as network
 use Rattle.world.specs.Projection.{decided}
-use Rattle.world.specs.Runs.{first_maildrop, own_of}
+use Rattle.node.specs.Outcomes.{first_maildrop, own_of}
 use Rattle.world.specs.Services.{Service, Happening, Occurs, Lost, opening_of, new_service, at_nodes, keeps, submits, if_up, if_served, connects, after_line, hears_line, after_answer, by_turn, takes_answer, collects, gives_back, hangs_up, loses_answer, is_lost, crashes, occurs, happens, run_of}
 use Rattle.world.specs.declared.config.Config.{Config}
 use Rattle.world.specs.declared.event.Event.{Event}

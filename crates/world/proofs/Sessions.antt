@@ -1,5 +1,5 @@
 -- What holds of each client of a run, and what each line and each answer leave of it.
-use Rattle.std.proofs.Common.{◌≡◌, ℕ, List, [], ◌∷◌, ◌++◌, length, Bool, true, false, Option, Some, None, refl, sym, ap, ◌∙◌, subst, cond, eqb, map, append_assoc}
+use Rattle.std.proofs.Common.{◌≡◌, ℕ, List, [], ◌∷◌, ◌++◌, length, Bool, true, false, Option, Some, None, refl, sym, ap, ◌∙◌, subst, cond, eqb, map}
 use Rattle.std.specs.Prelude.{⊤}
 use Rattle.std.specs.List.{concat}
 use Rattle.std.proofs.lemmas.List.{append-nil}
@@ -14,6 +14,7 @@ use Rattle.node.specs.Nodes.{logged}
 use Rattle.node.specs.declared.input.Input.{Input}
 use Rattle.node.specs.declared.input.Input.TheVariants.{Submit}
 use Rattle.node.specs.declared.log.NodeLog.{NodeLog}
+use Rattle.node.proofs.Submitting.{submitted_later}
 use Rattle.session.specs.Alone.{outcome_of}
 use Rattle.session.specs.Asking.{AreFor}
 use Rattle.session.specs.Calls.{HearLine, HearAnswer, Talk, said_by, asked_by, after_turn, talk_begun, IsTalk}
@@ -28,9 +29,8 @@ use Rattle.session.specs.declared.state.Turn.{Turn}
 use Rattle.session.proofs.Calls.{call_talk, begun_talk}
 use Rattle.session.proofs.Settled.{line_settles, answer_settles}
 use Rattle.world.specs.Clients.{Standing, Hears, Waits, Shut, Stranded, Over, Client, new_client, standing_as, told, with_line, asking, stranded, without_node}
-use Rattle.world.specs.Messages.{IsSubmitIn}
 use Rattle.world.specs.Projection.{AreSubmitted}
-use Rattle.world.specs.Runs.{first_maildrop, own_of}
+use Rattle.node.specs.Outcomes.{first_maildrop, own_of}
 use Rattle.world.specs.Services.{next_id, after_answer, by_turn, opening_of}
 use Rattle.world.specs.declared.config.Config.{Config}
 use Rattle.world.proofs.Fitting.{Fits, StepFits, line_fits}
@@ -100,19 +100,11 @@ module _ {A : Type 0} where
   own_later cfg order later front user (a ∷ answers) h = (outcome_later (opening_of cfg) user a.ticket a.outcome order later front h.0, own_later cfg order later front user answers h.1)
 
   -- a longer log
-  in_more : (log : NodeLog A) (more : List (Input A)) (c : Command A) → IsSubmitIn log c → IsSubmitIn (record { opening = log.opening; inputs = log.inputs ++ more }) c
-  in_more log more c h = record {
-    before = h.before;
-    after = h.after ++ more;
-    inputs = ap (λ is. is ++ more) h.inputs ∙ append_assoc h.before (Submit c.user c.op ∷ h.after) more;
-    ticket = h.ticket;
-  }
-
   pub submitted_more : (log : NodeLog A) (more : List (Input A)) (rs : List (Request A)) (ts : List Ticket) → AreSubmitted log rs ts → AreSubmitted (record { opening = log.opening; inputs = log.inputs ++ more }) rs ts
   submitted_more log more [] [] h = tt
   submitted_more log more [] (t ∷ ts) h = absurd h
   submitted_more log more (r ∷ rs) [] h = absurd h
-  submitted_more log more (r ∷ rs) (t ∷ ts) h = (in_more log more (record { user = r.user; ticket = t; op = r.op }) h.0, submitted_more log more rs ts h.1)
+  submitted_more log more (r ∷ rs) (t ∷ ts) h = (submitted_later log more (record { user = r.user; ticket = t }) r.op h.0, submitted_more log more rs ts h.1)
 
   submitted_push : (log : NodeLog A) (number : ℕ) (user : List ℕ) (op : Op A) (rs : List (Request A)) (ts : List Ticket) → AreSubmitted log rs ts →
       AreSubmitted (logged log (Submit user op)) (rs ++ record { line = number; user = user; op = op } ∷ []) (ts ++ (next_id log user).ticket ∷ [])
@@ -120,7 +112,7 @@ module _ {A : Type 0} where
   submitted_push log number user op [] (t ∷ ts) h = absurd h
   submitted_push log number user op (r ∷ rs) [] h = absurd h
   submitted_push log number user op (r ∷ rs) (t ∷ ts) h =
-      (in_more log (Submit user op ∷ []) (record { user = r.user; ticket = t; op = r.op }) h.0, submitted_push log number user op rs ts h.1)
+      (submitted_later log (Submit user op ∷ []) (record { user = r.user; ticket = t }) r.op h.0, submitted_push log number user op rs ts h.1)
 
   module _ (cfg : Config A) (order : List (ℕ × Command A)) where
     -- more that is decided, and more that its node takes, change nothing

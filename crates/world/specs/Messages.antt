@@ -4,8 +4,10 @@ use Rattle.std.specs.List.{list_any}
 use Rattle.ballot.specs.declared.message.Envelope.{Envelope}
 use Rattle.maildrop.specs.declared.command.Command.{Command}
 use Rattle.maildrop.specs.declared.op.Op.{Op}
-use Rattle.node.specs.Replay.{sends_of, ticket_of, is_crash}
+use Rattle.maildrop.specs.Same.{identity_of}
+use Rattle.node.specs.Replay.{sends_of, is_crash}
 use Rattle.node.specs.Nodes.{logged}
+use Rattle.node.specs.Submits.{IsSubmitted}
 use Rattle.node.specs.declared.input.Input.{Input}
 use Rattle.node.specs.declared.input.Input.TheVariants.{Submit, Arrive, Tick, Campaign, Crash}
 use Rattle.node.specs.declared.log.Opening.{Opening}
@@ -92,13 +94,6 @@ module _ {A : Type 0} where
   abbrev pub envelopes : Network A → List (Envelope (Command A) A)
   envelopes w = map (λ s. s.envelope) w.sent
 
-  -- the log has a Submit of the command's operation for its user, and the node gave it the command's ticket
-  pub record IsSubmitIn (log : NodeLog A) (c : Command A) : Type 0 where
-    pub before : List (Input A)
-    pub after : List (Input A)
-    pub inputs : log.inputs ≡ before ++ Submit c.user c.op ∷ after
-    pub ticket : ticket_of (record { opening = log.opening; inputs = before }) (Submit c.user c.op) ≡ Some c.ticket
-
-  -- the command was submitted at the node of its ticket
+  -- the command was submitted at the node of its ticket, which gave it that ticket
   abbrev pub WasSubmitted : List (NodeLog A) → Command A → Type 0
-  WasSubmitted logs c = (log : NodeLog A) × (log_of c.ticket.node logs ≡ Some log) × IsSubmitIn log c
+  WasSubmitted logs c = (log : NodeLog A) × (log_of c.ticket.node logs ≡ Some log) × IsSubmitted log (identity_of c) c.op

@@ -15,8 +15,9 @@ use Rattle.node.specs.Replay.{mail_rules}
 use Rattle.node.specs.declared.log.NodeLog.{NodeLog}
 use Rattle.world.specs.Clients.{Client}
 use Rattle.world.specs.Decided.{decided_order}
-use Rattle.world.specs.Messages.{envelopes, log_of, IsSubmitIn}
-use Rattle.world.specs.Runs.{first_maildrop, own_of}
+use Rattle.node.specs.Submits.{IsSubmitted}
+use Rattle.world.specs.Messages.{envelopes, log_of}
+use Rattle.node.specs.Outcomes.{first_maildrop, own_of}
 use Rattle.world.specs.Services.{Service, opening_of}
 use Rattle.world.specs.declared.config.Config.{Config}
 
@@ -78,7 +79,7 @@ module _ {A : Type 0} where
   AreSubmitted log [] (ticket ∷ tickets) = ⊥
   AreSubmitted log (request ∷ requests) [] = ⊥
   AreSubmitted log (request ∷ requests) (ticket ∷ tickets) =
-      IsSubmitIn log (record { user = request.user; ticket = ticket; op = request.op }) × AreSubmitted log requests tickets
+      IsSubmitted log (record { user = request.user; ticket = ticket }) request.op × AreSubmitted log requests tickets
 
   -- Each of these operations is decided as it was asked for: a decided command of its user with its ticket is it.
   abbrev pub AreDecidedAsAsked : List (ℕ × Command A) → List (Request A) → List Ticket → Type 0

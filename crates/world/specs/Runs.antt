@@ -1,16 +1,11 @@
 -- What is decided in a run.
-use Rattle.std.specs.Prelude.{◌≡◌, refl, ℕ, List, [], ◌∷◌, ◌++◌, map, false, Option, Some, option_map}
+use Rattle.std.specs.Prelude.{◌≡◌, refl, ℕ, List, [], ◌∷◌, ◌++◌, Some, option_map}
 use Rattle.maildrop.specs.declared.command.Command.{Command}
 use Rattle.maildrop.specs.declared.op.Op.TheVariants.{Take}
-use Rattle.maildrop.specs.CommandId.{CommandId}
 use Rattle.maildrop.specs.Limits.{Limits}
-use Rattle.maildrop.specs.Maildrop.{Maildrop}
-use Rattle.maildrop.specs.Office.{new_user, maildrop_of, maildrop_after_all, outcome_at, commands_of}
 use Rattle.maildrop.specs.Same.{identity_of}
-use Rattle.maildrop.specs.declared.outcome.Outcome.{Outcome}
 use Rattle.maildrop.specs.declared.outcome.Outcome.TheVariants.{Taken}
 use Rattle.node.specs.Nodes.{answered}
-use Rattle.replica.specs.Replicas.{has_identity}
 use Rattle.node.specs.Replay.{mail_rules, replayed}
 use Rattle.node.specs.declared.log.Opening.{Opening}
 use Rattle.world.specs.Chosen.{IsChosen}
@@ -25,25 +20,6 @@ module _ {A : Type 0} where
   -- the decided order of the run, each command with its slot
   abbrev pub order_of : Opening A → List (NodeEvent A) → List (ℕ × Command A)
   order_of first events = decided_order mail_rules first.cluster (envelopes (network_of first events))
-
-  -- the user's maildrop as it begins, if the user has one
-  abbrev pub first_maildrop : Opening A → List ℕ → Option (Maildrop A)
-  first_maildrop first name = maildrop_of name (map (new_user first.limits) first.names)
-
-  -- of commands with their slots those for the user
-  abbrev pub own_of : List ℕ → List (ℕ × Command A) → List (Command A)
-  own_of name commands = commands_of name (map (λ p. p.1) commands)
-
-  -- the first of these commands that has the identity, and its outcome: that of its user's maildrop alone, after the user's own commands before it
-  pub record IsOutcomeOf (first : Opening A) (commands : List (ℕ × Command A)) (id : CommandId) (answer : Outcome A) : Type 0 where
-    pub before : List (ℕ × Command A)
-    pub after : List (ℕ × Command A)
-    pub slot : ℕ
-    pub command : Command A
-    pub order : commands ≡ before ++ (slot, command) ∷ after
-    pub its : identity_of command ≡ id
-    pub none_before : has_identity mail_rules id before ≡ false
-    pub outcome : answer ≡ outcome_at (maildrop_after_all (first_maildrop first command.user) (own_of command.user before)) command
 
 -- a worked example: a service of one node, which is given a command and asks to lead. Each message arrives once
 module _ (A : Type 0) (limits : Limits) where

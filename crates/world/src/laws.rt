@@ -14,8 +14,9 @@ ghost use Rattle.node.specs.Replay.{replayed};
 ghost use Rattle.node.specs.declared.log.NodeLog.{NodeLog};
 ghost use Rattle.node.specs.declared.log.Opening.{Opening};
 ghost use Rattle.session.specs.Prefix.{IsPrefix};
-ghost use Rattle.world.specs.Messages.{NodeEvent, log_of, network_of, envelopes, IsSubmitIn, WasSubmitted};
-ghost use Rattle.world.specs.Runs.{IsChosenIn, IsOutcomeOf, order_of};
+ghost use Rattle.world.specs.Messages.{NodeEvent, log_of, network_of, envelopes, WasSubmitted};
+ghost use Rattle.node.specs.Outcomes.{IsOutcomeOf};
+ghost use Rattle.world.specs.Runs.{IsChosenIn, order_of};
 
 use std::alloc::Allocator;
 
@@ -45,13 +46,6 @@ pub fn validity<A: Allocator>()
         IsIn (slot, c) (order_of first events) → IsChosenIn first events slot c }
     ensures chosen { (first : Opening A) (events : List (NodeEvent A)) (slot : ℕ) (c : Command A) →
         IsChosenIn first events slot c → WasSubmitted (network_of first events).logs c }
-{}
-
-/// A node gives each of a user's tickets to one command: of two commands that its log has under one ticket for one user
-/// each is the other.
-pub fn tickets_are_given_once<A: Allocator>()
-    ensures { (log : NodeLog A) (c d : Command A) → IsSubmitIn log c → IsSubmitIn log d
-        → c.user ≡ d.user → c.ticket ≡ d.ticket → c ≡ d }
 {}
 
 /// The decided order only grows.

@@ -13,8 +13,7 @@ mod session_id;
 pub use config::Config;
 pub use event::Event;
 pub use laws::{
-    agreement, answers_are_of_own_commands, learning, the_decided_order_grows,
-    tickets_are_given_once, validity,
+    agreement, answers_are_of_own_commands, learning, the_decided_order_grows, validity,
 };
 pub use refused::Refused;
 pub use sent::Sent;
