@@ -1,8 +1,9 @@
 //! A cluster of nodes, each with a thread of its own.
-ghost use Rattle.std.specs.Prelude.{◌≡◌, ◌+◌, ◌≤◌, IsTrue, IfOk, IfSome, length, vec_len, vec_capacity};
+ghost use Rattle.std.specs.Prelude.{◌≡◌, ◌≤◌, [], IsTrue, IfOk, IfSome, length, vec_len, vec_capacity};
+ghost use Rattle.std.specs.List.{All};
 ghost use Rattle.maildrop.specs.Name.{are_different};
 ghost use Rattle.node.specs.Nodes.{opened};
-ghost use Rattle.cluster.specs.Members.{opening_of, IsStatusOf};
+ghost use Rattle.cluster.specs.Members.{opening_of, IsLogOf, IsStatusOf};
 
 use crate::desk::NodeDesk;
 use crate::handle::{BATCH, NodeHandle};
@@ -30,7 +31,8 @@ pub struct Cluster<D: Deployment, R: Threads + Wait, L: Link> {
     threads: Vec<JoinHandle<()>>,
     /// Room for the logs of all nodes.
     logs: Vec<NodeLog>,
-    ghost room: { vec_len logs + vec_len nodes ≤ vec_capacity logs },
+    ghost none: { logs.items ≡ [] },
+    ghost room: { vec_len nodes ≤ vec_capacity logs },
 }
 
 /// The thread of a node: hears what comes to the inbox, until the node has stopped or nobody can put anything in there.
@@ -232,7 +234,9 @@ impl<
 
     /// Ends the threads, and gives the logs of the nodes, in the order in which these were started. From then on their
     /// desks answer that they have stopped. Takes no memory.
-    pub fn stop(self) -> Vec<NodeLog> {
+    pub fn stop(self) -> Vec<NodeLog>
+        ensures { All (λ log. IsLogOf D.setup log.opening.me log) result.items }
+    {
         let Cluster {
             rt,
             alloc,
@@ -269,13 +273,15 @@ fn end_threads<R: Threads + Wait>(rt: &R, alloc: Global, hub: &Hub, threads: Vec
     }
 }
 
-/// Takes the nodes away, and puts their logs behind those that are there.
+/// Takes the nodes away, and gives their logs.
 fn retire_all<D: Deployment, R: Wait, L: Link>(
     rt: &R,
     nodes: &[NodeHandle<D, L>],
     mut logs: Vec<NodeLog>,
 ) -> Vec<NodeLog>
-    requires { vec_len logs + length nodes.now ≤ vec_capacity logs }
+    requires none { logs.items ≡ [] }
+    requires room { length nodes.now ≤ vec_capacity logs }
+    ensures { All (λ log. IsLogOf D.setup log.opening.me log) result.items }
 {
     for node in nodes {
         if let Some(log) = node.retire(rt) {
