@@ -13,3 +13,4 @@ pub mod Calls
 pub mod KeptLines
 pub mod Users
 pub mod LineFronts
+pub mod AsAlone

@@ -11,5 +11,6 @@ pub mod Serve
 pub mod Dialogue
 pub mod Asking
 pub mod Alone
+pub mod AsAlone
 pub mod Calls
 pub mod Examples

@@ -1,5 +1,6 @@
 //! What holds of whole sessions.
-ghost use Rattle.std.specs.Prelude.{◌≡◌, List, Option, ◌++◌};
+ghost use Rattle.std.specs.Prelude.{◌≡◌, ℕ, List, Option, ◌++◌};
+ghost use Rattle.std.specs.List.{concat};
 ghost use Rattle.maildrop.specs.Ticket.{Ticket};
 ghost use Rattle.maildrop.specs.Maildrop.{Maildrop};
 ghost use Rattle.maildrop.specs.declared.command.Command.{Command};
@@ -7,10 +8,14 @@ ghost use Rattle.apop.specs.Stamp.{Stamp};
 ghost use Rattle.apop.specs.Accounts.{Account};
 ghost use Rattle.pop3_wire.specs.declared.line.Line.{Line};
 ghost use Rattle.session.specs.Alone.{replies_alone};
+ghost use Rattle.session.specs.AsAlone.{AreOwnAnswers, tickets_of};
 ghost use Rattle.session.specs.Asking.{AreForOneUser};
 ghost use Rattle.session.specs.Calls.{Call, Talk, after_call, IsTalk, IsConversation};
 ghost use Rattle.session.specs.Conversation.{Answer, conversation};
 ghost use Rattle.session.specs.Prefix.{IsPrefix};
+ghost use Rattle.session.specs.Serve.{IsWrittenBy, told};
+ghost use Rattle.session.specs.Transcript.{answers_of};
+ghost use Rattle.session.specs.declared.transcript.Transcript.{Transcript};
 
 use std::alloc::Allocator;
 
@@ -31,6 +36,15 @@ pub fn conversations_lengthen<A: Allocator>()
 pub fn replies_lengthen<A: Allocator>()
     ensures { (accounts : List Account) (stamp : Stamp) (maildrop : Option (Maildrop A)) (lines more : List Line) (tickets others : List Ticket) (own decided : List (Command A)) →
         IsPrefix (replies_alone accounts stamp maildrop lines tickets own) (replies_alone accounts stamp maildrop (lines ++ more) (tickets ++ others) (own ++ decided)) }
+{}
+
+/// Where each answer of a transcript is its user's maildrop's own, after a front of the user's commands, what was written
+/// is a front of what a server says that has the user's maildrop alone, whatever lines, tickets and commands are behind.
+pub fn transcripts_are_as_alone<A: Allocator>()
+    ensures { (accounts : List Account) (stamp : Stamp) (maildrop : Option (Maildrop A)) (own decided : List (Command A)) (transcript : Transcript A) (more : List Line) (others : List Ticket) (written : List ℕ) →
+        AreOwnAnswers maildrop own (answers_of transcript.asked)
+        → IsWrittenBy transcript.end (told accounts stamp transcript).replies written
+        → IsPrefix written (concat (replies_alone accounts stamp maildrop (transcript.lines ++ more) (tickets_of (answers_of transcript.asked) ++ others) (own ++ decided))) }
 {}
 
 /// All that a session asks is for one user, who has an account.

@@ -23,7 +23,7 @@ pub use desk_stopped::DeskStopped;
 pub use heard_lines::{HeardLines, LineCursor};
 pub use laws::{
     calls_lengthen_a_talk, calls_make_a_conversation, conversations_lengthen, replies_lengthen,
-    sessions_ask_for_one_user, talks_are_conversations,
+    sessions_ask_for_one_user, talks_are_conversations, transcripts_are_as_alone,
 };
 pub use serving::serve;
 pub use session::Session;
