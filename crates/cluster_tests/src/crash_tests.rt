@@ -1,0 +1,78 @@
+//! Nodes that stop while a session waits.
+ghost use Rattle.std.specs.Prelude.{◌≡◌, IsTrue};
+ghost use Rattle.maildrop.specs.Name.{are_different};
+
+use crate::clients::{new_accounts, new_client, new_page};
+use crate::services::{TURNS, alone, node, setup_of, wait_a_turn};
+use cluster::{Cluster, Deployment, InboxLink, NodeDesk, Setup};
+use samples::check;
+use session::{End, OpenGate, Transcript};
+use std::alloc::Global;
+use std::marker::Brand;
+use std::sync::Wait;
+use std::test::Fail;
+use std::thread;
+use std::thread::Threads;
+use std::time::Clock;
+
+/// A client that removes a message.
+const LINES: &[u8] = b"USER alice\r\nPASS s3\r\nDELE 1\r\nQUIT\r\n";
+
+type Nodes<D, R> = Cluster<D, R, InboxLink<R>>;
+
+type DeskOf<D, R> = NodeDesk<D, R, InboxLink<R>>;
+
+/// Ticks the node until it awaits an answer, and then crashes it, twice. Gives whether the first time alone it was up.
+fn crash_once_waiting<D: Deployment, R: Wait + Clock>(rt: &R, desk: &DeskOf<D, R>) -> bool {
+    for _ in 0..TURNS {
+        desk.tick();
+        if desk.status().is_some_and(|status| status.waiting) {
+            break;
+        }
+        wait_a_turn(rt);
+    }
+    let was_up = desk.crash();
+    was_up && !desk.crash()
+}
+
+/// Serves a client at a node that never leads, and crashes that node.
+fn waits_in_vain<
+    D: Deployment + Send + Sync + 'static,
+    R: Threads + Wait + Clock + Copy + Send + Sync + 'static,
+>(rt: R, alloc: Global, setup: &Setup) -> Result<(), Fail>
+    requires deployment { setup.now ≡ D.setup }
+    requires names { IsTrue (are_different setup.now.names) }
+{
+    let cluster = Nodes::<D, R>::start(rt, alloc, setup)?;
+    let accounts = new_accounts(alloc)?;
+    let page = new_page(alloc)?;
+    let job = new_client(rt, node(1)?, LINES, &page, OpenGate)?;
+    let jobs = alone(alloc, job)?;
+    let desk = cluster.desk(node(1)?)?.ok_or("no desk")?;
+    let operator = thread::spawn(&rt, move || crash_once_waiting(&rt, &desk))?;
+    let transcripts = cluster.sessions(jobs, &accounts);
+    check(operator.join(&rt), "the node was down, or is up")?;
+    match transcripts?.pop().ok_or("no answer")? {
+        Some(transcript) => check_unanswered(&transcript),
+        None => Err("no thread".into()),
+    }
+}
+
+/// What was asked got a ticket, and no outcome.
+fn check_unanswered(transcript: &Transcript) -> Result<(), Fail> {
+    check(transcript.end == End::DeskStopped, "another end")?;
+    match transcript.asked.get() {
+        [asked] => check(
+            asked.ticket.is_some() && asked.outcome.is_none(),
+            "another answer",
+        ),
+        _ => Err("another number of entries".into()),
+    }
+}
+
+/// A session waits for a node that isn't to answer it, until that node stops.
+#[test]
+fn a_crash_ends_a_session_that_waits(rt: HostRuntime) -> Result<(), Fail> {
+    let setup = setup_of(rt.alloc(), 1)?;
+    waits_in_vain::<Brand, _>(rt, rt.alloc(), &setup)
+}

@@ -1,0 +1,105 @@
+//! Two sessions that can only end if they run at the same time.
+ghost use Rattle.std.specs.Prelude.{◌≡◌, IsTrue};
+ghost use Rattle.maildrop.specs.Name.{are_different};
+
+use crate::clients::{At, Turns, new_accounts, new_client, new_page};
+use crate::services::{Flag, deliver, end_watch, new_flag, node, setup_of, start_watch};
+use cluster::{Cluster, Deployment, InboxLink, Setup};
+use samples::check;
+use session::{End, Transcript};
+use std::alloc::Global;
+use std::marker::Brand;
+use std::sync::{Arc, Wait};
+use std::test::Fail;
+use std::thread::Threads;
+use std::time::Clock;
+
+/// What alice's client sends. Its RETR waits for the reply to bob's STAT.
+const ALICE: &[u8] = b"USER alice\r\nPASS s3\r\nRETR 1\r\nQUIT\r\n";
+
+/// What bob's client sends. Its QUIT waits for the reply to alice's RETR.
+const BOB: &[u8] = b"USER bob\r\nPASS s4\r\nSTAT\r\nQUIT\r\n";
+
+type Nodes<D, R> = Cluster<D, R, InboxLink<R>>;
+
+/// Serves both clients, alice's at node 1 and bob's at node 3.
+fn served<
+    D: Deployment + Send + Sync + 'static,
+    R: Threads + Wait + Clock + Copy + Send + Sync + 'static,
+>(
+    rt: R,
+    alloc: Global,
+    cluster: &Nodes<D, R>,
+    gave_up: &Flag,
+) -> Result<Vec<Option<Transcript>>, Fail> {
+    let accounts = new_accounts(alloc)?;
+    let page = new_page(alloc)?;
+    let retrieved = new_flag(alloc)?;
+    let counted = new_flag(alloc)?;
+    let first = Turns {
+        rt,
+        lines: 0,
+        tells: At {
+            line: 3,
+            flag: Arc::try_clone(&retrieved)?,
+        },
+        holds: At {
+            line: 3,
+            flag: Arc::try_clone(&counted)?,
+        },
+        gave_up: Arc::try_clone(gave_up)?,
+    };
+    let second = Turns {
+        rt,
+        lines: 0,
+        tells: At {
+            line: 3,
+            flag: counted,
+        },
+        holds: At {
+            line: 4,
+            flag: retrieved,
+        },
+        gave_up: Arc::try_clone(gave_up)?,
+    };
+    let mut jobs = Vec::new(alloc);
+    jobs.push(new_client(rt, node(1)?, ALICE, &page, first)?)?;
+    jobs.push(new_client(rt, node(3)?, BOB, &page, second)?)?;
+    Ok(cluster.sessions(jobs, &accounts)?)
+}
+
+fn mailed_and_served<
+    D: Deployment + Send + Sync + 'static,
+    R: Threads + Wait + Clock + Copy + Send + Sync + 'static,
+>(rt: R, alloc: Global, cluster: &Nodes<D, R>) -> Result<(), Fail> {
+    let mut desk = cluster.desk(node(1)?)?.ok_or("no desk")?;
+    desk.campaign();
+    deliver(alloc, &mut desk, "alice", &["hi"], 1)?;
+    let gave_up = new_flag(alloc)?;
+    for transcript in &served(rt, alloc, cluster, &gave_up)? {
+        let is_closed = matches!(transcript, Some(transcript) if transcript.end == End::Closed);
+        check(is_closed, "a session ends otherwise")?;
+    }
+    check(!*gave_up.lock(&rt), "a session waits for the other in vain")
+}
+
+fn lives<
+    D: Deployment + Send + Sync + 'static,
+    R: Threads + Wait + Clock + Copy + Send + Sync + 'static,
+>(rt: R, alloc: Global, setup: &Setup) -> Result<(), Fail>
+    requires deployment { setup.now ≡ D.setup }
+    requires names { IsTrue (are_different setup.now.names) }
+{
+    let cluster = Nodes::<D, R>::start(rt, alloc, setup)?;
+    let watch = start_watch(rt, alloc, &cluster)?;
+    let outcome = mailed_and_served(rt, alloc, &cluster);
+    end_watch(&rt, watch);
+    outcome
+}
+
+/// One session after the other would wait in vain, in either order.
+#[test]
+fn two_sessions_at_once(rt: HostRuntime) -> Result<(), Fail> {
+    let setup = setup_of(rt.alloc(), 3)?;
+    lives::<Brand, _>(rt, rt.alloc(), &setup)
+}

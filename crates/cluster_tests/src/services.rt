@@ -1,0 +1,128 @@
+//! Clusters of which tests ask things, and the watcher that ends one which doesn't answer.
+ghost use Rattle.std.specs.Prelude.{IfOk, IsTrue};
+ghost use Rattle.maildrop.specs.Name.{are_different as differ};
+
+use ballot::{Cluster as Size, Items, LAST_NODE, NodeId};
+use cluster::{Cluster, Deployment, Link, NodeDesk, Setup};
+use maildrop::{Outcome, are_different};
+use samples::{check, mail, name, widest_limits};
+use session::Desk;
+use std::alloc::{AllocError, Global};
+use std::sync::{Arc, Mutex, Wait};
+use std::test::Fail;
+use std::thread;
+use std::thread::{JoinHandle, Threads};
+use std::time::{Clock, Duration};
+
+/// How many turns of a millisecond a test waits at most.
+pub const TURNS: u32 = 10_000;
+
+/// A flag that threads share.
+pub type Flag = Arc<Mutex<bool>>;
+
+/// A cluster of so many nodes, with a maildrop for alice and one for bob.
+pub fn setup_of(alloc: Global, nodes: u8) -> Result<Setup, Fail>
+    ensures { IfOk result (λ setup. IsTrue (differ setup.names)) }
+{
+    let names = Items::from_vec(vec![in alloc; name("alice")?, name("bob")?]?);
+    if !are_different(names.get()) {
+        return Err("a name is there twice".into());
+    }
+    Ok(Setup {
+        cluster: Size::new(nodes).ok_or("no cluster")?,
+        window: 5,
+        names,
+        limits: widest_limits()?,
+    })
+}
+
+pub fn node(number: u8) -> Result<NodeId, Fail> {
+    Ok(NodeId::new(number).ok_or("no node")?)
+}
+
+pub fn new_flag(alloc: Global) -> Result<Flag, AllocError> {
+    Ok(Arc::new(alloc, Mutex::new(false))?)
+}
+
+/// A list of one item.
+pub fn alone<T: Drop>(alloc: Global, item: T) -> Result<Vec<T>, Fail> {
+    let mut items = Vec::new(alloc);
+    if items.push(item).is_err() {
+        return Err("no memory".into());
+    }
+    Ok(items)
+}
+
+/// Waits one turn.
+pub fn wait_a_turn<R: Clock>(rt: &R) {
+    thread::sleep(rt, Duration::from_millis(1));
+}
+
+/// Waits until the flag is set, or the turns are over. Gives whether it is set.
+pub fn wait_for<R: Wait + Clock>(rt: &R, flag: &Flag) -> bool {
+    for _ in 0..TURNS {
+        if *flag.lock(rt) {
+            return true;
+        }
+        wait_a_turn(rt);
+    }
+    false
+}
+
+/// Crashes the nodes of the desks where the flag isn't set in time, so that nobody waits for them any more.
+fn crash_when_late<D: Deployment, R: Wait + Clock, L: Link>(
+    rt: &R,
+    done: &Flag,
+    desks: &[NodeDesk<D, R, L>],
+) {
+    if !wait_for(rt, done) && !wait_for(rt, done) {
+        for desk in desks {
+            let _was_up = desk.crash();
+        }
+    }
+}
+
+/// A thread that crashes all nodes where a test takes too long.
+#[derive(Drop)]
+pub struct Watch {
+    done: Flag,
+    thread: JoinHandle<()>,
+}
+
+/// Watches a cluster.
+pub fn start_watch<
+    D: Deployment + Send + Sync + 'static,
+    R: Threads + Wait + Clock + Copy + Send + Sync + 'static,
+    L: Link + Drop + Send + Sync + 'static,
+>(rt: R, alloc: Global, cluster: &Cluster<D, R, L>) -> Result<Watch, Fail> {
+    let done = new_flag(alloc)?;
+    let theirs = Arc::try_clone(&done)?;
+    let mut desks = Vec::new(alloc);
+    for number in 1..=LAST_NODE {
+        if let Some(desk) = cluster.desk(node(number)?)? {
+            desks.push(desk)?;
+        }
+    }
+    let thread = thread::spawn(&rt, move || crash_when_late(&rt, &theirs, &desks))?;
+    Ok(Watch { done, thread })
+}
+
+/// The test is over.
+pub fn end_watch<R: Threads + Wait>(rt: &R, watch: Watch) {
+    *watch.done.lock(rt) = true;
+    watch.thread.join(rt);
+}
+
+/// Has a message of these lines stored for the user, under this unique id.
+pub fn deliver<D: Deployment, R: Wait, L: Link>(
+    alloc: Global,
+    desk: &mut NodeDesk<D, R, L>,
+    user: &str,
+    lines: &[&str],
+    uid: u64,
+) -> Result<(), Fail> {
+    match desk.ask(name(user)?, mail(alloc, lines)?) {
+        Ok((_, Outcome::Stored(stored))) => check(stored == uid, "another unique id"),
+        _ => Err("the message is not stored".into()),
+    }
+}

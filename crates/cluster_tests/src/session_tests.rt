@@ -1,0 +1,119 @@
+//! A session over three nodes on threads.
+ghost use Rattle.std.specs.Prelude.{◌≡◌, IsTrue};
+ghost use Rattle.maildrop.specs.Name.{are_different};
+
+use crate::clients::{Page, new_accounts, new_client, new_page};
+use crate::services::{alone, deliver, end_watch, node, setup_of, start_watch};
+use cluster::{Cluster, Deployment, InboxLink, NodeDesk, Setup};
+use samples::check;
+use session::{End, OpenGate, Transcript};
+use std::alloc::Global;
+use std::marker::Brand;
+use std::sync::Wait;
+use std::test::Fail;
+use std::thread::Threads;
+use std::time::Clock;
+
+/// What the client sends.
+const LINES: &[u8] = b"USER alice\r\nPASS s3\r\nSTAT\r\nUIDL\r\nRETR 2\r\nDELE 1\r\nQUIT\r\n";
+
+/// What it is to get.
+const REPLIES: &str = "+OK POP3 server ready <n.1@mail.test>\r\n\
++OK send PASS\r\n\
++OK maildrop has 3 messages (63 octets)\r\n\
++OK 3 63\r\n\
++OK\r\n1 1\r\n2 2\r\n3 3\r\n.\r\n\
++OK 21 octets\r\nSubject: a2\r\n\r\n..two\r\n.\r\n\
++OK message 1 deleted\r\n\
++OK signing off\r\n";
+
+/// How often a cluster is started anew.
+const CLUSTERS: u32 = 200;
+
+type Nodes<D, R> = Cluster<D, R, InboxLink<R>>;
+
+type DeskOf<D, R> = NodeDesk<D, R, InboxLink<R>>;
+
+/// Node 1 leads, and mail comes in at nodes 1 and 2.
+fn mailed<D: Deployment, R: Wait>(
+    alloc: Global,
+    one: &mut DeskOf<D, R>,
+    two: &mut DeskOf<D, R>,
+) -> Result<(), Fail> {
+    one.campaign();
+    deliver(alloc, one, "alice", &["Subject: a1", "", "one"], 1)?;
+    deliver(alloc, two, "bob", &["Subject: b1", "", "uno"], 1)?;
+    deliver(alloc, two, "alice", &["Subject: a2", "", ".two"], 2)?;
+    deliver(alloc, one, "bob", &["Subject: b2", "", "dos"], 2)?;
+    deliver(alloc, one, "alice", &["Subject: a3", "", "three"], 3)
+}
+
+/// Serves the client at node 2. Gives what it gets, and how its session ends.
+fn served<D: Deployment + Send + Sync + 'static, R: Threads + Wait + Copy + Send + Sync + 'static>(
+    rt: R,
+    alloc: Global,
+    cluster: &Nodes<D, R>,
+) -> Result<(Page, Option<Transcript>), Fail> {
+    let accounts = new_accounts(alloc)?;
+    let page = new_page(alloc)?;
+    let job = new_client(rt, node(2)?, LINES, &page, OpenGate)?;
+    let transcript = cluster
+        .sessions(alone(alloc, job)?, &accounts)?
+        .pop()
+        .ok_or("no answer")?;
+    Ok((page, transcript))
+}
+
+/// Mail and a session over a cluster, which is watched.
+fn mail_and_session<
+    D: Deployment + Send + Sync + 'static,
+    R: Threads + Wait + Copy + Send + Sync + 'static,
+>(rt: R, alloc: Global, cluster: &Nodes<D, R>) -> Result<(), Fail> {
+    let mut one = cluster.desk(node(1)?)?.ok_or("no desk")?;
+    let mut two = cluster.desk(node(2)?)?.ok_or("no desk")?;
+    mailed(alloc, &mut one, &mut two)?;
+    let (page, transcript) = served(rt, alloc, cluster)?;
+    let transcript = transcript.ok_or("no thread")?;
+    check(transcript.end == End::Closed, "the session ends otherwise")?;
+    check(
+        page.lock(&rt).as_slice() == REPLIES.as_bytes(),
+        "other replies",
+    )
+}
+
+/// A cluster from its start to its end, with mail and a session in between.
+fn lives<
+    D: Deployment + Send + Sync + 'static,
+    R: Threads + Wait + Clock + Copy + Send + Sync + 'static,
+>(rt: R, alloc: Global, setup: &Setup) -> Result<(), Fail>
+    requires deployment { setup.now ≡ D.setup }
+    requires names { IsTrue (are_different setup.now.names) }
+{
+    let cluster = Nodes::<D, R>::start(rt, alloc, setup)?;
+    let watch = start_watch(rt, alloc, &cluster)?;
+    let outcome = mail_and_session(rt, alloc, &cluster);
+    end_watch(&rt, watch);
+    outcome?;
+    check(cluster.stop().len() == 3, "a log is missing")
+}
+
+fn lives_often<
+    D: Deployment + Send + Sync + 'static,
+    R: Threads + Wait + Clock + Copy + Send + Sync + 'static,
+>(rt: R, alloc: Global, setup: &Setup) -> Result<(), Fail>
+    requires deployment { setup.now ≡ D.setup }
+    requires names { IsTrue (are_different setup.now.names) }
+{
+    for _ in 0..CLUSTERS {
+        lives::<D, R>(rt, alloc, setup)?;
+    }
+    Ok(())
+}
+
+/// Mail at two nodes of three, and a session at the second, without a tick: the client gets the very bytes that a lone
+/// server of its user gives, each time.
+#[test]
+fn a_session_over_three_nodes(rt: HostRuntime) -> Result<(), Fail> {
+    let setup = setup_of(rt.alloc(), 3)?;
+    lives_often::<Brand, _>(rt, rt.alloc(), &setup)
+}

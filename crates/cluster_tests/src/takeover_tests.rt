@@ -1,0 +1,168 @@
+//! A leader that crashes in the middle of a session.
+ghost use Rattle.std.specs.Prelude.{◌≡◌, IsTrue};
+ghost use Rattle.maildrop.specs.Name.{are_different};
+
+use crate::clients::{At, Page, Turns, new_accounts, new_client, new_page};
+use crate::services::{
+    Flag, TURNS, alone, deliver, end_watch, new_flag, node, setup_of, start_watch, wait_a_turn,
+    wait_for,
+};
+use cluster::{Cluster, Deployment, InboxLink, NodeDesk, Patience, Setup};
+use samples::check;
+use session::{End, Transcript};
+use std::alloc::{AllocError, Global};
+use std::marker::Brand;
+use std::sync::{Arc, Wait};
+use std::test::Fail;
+use std::thread;
+use std::thread::Threads;
+use std::time::Clock;
+
+/// A client that removes a message. Its QUIT waits until the leader has crashed.
+const LINES: &[u8] = b"USER alice\r\nPASS s3\r\nDELE 1\r\nQUIT\r\n";
+
+const REPLIES: &str = "+OK POP3 server ready <n.1@mail.test>\r\n\
++OK send PASS\r\n\
++OK maildrop has 1 messages (4 octets)\r\n\
++OK message 1 deleted\r\n\
++OK signing off\r\n";
+
+type Nodes<D, R> = Cluster<D, R, InboxLink<R>>;
+
+type DeskOf<D, R> = NodeDesk<D, R, InboxLink<R>>;
+
+/// What the threads of this test tell one another.
+#[derive(Drop)]
+struct Course {
+    /// The client is logged in.
+    logged_in: Flag,
+    /// The leader has crashed.
+    crashed: Flag,
+    /// The session is over.
+    done: Flag,
+    /// The gate let go.
+    gave_up: Flag,
+}
+
+impl Course {
+    fn new(alloc: Global) -> Result<Course, AllocError> {
+        Ok(Course {
+            logged_in: new_flag(alloc)?,
+            crashed: new_flag(alloc)?,
+            done: new_flag(alloc)?,
+            gave_up: new_flag(alloc)?,
+        })
+    }
+
+    fn share(&self) -> Result<Course, AllocError> {
+        Ok(Course {
+            logged_in: Arc::try_clone(&self.logged_in)?,
+            crashed: Arc::try_clone(&self.crashed)?,
+            done: Arc::try_clone(&self.done)?,
+            gave_up: Arc::try_clone(&self.gave_up)?,
+        })
+    }
+
+    fn gate<R: Wait + Clock + Copy>(&self, rt: R) -> Result<Turns<R>, AllocError> {
+        let course = self.share()?;
+        Ok(Turns {
+            rt,
+            lines: 0,
+            tells: At {
+                line: 2,
+                flag: course.logged_in,
+            },
+            holds: At {
+                line: 4,
+                flag: course.crashed,
+            },
+            gave_up: course.gave_up,
+        })
+    }
+}
+
+/// Ticks a node until the session is over. It asks to lead when it has waited in vain for long enough.
+fn tick_on<D: Deployment, R: Wait + Clock>(rt: &R, desk: &DeskOf<D, R>, course: &Course) {
+    let mut patience = Patience::new(desk.me());
+    for _ in 0..TURNS {
+        if *course.done.lock(rt) {
+            return;
+        }
+        desk.tick();
+        if desk.status().is_some_and(|status| patience.tick(status)) {
+            desk.campaign();
+        }
+        wait_a_turn(rt);
+    }
+}
+
+/// Crashes the leader once the client is logged in. Gives whether that came, and the leader was up.
+fn crash_leader<D: Deployment, R: Wait + Clock>(
+    rt: &R,
+    leader: &DeskOf<D, R>,
+    other: &DeskOf<D, R>,
+    course: &Course,
+) -> bool {
+    let is_logged_in = wait_for(rt, &course.logged_in);
+    let was_up = leader.crash();
+    *course.crashed.lock(rt) = true;
+    tick_on(rt, other, course);
+    is_logged_in && was_up
+}
+
+/// Serves the client at node 2, while node 1 leads and crashes.
+fn served<
+    D: Deployment + Send + Sync + 'static,
+    R: Threads + Wait + Clock + Copy + Send + Sync + 'static,
+>(rt: R, alloc: Global, cluster: &Nodes<D, R>, page: &Page) -> Result<Option<Transcript>, Fail> {
+    let leader = cluster.desk(node(1)?)?.ok_or("no desk")?;
+    let other = cluster.desk(node(2)?)?.ok_or("no desk")?;
+    let course = Course::new(alloc)?;
+    let accounts = new_accounts(alloc)?;
+    let job = new_client(rt, node(2)?, LINES, page, course.gate(rt)?)?;
+    let jobs = alone(alloc, job)?;
+    let theirs = course.share()?;
+    let operator = thread::spawn(&rt, move || crash_leader(&rt, &leader, &other, &theirs))?;
+    let transcripts = cluster.sessions(jobs, &accounts);
+    *course.done.lock(&rt) = true;
+    check(operator.join(&rt), "the leader was down")?;
+    check(!*course.gave_up.lock(&rt), "the gate let go")?;
+    Ok(transcripts?.pop().ok_or("no answer")?)
+}
+
+fn mailed_and_served<
+    D: Deployment + Send + Sync + 'static,
+    R: Threads + Wait + Clock + Copy + Send + Sync + 'static,
+>(rt: R, alloc: Global, cluster: &Nodes<D, R>) -> Result<(), Fail> {
+    let mut desk = cluster.desk(node(1)?)?.ok_or("no desk")?;
+    desk.campaign();
+    deliver(alloc, &mut desk, "alice", &["hi"], 1)?;
+    let page = new_page(alloc)?;
+    let transcript = served(rt, alloc, cluster, &page)?.ok_or("no thread")?;
+    check(transcript.end == End::Closed, "the session ends otherwise")?;
+    check(
+        page.lock(&rt).as_slice() == REPLIES.as_bytes(),
+        "other replies",
+    )
+}
+
+fn lives<
+    D: Deployment + Send + Sync + 'static,
+    R: Threads + Wait + Clock + Copy + Send + Sync + 'static,
+>(rt: R, alloc: Global, setup: &Setup) -> Result<(), Fail>
+    requires deployment { setup.now ≡ D.setup }
+    requires names { IsTrue (are_different setup.now.names) }
+{
+    let cluster = Nodes::<D, R>::start(rt, alloc, setup)?;
+    let watch = start_watch(rt, alloc, &cluster)?;
+    let outcome = mailed_and_served(rt, alloc, &cluster);
+    end_watch(&rt, watch);
+    outcome
+}
+
+/// The other nodes of three end the session of a client, whose leader is gone.
+#[test]
+fn a_session_outlives_the_leader(rt: HostRuntime) -> Result<(), Fail> {
+    let setup = setup_of(rt.alloc(), 3)?;
+    lives::<Brand, _>(rt, rt.alloc(), &setup)
+}
