@@ -1,0 +1,4 @@
+pub mod Options
+pub mod Faults
+pub mod Answers
+pub mod Examples

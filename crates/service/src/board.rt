@@ -1,0 +1,132 @@
+//! What all threads of a service share.
+
+use crate::system::local;
+use apop::{Accounts, Stamp, stamp};
+use ballot::Items;
+use session::Transcript;
+use std::alloc::Global;
+use std::net::Net;
+use std::random::RandomSource;
+use std::sync::atomic::{AtomicU64, Ordering};
+use std::sync::{Condvar, Mutex, Wait};
+use std::time::{Clock, Duration};
+use std::{io, thread};
+
+/// How many milliseconds are waited before a port is tried again.
+const PAUSE_MS: u64 = 10;
+
+/// How often a port is tried.
+const TRIES: u32 = 1_000;
+
+/// The transcripts of the sessions that have ended.
+#[derive(Drop)]
+struct Kept {
+    /// In the order in which the sessions ended.
+    transcripts: Vec<Transcript>,
+    /// Whether there was no memory for one.
+    is_short: bool,
+}
+
+/// What all threads of a service share: who may log in, whether the service stops, and what its sessions left.
+#[derive(Drop)]
+pub(crate) struct Board {
+    accounts: Accounts,
+    host: Items<u8>,
+    stopping: Mutex<bool>,
+    stops: Condvar,
+    connections: AtomicU64,
+    kept: Mutex<Kept>,
+}
+
+impl Board {
+    /// Of a service that has seen nobody yet. Takes no memory.
+    pub(crate) fn new(alloc: Global, accounts: Accounts, host: Items<u8>) -> Self {
+        let kept = Kept {
+            transcripts: Vec::new(alloc),
+            is_short: false,
+        };
+        Board {
+            accounts,
+            host,
+            stopping: Mutex::new(false),
+            stops: Condvar::new(),
+            connections: AtomicU64::new(0),
+            kept: Mutex::new(kept),
+        }
+    }
+
+    /// Who may log in.
+    pub(crate) fn accounts(&self) -> &Accounts {
+        &self.accounts
+    }
+
+    /// The timestamp of a new session's greeting: 16 random hexadecimal digits, a dot and the number of the session,
+    /// counted from 1, before the service's host. Nothing where the system gives no random bytes.
+    pub(crate) fn new_stamp<R: RandomSource>(&self, rt: &R, alloc: Global) -> Option<Stamp> {
+        let before = self.connections.fetch_add(1, Ordering::SeqCst);
+        let number = before.wrapping_add(1);
+        let mut bytes = [0u8; 8];
+        rt.fill_bytes(&mut bytes).ok()?;
+        let digits = u64::from_be_bytes(bytes);
+        let nonce = format!(in alloc; "{digits:016x}.{number}").ok()?;
+        stamp(nonce.as_bytes(), self.host.get())
+    }
+
+    /// Keeps what a session left.
+    pub(crate) fn keep<R: Wait>(&self, rt: &R, transcript: Transcript) {
+        let mut guard = self.kept.lock(rt);
+        let kept = &mut *guard;
+        if kept.transcripts.push(transcript).is_err() {
+            kept.is_short = true;
+        }
+    }
+
+    /// The transcripts of the sessions that have ended, or nothing where there was no memory for one of them.
+    pub(crate) fn take_transcripts<R: Wait>(
+        &self,
+        rt: &R,
+        alloc: Global,
+    ) -> Option<Vec<Transcript>> {
+        let mut guard = self.kept.lock(rt);
+        let kept = &mut *guard;
+        if kept.is_short {
+            return None;
+        }
+        Some(std::mem::replace(&mut kept.transcripts, Vec::new(alloc)))
+    }
+
+    /// Whether the service stops.
+    pub(crate) fn is_stopping<R: Wait>(&self, rt: &R) -> bool {
+        *self.stopping.lock(rt)
+    }
+
+    /// Waits so long, or until the service stops. Gives whether it stops.
+    pub(crate) fn pauses<R: Wait + Clock>(&self, rt: &R, time: Duration) -> bool {
+        let guard = self.stopping.lock(rt);
+        let (stopping, _) = self
+            .stops
+            .wait_timeout_while(rt, guard, time, |stopping| !*stopping);
+        *stopping
+    }
+
+    /// Lets the service stop, and wakes who listens at these ports.
+    pub(crate) fn stop<R: Net + Wait + Clock>(&self, rt: &R, ports: &[u16]) {
+        *self.stopping.lock(rt) = true;
+        self.stops.notify_all();
+        for port in ports {
+            wake(rt, *port);
+        }
+    }
+}
+
+/// Wakes who listens at a port, by a connection. Where there is no descriptor for one it is tried again, since who
+/// listens has none either, or may get the next.
+fn wake<R: Net + Clock>(rt: &R, port: u16) {
+    for _ in 0..TRIES {
+        match rt.connect(local(port)) {
+            Ok(_) => return,
+            Err(error) if error.kind() == io::ErrorKind::ConnectionRefused => return,
+            Err(_) => thread::sleep(rt, Duration::from_millis(PAUSE_MS)),
+        }
+    }
+}

@@ -1,0 +1,29 @@
+//! The service `maildropd serve`, and the operator's `maildropd ctl`.
+#![tactic(auto)]
+
+mod board;
+mod channel;
+mod crew;
+mod ctl;
+mod delivery;
+mod fault;
+mod host;
+mod listener;
+mod node_desk;
+mod operator;
+mod options;
+mod pop;
+mod serve;
+mod served_node;
+mod serving;
+mod system;
+mod ticker;
+mod verdict;
+
+pub use ctl::ctl_run;
+pub use fault::Fault;
+pub use options::{
+    SERVE_IDS, SERVE_MESSAGES, SERVE_NODES, SERVE_OCTETS, SERVE_TICK_MS, SERVE_WINDOW, ServeOptions,
+};
+pub use serve::serve_run;
+pub use system::System;

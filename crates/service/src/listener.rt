@@ -1,0 +1,74 @@
+//! Takes the connections of a port.
+
+use crate::board::Board;
+use crate::crew::{Crew, Ended};
+use crate::fault::Fault;
+use crate::host::Host;
+use crate::system::{System, local};
+use std::alloc::Global;
+use std::net::TcpListener;
+use std::sync::{Arc, Mutex};
+use std::thread;
+use std::thread::JoinHandle;
+use std::time::Duration;
+
+/// How many milliseconds are waited before a connection is taken again, where none could be: the system has no
+/// descriptor, say.
+const PAUSE_MS: u64 = 10;
+
+/// A port at which connections are taken, at most so many at a time.
+#[derive(Drop)]
+pub(crate) struct Port {
+    listener: TcpListener,
+    most: usize,
+}
+
+impl Port {
+    /// Listens at a port of this machine.
+    pub(crate) fn open<R: System>(rt: &R, number: u16, most: usize) -> Result<Port, Fault> {
+        match TcpListener::bind(rt, local(number)) {
+            Ok(listener) => Ok(Port { listener, most }),
+            Err(_) => Err(Fault::Listen(number)),
+        }
+    }
+
+    /// Takes connections on a thread of its own, until the service stops and those that were taken have ended.
+    pub(crate) fn start<R: System, H: Host + Send + Drop + 'static>(
+        self,
+        rt: R,
+        alloc: Global,
+        host: H,
+        board: Arc<Board>,
+    ) -> Result<JoinHandle<()>, Fault> {
+        let ended = Arc::new(alloc, Mutex::new(Vec::new(alloc)))?;
+        match thread::spawn(&rt, move || take_all(rt, alloc, self, &host, &board, ended)) {
+            Ok(thread) => Ok(thread),
+            Err(_) => Err(Fault::Memory),
+        }
+    }
+}
+
+/// Takes connections until the service stops. The port is closed then, and the connections go on to their ends.
+fn take_all<R: System, H: Host + Send + Drop + 'static>(
+    rt: R,
+    alloc: Global,
+    port: Port,
+    host: &H,
+    board: &Board,
+    ended: Ended,
+) {
+    let mut crew = Crew::new(alloc, ended, port.most);
+    for _ in rt.forever() {
+        let taken = port.listener.accept();
+        if board.is_stopping(&rt) {
+            break;
+        }
+        crew.reap(&rt);
+        match taken {
+            Ok((stream, _)) => crew.take(rt, alloc, stream, host),
+            Err(_) => thread::sleep(&rt, Duration::from_millis(PAUSE_MS)),
+        }
+    }
+    drop(port);
+    crew.end(&rt);
+}

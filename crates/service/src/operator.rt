@@ -1,0 +1,218 @@
+//! The operator's port.
+ghost use Rattle.std.specs.Prelude.{◌≤◌, IfSome};
+ghost use Rattle.script.specs.Requests.{longest_request};
+
+use crate::board::Board;
+use crate::channel::Channel;
+use crate::delivery::{deliver, texts_in};
+use crate::fault::Fault;
+use crate::host::Host;
+use crate::served_node::ServedNode;
+use ballot::{Memory, NodeId};
+use maildrop::{Name, Op, Outcome};
+use script::{KeyPrefix, LONGEST_REQUEST, Request, parse_request};
+use session::Desk;
+use std::alloc::Global;
+use std::io::{BufReader, Read, Write};
+use std::net::{Net, TcpStream};
+use std::sync::{Arc, Wait};
+use std::time::Clock;
+
+/// How many bytes of a mailbox file are read at a time.
+const PIECE: usize = 4096;
+
+/// Answers operators: one request a connection.
+#[derive(Drop)]
+pub(crate) struct OperatorHost<R, N: ServedNode> {
+    pub rt: R,
+    pub alloc: Global,
+    pub nodes: Arc<Vec<N>>,
+    pub board: Arc<Board>,
+    /// All ports of the service, which are woken when it stops.
+    pub ports: Arc<Vec<u16>>,
+}
+
+/// Reads up to the line feed into the buffer. Gives how many bytes stand before it, or nothing where these are too many or
+/// there is none.
+fn read_line<S: Read>(reader: &mut S, line: &mut [u8; LONGEST_REQUEST]) -> Option<usize>
+    ensures { IfSome result (λ len. len ≤ longest_request) }
+{
+    let mut byte = [0u8];
+    for len in 0..=LONGEST_REQUEST {
+        match reader.read(&mut byte) {
+            Ok(1) => {}
+            _ => return None,
+        }
+        if byte[0] == b'\n' {
+            return Some(len);
+        }
+        *line.get_mut(len)? = byte[0];
+    }
+    None
+}
+
+/// Says a line.
+pub(crate) fn say<W: Write>(writer: &mut W, line: &[u8]) -> Result<(), Fault> {
+    match writer.write_all(line) {
+        Ok(()) => Ok(()),
+        Err(_) => Err(Fault::Write),
+    }
+}
+
+/// The line that tells how a node stands.
+fn standing<N: ServedNode>(alloc: Global, node: &N) -> Result<String, Fault> {
+    let number = node.me().get();
+    match node.status() {
+        Some(status) if status.up => {
+            let role = if status.active { "active" } else { "passive" };
+            let slot = status.slot_out;
+            Ok(format!(in alloc; "node {number} up {role} slot {slot}\n")?)
+        }
+        _ => Ok(format!(in alloc; "node {number} down\n")?),
+    }
+}
+
+/// Has a user's lock broken, and tells the outcome.
+fn break_lock<D: Desk<Op, Outcome>, W: Write>(
+    desk: &mut D,
+    user: Name,
+    writer: &mut W,
+) -> Result<(), Fault> {
+    match desk.ask(user, Op::Break) {
+        Ok((_, Outcome::Done)) => say(writer, b"done\n"),
+        Ok(_) => say(writer, b"no such user\n"),
+        Err(_) => say(writer, b"down\n"),
+    }
+}
+
+impl<R: Net + Wait + Clock + Copy, N: ServedNode + Desk<Op, Outcome> + Drop> OperatorHost<R, N> {
+    fn node(&self, number: NodeId) -> Option<&N> {
+        self.nodes.iter().find(|node| node.me() == number)
+    }
+
+    /// A desk of a node, if it runs here.
+    fn desk(&self, number: NodeId) -> Result<Option<N>, Fault> {
+        match self.node(number) {
+            None => Ok(None),
+            Some(node) => Ok(Some(node.share()?)),
+        }
+    }
+
+    fn tell_status<W: Write>(&self, writer: &mut W) -> Result<(), Fault> {
+        for node in self.nodes.iter() {
+            let line = standing(self.alloc, node)?;
+            say(writer, line.as_bytes())?;
+        }
+        say(writer, b"end\n")
+    }
+
+    fn crash<W: Write>(&self, number: NodeId, writer: &mut W) -> Result<(), Fault> {
+        match self.node(number) {
+            Some(node) if node.crash() => say(writer, b"crashed\n"),
+            _ => say(writer, b"down\n"),
+        }
+    }
+
+    /// Has the messages of the mailbox file that follows delivered, and tells their outcomes.
+    fn deliver_mail<S: Read, W: Write>(
+        &self,
+        number: NodeId,
+        user: Name,
+        count: u64,
+        key: &Option<KeyPrefix>,
+        reader: &mut S,
+        writer: &mut W,
+    ) -> Result<(), Fault> {
+        let texts = match texts_in(self.alloc, reader, count)? {
+            Ok(texts) => texts,
+            Err(refusal) => return say(writer, refusal.line()),
+        };
+        match self.desk(number)? {
+            Some(mut desk) => deliver(self.alloc, &mut desk, user, texts, key, writer),
+            None => say(writer, b"down\n"),
+        }
+    }
+
+    /// Has a user's lock broken, and tells the outcome.
+    fn break_at<W: Write>(&self, number: NodeId, user: Name, writer: &mut W) -> Result<(), Fault> {
+        match self.desk(number)? {
+            Some(mut desk) => break_lock(&mut desk, user, writer),
+            None => say(writer, b"down\n"),
+        }
+    }
+
+    /// Tells that the service stops, and stops it.
+    fn stop<W: Write>(&self, writer: &mut W) -> Result<(), Fault> {
+        let said = say(writer, b"stopping\n");
+        let _unheard = writer.flush();
+        self.board.stop(&self.rt, &self.ports);
+        said
+    }
+
+    /// Performs a request, and answers it.
+    fn perform<S: Read, W: Write>(
+        &self,
+        request: &Request,
+        reader: &mut S,
+        writer: &mut W,
+    ) -> Result<(), Fault> {
+        match request {
+            Request::Deliver {
+                node,
+                user,
+                count,
+                key,
+            } => self.deliver_mail(*node, *user, *count, key, reader, writer),
+            Request::Break { node, user } => self.break_at(*node, *user, writer),
+            Request::Crash { node } => self.crash(*node, writer),
+            Request::Status => self.tell_status(writer),
+            Request::Stop => self.stop(writer),
+        }
+    }
+
+    /// Hears a request, and answers it. After want of memory what was not written yet is not said.
+    fn respond(&self, channel: &Channel<'_>) -> Result<(), Fault> {
+        let mut writer = channel.writer();
+        let Ok(mut reader) = BufReader::with_capacity(self.alloc, PIECE, channel.reader()) else {
+            return Err(Fault::Memory);
+        };
+        let mut line = [0u8; LONGEST_REQUEST];
+        let request = match read_line(&mut reader, &mut line) {
+            Some(len) => parse_request(&line[..len]),
+            None => None,
+        };
+        match request {
+            Some(request) => self.perform(&request, &mut reader, &mut writer)?,
+            None => say(&mut writer, b"bad request\n")?,
+        }
+        match writer.flush() {
+            Ok(()) => Ok(()),
+            Err(_) => Err(Fault::Write),
+        }
+    }
+}
+
+impl<R: Net + Wait + Clock + Copy, N: ServedNode + Desk<Op, Outcome> + Drop> Host
+    for OperatorHost<R, N> {
+    fn serve(&mut self, stream: &TcpStream) {
+        let channel = Channel::new(self.alloc, stream);
+        let _closed = self.respond(&channel);
+    }
+
+    fn share(&self) -> Result<Self, Memory> {
+        let nodes = Arc::try_clone(&self.nodes)?;
+        let board = Arc::try_clone(&self.board)?;
+        let ports = Arc::try_clone(&self.ports)?;
+        Ok(OperatorHost {
+            rt: self.rt,
+            alloc: self.alloc,
+            nodes,
+            board,
+            ports,
+        })
+    }
+
+    fn is_cut_at_the_end(&self) -> bool {
+        true
+    }
+}

@@ -1,0 +1,60 @@
+//! POP3 connections.
+
+use crate::board::Board;
+use crate::channel::Channel;
+use crate::host::Host;
+use crate::served_node::ServedNode;
+use ballot::Memory;
+use maildrop::{Op, Outcome};
+use session::{Desk, OpenGate, serve};
+use std::alloc::Global;
+use std::net::TcpStream;
+use std::random::RandomSource;
+use std::sync::{Arc, Wait};
+
+/// Serves POP3 sessions (RFC 1939) at a node.
+#[derive(Drop)]
+pub(crate) struct PopHost<R, N: ServedNode> {
+    pub rt: R,
+    pub alloc: Global,
+    pub node: N,
+    pub board: Arc<Board>,
+}
+
+impl<R: RandomSource + Wait + Copy, N: ServedNode + Desk<Op, Outcome> + Drop> Host
+    for PopHost<R, N> {
+    fn serve(&mut self, stream: &TcpStream) {
+        // A reply is never held back to be joined with the next.
+        let _slower = stream.set_nodelay(true);
+        let Some(stamp) = self.board.new_stamp(&self.rt, self.alloc) else {
+            return;
+        };
+        let channel = Channel::new(self.alloc, stream);
+        let transcript = serve(
+            self.alloc,
+            &mut channel.reader(),
+            &mut channel.writer(),
+            self.board.accounts(),
+            stamp,
+            &mut self.node,
+            &mut OpenGate,
+        );
+        let _unheard = channel.flush();
+        self.board.keep(&self.rt, transcript);
+    }
+
+    fn share(&self) -> Result<Self, Memory> {
+        let node = self.node.share()?;
+        let board = Arc::try_clone(&self.board)?;
+        Ok(PopHost {
+            rt: self.rt,
+            alloc: self.alloc,
+            node,
+            board,
+        })
+    }
+
+    fn is_cut_at_the_end(&self) -> bool {
+        false
+    }
+}

@@ -1,0 +1,162 @@
+//! `maildropd serve`: nodes, sessions and an operator's port in one process.
+ghost use Rattle.std.specs.Prelude.{◌≡◌, ◌≤◌, IsTrue, IsErrOf};
+ghost use Rattle.service.specs.Options as spec;
+ghost use Rattle.maildrop.specs.Name.{are_different};
+
+use crate::board::Board;
+use crate::fault::Fault;
+use crate::options::{ServeOptions, Settings, settings_of};
+use crate::serving::{Ports, serve_nodes};
+use crate::system::System;
+use crate::verdict::{Verdict, verdict_of};
+use apop::{Accounts, AccountsError};
+use ballot::{Items, NodeId};
+use cluster::{Cluster, Deployment, InboxLink, NodeDesk, Setup, StartError};
+use maildrop::are_different;
+use std::alloc::Global;
+use std::io;
+use std::io::{Eprint, Read, Write};
+use std::marker::Brand;
+use std::rt::Files;
+use std::sync::Arc;
+use std::time::Duration;
+
+/// The node that asks to lead as soon as the service starts.
+const FIRST_LEADER: u8 = 1;
+
+/// The accounts of a file.
+fn accounts_of<R: Files>(rt: &R, alloc: Global, path: &str) -> Result<Accounts, Fault> {
+    let mut bytes = Vec::new(alloc);
+    let read = match std::fs::open(rt, path) {
+        Ok(mut file) => file.read_to_end(&mut bytes),
+        Err(error) => Err(error),
+    };
+    match read {
+        Ok(_) => {}
+        Err(error) if error.kind() == io::ErrorKind::OutOfMemory => return Err(Fault::Memory),
+        Err(_) => return Err(Fault::Read),
+    }
+    match Accounts::read(alloc, bytes.as_slice()) {
+        Ok(accounts) => Ok(accounts),
+        Err(AccountsError::Line(line)) => Err(Fault::Account(line)),
+        Err(AccountsError::Twice(line)) => Err(Fault::NameTwice(line)),
+        Err(AccountsError::Memory) => Err(Fault::Memory),
+    }
+}
+
+/// What the nodes begin with.
+fn setup_of(alloc: Global, settings: &Settings, accounts: &Accounts) -> Result<Setup, Fault> {
+    let mut names = Items::new(alloc);
+    for name in accounts.names() {
+        names.push(*name)?;
+    }
+    Ok(Setup {
+        cluster: settings.cluster,
+        window: settings.window,
+        names,
+        limits: settings.limits,
+    })
+}
+
+/// The desks of all nodes.
+fn desks_of<D: Deployment + Send + Sync + 'static, R: System>(
+    alloc: Global,
+    cluster: &Cluster<D, R, InboxLink<R>>,
+    settings: &Settings,
+) -> Result<Vec<NodeDesk<D, R, InboxLink<R>>>, Fault> {
+    let mut desks = Vec::new(alloc);
+    for number in 1..=settings.cluster.get() {
+        if let Some(node) = NodeId::new(number) {
+            if let Some(desk) = cluster.desk(node)? {
+                desks.push(desk)?;
+            }
+        }
+    }
+    Ok(desks)
+}
+
+/// Runs the nodes and their sessions until an operator stops them.
+fn serve_cluster<D: Deployment + Send + Sync + 'static, R: System>(
+    rt: R,
+    alloc: Global,
+    setup: &Setup,
+    settings: &Settings,
+    ports: Ports,
+    board: &Arc<Board>,
+) -> Result<Verdict, Fault>
+    requires deployment { setup.now ≡ D.setup }
+    requires names { IsTrue (are_different setup.now.names) }
+{
+    let cluster = match Cluster::<D, R, InboxLink<R>>::start(rt, alloc, setup) {
+        Ok(cluster) => cluster,
+        Err(StartError::Setup) => return Err(Fault::Value),
+        Err(_) => return Err(Fault::Memory),
+    };
+    let desks = Arc::new(alloc, desks_of(alloc, &cluster, settings)?)?;
+    if let Some(leader) = NodeId::new(FIRST_LEADER) {
+        cluster.campaign(leader);
+    }
+    let tick = Duration::from_millis(settings.tick_ms);
+    serve_nodes(rt, alloc, desks, ports, board, tick)?;
+    let logs = cluster.stop();
+    match board.take_transcripts(&rt, alloc) {
+        Some(transcripts) => Ok(verdict_of(logs, transcripts)),
+        None => Ok(Verdict::Memory),
+    }
+}
+
+/// Runs a service with these settings and the accounts of a file.
+fn run_with<R: System + Files>(
+    rt: R,
+    alloc: Global,
+    accounts: &str,
+    settings: &Settings,
+) -> Result<Verdict, Fault> {
+    let accounts = accounts_of(&rt, alloc, accounts)?;
+    let setup = setup_of(alloc, settings, &accounts)?;
+    let ports = Ports::open(&rt, alloc, settings)?;
+    let host = settings.host.copy()?;
+    let board = Arc::new(alloc, Board::new(alloc, accounts, host))?;
+    // No accounts have one name.
+    if !are_different(setup.names.get()) {
+        return Err(Fault::Value);
+    }
+    serve_cluster::<Brand, R>(rt, alloc, &setup, settings, ports, &board)
+}
+
+fn run<R: System + Files>(
+    rt: R,
+    alloc: Global,
+    options: &ServeOptions<'_>,
+) -> Result<Verdict, Fault>
+    ensures values { (¬ spec.AreGood options.now) → IsErrOf result Fault.Value }
+{
+    match settings_of(alloc, options) {
+        Ok(settings) => run_with(rt, alloc, options.accounts, &settings),
+        Err(fault) => Err(fault),
+    }
+}
+
+/// Serves POP3 (RFC 1939) at a port of each node, and an operator's requests at a port of their own, until an operator
+/// stops it: then no connection is taken any more, the sessions go on to their ends, the nodes stop, and `stopped` is
+/// written. Gives the exit status: 0 then, 1 after a fault of memory, reading, writing or the network, 2 for options or
+/// an accounts file that are none. A fault is told on standard error.
+pub fn serve_run<R: System + Files + Eprint, W: Write>(
+    rt: R,
+    alloc: Global,
+    writer: &mut W,
+    options: &ServeOptions<'_>,
+) -> u8
+    ensures values { (¬ spec.AreGood options.now) → result ≡ 2 }
+    ensures statuses { result ≤ 2 }
+{
+    let fault = match run(rt, alloc, options) {
+        Ok(verdict) => match writer.write_all(verdict.line()) {
+            Ok(()) => return verdict.status(),
+            Err(_) => Fault::Write,
+        },
+        Err(fault) => fault,
+    };
+    let _untold = eprintln!(&rt; "maildropd: {fault}");
+    fault.status()
+}

@@ -1,0 +1,27 @@
+//! A node, as a service sees it.
+
+use ballot::{Memory, NodeId};
+use cluster::Status;
+
+/// A node of the service. Its desk has operations performed, and has the trait of its own, `session::Desk`.
+pub trait ServedNode {
+    /// The node's number.
+    fn me(&self) -> NodeId;
+
+    /// The same node, for another thread.
+    fn share(&self) -> Result<Self, Memory>
+    where
+        Self: Sized;
+
+    /// The node stops, for good. Gives whether it was up until now.
+    fn crash(&self) -> bool;
+
+    /// Time has passed for the node.
+    fn tick(&self);
+
+    /// The node asks to lead.
+    fn campaign(&self);
+
+    /// How the node stands, or nothing once its cluster has ended.
+    fn status(&self) -> Option<Status>;
+}
