@@ -26,4 +26,3 @@ pub use options::{
     SERVE_IDS, SERVE_MESSAGES, SERVE_NODES, SERVE_OCTETS, SERVE_TICK_MS, SERVE_WINDOW, ServeOptions,
 };
 pub use serve::serve_run;
-pub use system::System;

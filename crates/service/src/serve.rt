@@ -17,9 +17,12 @@ use std::alloc::Global;
 use std::io;
 use std::io::{Eprint, Read, Write};
 use std::marker::Brand;
+use std::net::{Net, TcpListener, TcpStream};
+use std::random::RandomSource;
 use std::rt::Files;
-use std::sync::Arc;
-use std::time::Duration;
+use std::sync::{Arc, Wait};
+use std::thread::Threads;
+use std::time::{Clock, Duration};
 
 /// The node that asks to lead as soon as the service starts.
 const FIRST_LEADER: u8 = 1;
@@ -141,12 +144,20 @@ fn run<R: System + Files>(
 /// stops it: then no connection is taken any more, the sessions go on to their ends, the nodes stop, and `stopped` is
 /// written. Gives the exit status: 0 then, 1 after a fault of memory, reading, writing or the network, 2 for options or
 /// an accounts file that are none. A fault is told on standard error.
-pub fn serve_run<R: System + Files + Eprint, W: Write>(
-    rt: R,
-    alloc: Global,
-    writer: &mut W,
-    options: &ServeOptions<'_>,
-) -> u8
+pub fn serve_run<
+    R: Net<Listener = TcpListener, Stream = TcpStream>
+        + Threads
+        + Wait
+        + Clock
+        + RandomSource
+        + Copy
+        + Send
+        + Sync
+        + 'static
+        + Files
+        + Eprint,
+    W: Write,
+>(rt: R, alloc: Global, writer: &mut W, options: &ServeOptions<'_>) -> u8
     ensures values { (¬ spec.AreGood options.now) → result ≡ 2 }
     ensures statuses { result ≤ 2 }
 {
