@@ -1,0 +1,42 @@
+//! `maildropd ctl`.
+
+use crate::arguments::{number, number_of};
+use clap::{Arg, ArgAction, ArgMatches, Command, Error};
+use service::ctl_run;
+use std::alloc::Global;
+use std::io;
+use std::net::{Net, TcpListener, TcpStream};
+use std::rt::Files;
+
+/// What `--help` shows below the options.
+const REQUESTS: &str = "Requests:
+  deliver NODE USER FILE [KEY]  Delivers the messages of a mailbox file (mboxrd); under a key, each is stored once, however often it is sent
+  break NODE USER               Takes the user's lock from the session that has it
+  crash NODE                    Stops a node, for good
+  status                        Tells how the nodes stand
+  stop                          Ends the service, once its sessions have ended
+Example:
+  maildropd ctl --port 11999 deliver 1 alice mail.mbox";
+
+pub(crate) fn ctl<'a>(alloc: Global) -> Result<Command<'a>, Error> {
+    let port = number(alloc, "port", "PORT", "The service's operator's port");
+    let words = Arg::new(alloc, "words")
+        .value_name("REQUEST")
+        .help("The request, as below")
+        .num_args(1..)
+        .action(ArgAction::Append);
+    let ctl = Command::new(alloc, "ctl")
+        .about("Makes an operator's request to a service on this machine, and prints the answer")
+        .after_help(REQUESTS)
+        .arg(port.required(true))?
+        .arg(words.required(true))?;
+    Ok(ctl)
+}
+
+pub(crate) fn run_ctl<
+    R: Net<Listener = TcpListener, Stream = TcpStream> + AllocGlobal + Files + Print + Eprint,
+>(rt: &R, matches: &ArgMatches<'_>) -> u8 {
+    let words = matches.get_strs("words").unwrap_or(&[]);
+    let port = number_of(matches, "port");
+    ctl_run(rt, rt.alloc(), &mut io::writer(rt), port, words)
+}
