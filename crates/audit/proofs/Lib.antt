@@ -1,0 +1,14 @@
+pub mod Basics
+pub mod Earlier
+pub mod Complete
+pub mod Walk
+pub mod Aligned
+pub mod Sweep
+pub mod Sound
+pub mod Monotone
+pub mod Once
+pub mod Equal
+pub mod Calls
+pub mod RealLaws
+pub mod Settled
+pub mod Fit

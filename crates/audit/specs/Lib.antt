@@ -1,0 +1,11 @@
+pub mod Case
+pub mod Laws
+pub mod Placing
+pub mod Order
+pub mod Right
+pub mod Wrong
+pub mod Same
+pub mod Turns
+pub mod Replays
+pub mod Records
+pub mod Examples

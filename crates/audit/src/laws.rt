@@ -1,0 +1,47 @@
+//! Laws of audits. Each is a function that does nothing: its contract is the law.
+//!
+//! Inputs are placed one at a time, each where it can come by what is placed: it is the next of its log, no crash stands
+//! before it, its message was sent, and what its session asked before is answered. By these laws it makes no difference in
+//! which order that is done: whoever places inputs until none can be placed knows whether there is a legal order, but for
+//! what the transcripts say of answers.
+ghost use Rattle.std.specs.Prelude.{◌≡◌, ◌<◌, ℕ, suc, List, [], length, None, true};
+ghost use Rattle.node.specs.declared.log.NodeLog.{NodeLog};
+ghost use Rattle.session.specs.declared.transcript.Transcript.{Transcript};
+ghost use Rattle.audit.specs.Order.{IsLegalOrder};
+ghost use Rattle.audit.specs.Placing.{IsPlacing, can_place, is_stuck, put};
+ghost use Rattle.audit.specs.Records.{AreFit, case_of};
+ghost use Rattle.audit.specs.Wrong.{first_wrong};
+ghost use Rattle.audit.specs.declared.event.Event.{Event};
+
+use std::alloc::Allocator;
+
+/// Where no input can be placed and a log has some left, there is no legal order, whatever the logs and the transcripts
+/// are.
+pub fn a_stuck_placing_has_no_order<A: Allocator>()
+    ensures { (logs : List (NodeLog A)) (transcripts : List (Transcript A)) (placed : ℕ → ℕ) (node : ℕ) →
+        is_stuck (case_of logs transcripts) placed ≡ true
+        → placed node < length ((case_of logs transcripts).logs node)
+        → (events : List Event) → IsLegalOrder (case_of logs transcripts) events → ⊥ }
+{}
+
+/// Where all inputs are placed, and no transcript has a wrong answer, there is a legal order.
+pub fn a_whole_placing_has_an_order<A: Allocator>()
+    ensures { (logs : List (NodeLog A)) (transcripts : List (Transcript A)) → AreFit logs transcripts
+        → (order : List ℕ) (placed : ℕ → ℕ) → IsPlacing (case_of logs transcripts) order placed
+        → ((node : ℕ) → placed node ≡ length ((case_of logs transcripts).logs node))
+        → first_wrong (case_of logs transcripts) 0 [] (case_of logs transcripts).scripts ≡ None
+        → (events : List Event) × IsLegalOrder (case_of logs transcripts) events }
+{}
+
+/// An input that can be placed still can once one of another node is placed.
+pub fn placing_takes_no_turn_away<A: Allocator>()
+    ensures { (logs : List (NodeLog A)) (transcripts : List (Transcript A)) (placed : ℕ → ℕ) (node other : ℕ) → (node ≡ other → ⊥)
+        → can_place (case_of logs transcripts) placed node ≡ true
+        → can_place (case_of logs transcripts) (put placed other (suc (placed other))) node ≡ true }
+{}
+
+/// Whatever the logs and the transcripts are, inputs can be placed until none can be placed.
+pub fn a_placing_ends<A: Allocator>()
+    ensures { (logs : List (NodeLog A)) (transcripts : List (Transcript A)) →
+        (order : List ℕ) × (placed : ℕ → ℕ) × IsPlacing (case_of logs transcripts) order placed × (is_stuck (case_of logs transcripts) placed ≡ true) }
+{}

@@ -1,0 +1,12 @@
+//! An audit of a service that ran: was what its nodes and its sessions did legal? Here are the definition of a legal order
+//! of logs and transcripts, and its laws: when there is such an order, and when there is none.
+#![tactic(auto)]
+
+mod event;
+mod laws;
+
+pub use event::Event;
+pub use laws::{
+    a_placing_ends, a_stuck_placing_has_no_order, a_whole_placing_has_an_order,
+    placing_takes_no_turn_away,
+};
