@@ -10,11 +10,14 @@ use Rattle.audit.specs.Order.{IsLegalOrder}
 use Rattle.audit.specs.Placing.{IsPlacing}
 use Rattle.audit.specs.Records.{is_fit, place_of, begun_at, places_from, case_of, AreFit}
 use Rattle.audit.specs.Replays.{runs}
-use Rattle.audit.specs.Wrong.{first_node, first_wrong}
+use Rattle.audit.specs.Wrong.{seat, first_node, first_wrong}
 use Rattle.audit.specs.declared.event.Event.{Event}
-use Rattle.audit.proofs.Once.{none_wrong, at_of}
+use Rattle.audit.proofs.Once.{none_wrong}
 use Rattle.audit.proofs.RealLaws.{real_laws}
 use Rattle.audit.proofs.Sound.{legal}
+use Rattle.audit.proofs.Written.{written}
+use Rattle.audit.specs.Events.{Placement}
+use Rattle.audit.specs.Written.{ArePlaced, written_order}
 
 -- a place of a list is behind its first, and something stands there
 from_place : {X : Type 0} (from n : ℕ) (xs : List X) → IsIn n (places_from from xs) → (k : ℕ) × (x : X) × (n ≡ from + k) × (slice_get xs k ≡ Some x)
@@ -65,4 +68,11 @@ module _ {A : Type 0} (logs : List (NodeLog A)) (transcripts : List (Transcript 
   order_of_logs ns p placing all right =
       let a = case_of logs transcripts in
       let laws = real_laws logs transcripts in
-      legal a laws all_begin (at_of a laws) (none_wrong a laws (first_there logs 0 fit.some) fit.scripts right) ns p placing all
+      legal a laws all_begin (seat a) (none_wrong a laws (first_there logs 0 fit.some) fit.scripts right) ns p placing all
+
+  pub order_written : (ps : List Placement) → ArePlaced (case_of logs transcripts) (λ n. 0) [] ps → first_wrong (case_of logs transcripts) 0 [] (case_of logs transcripts).scripts ≡ None
+      → IsLegalOrder (case_of logs transcripts) (written_order (case_of logs transcripts) (seat (case_of logs transcripts)) ps)
+  order_written ps placed right =
+      let a = case_of logs transcripts in
+      let laws = real_laws logs transcripts in
+      written a laws all_begin (seat a) (none_wrong a laws (first_there logs 0 fit.some) fit.scripts right) ps placed

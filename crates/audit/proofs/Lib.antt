@@ -12,3 +12,5 @@ pub mod Calls
 pub mod RealLaws
 pub mod Settled
 pub mod Fit
+pub mod Written
+pub mod Connected

@@ -6,7 +6,7 @@ use Rattle.audit.specs.Case.{Turn, Plain, Asks, Case, next, state_at, key_in, tu
 use Rattle.ballot.specs.Lists.{IsIn}
 use Rattle.audit.specs.Laws.{Laws}
 use Rattle.audit.specs.Right.{IsRight, AreRight, NoneWrong}
-use Rattle.audit.specs.Wrong.{is_key, is_submit, has_submit, is_outcome, is_seen, is_good, are_good, seen_after, first_node, node_of, first_wrong, IsScript}
+use Rattle.audit.specs.Wrong.{turns_at, seat, is_key, is_submit, has_submit, is_outcome, is_seen, is_good, are_good, seen_after, first_node, node_of, first_wrong, IsScript}
 use Rattle.audit.proofs.Basics.{in_left, in_right}
 
 module _ {S I E K O L : Type 0} (a : Case S I E K O L) (laws : Laws a) where
@@ -144,15 +144,8 @@ module _ {S I E K O L : Type 0} (a : Case S I E K O L) (laws : Laws a) where
       let m = submit_back (a.home k) k x (length (a.logs (a.home k))) q.0 in
       laws.there (a.home k) m.0 x m.1
 
-  abbrev pub script_at : Option (Option (List (Turn I K O L))) → List (Turn I K O L)
-  script_at None = []
-  script_at (Some s) = turns_of a s
-
-  abbrev pub at_of : ℕ → ℕ
-  at_of i = node_of a (script_at (slice_get a.scripts i))
-
-  pub none_wrong : IsIn (first_node a a.nodes) a.nodes → ((i : ℕ) (ts : List (Turn I K O L)) → slice_get a.scripts i ≡ Some (Some ts) → IsScript a ts) → first_wrong a 0 [] a.scripts ≡ None → NoneWrong a at_of
+  pub none_wrong : IsIn (first_node a a.nodes) a.nodes → ((i : ℕ) (ts : List (Turn I K O L)) → slice_get a.scripts i ≡ Some (Some ts) → IsScript a ts) → first_wrong a 0 [] a.scripts ≡ None → NoneWrong a (seat a)
   none_wrong first fit h i ts e =
       let g = good_at 0 [] a.scripts h i (Some ts) e in
-      subst (λ u. IsIn (node_of a (script_at u)) a.nodes × AreRight a (node_of a (script_at u)) ts) (sym e)
+      subst (λ u. IsIn (node_of a (turns_at a u)) a.nodes × AreRight a (node_of a (turns_at a u)) ts) (sym e)
       (node_there (node_of a ts) g.0 ts g.1 first, are_right (node_of a ts) g.0 ts g.1 (fit i ts e) (λ k t. named_once k h (among a.scripts i ts k e t)))

@@ -23,10 +23,10 @@ got_in [] x h = absurd h
 got_in (y ∷ xs) x h = ⊎_elim (λ (e : y ≡ x). (0, ap (λ z. Some z) e)) (λ t. let r = got_in xs x t in (suc r.0, r.1)) h
 
 module _ {S I E K O L : Type 0} (a : Case S I E K O L) (laws : Laws a) (begins : AllBegin a) (at : ℕ → ℕ) (right : NoneWrong a at) where
-  abbrev used : ℕ → ℕ
+  abbrev pub used : ℕ → ℕ
   used n = length (a.logs n)
 
-  abbrev more : (ℕ → ℕ) → ℕ → ℕ → ℕ
+  abbrev pub more : (ℕ → ℕ) → ℕ → ℕ → ℕ
   more q n = put q n (suc (q n))
 
   record Reached (q : ℕ → ℕ) : Type 0 where
@@ -37,7 +37,7 @@ module _ {S I E K O L : Type 0} (a : Case S I E K O L) (laws : Laws a) (begins :
     all_sent : (n : ℕ) (e : E) → IsIn n a.nodes → IsIn e (sent_at a n (q n)) → IsIn e sent
     fit : (i : ℕ) → IsFit a at q i (sessions i)
 
-  asked_key : (s : S) (x : I) (k : K) → asked a s x ≡ Some k → a.key_of s x ≡ Some k
+  pub asked_key : (s : S) (x : I) (k : K) → asked a s x ≡ Some k → a.key_of s x ≡ Some k
   asked_key s x k =
       go (a.locks x)
     where
@@ -45,7 +45,7 @@ module _ {S I E K O L : Type 0} (a : Case S I E K O L) (laws : Laws a) (begins :
       go true h = h
       go false h = absurd (cc)
 
-  asked_none : (s : S) (x : I) → a.key_of s x ≡ None → asked a s x ≡ None
+  pub asked_none : (s : S) (x : I) → a.key_of s x ≡ None → asked a s x ≡ None
   asked_none s x h =
       go (a.locks x)
     where
@@ -53,18 +53,18 @@ module _ {S I E K O L : Type 0} (a : Case S I E K O L) (laws : Laws a) (begins :
       go true = h
       go false = refl
 
-  asked_some : (s : S) (x : I) (k : K) → a.locks x ≡ true → a.key_of s x ≡ Some k → asked a s x ≡ Some k
+  pub asked_some : (s : S) (x : I) (k : K) → a.locks x ≡ true → a.key_of s x ≡ Some k → asked a s x ≡ Some k
   asked_some s x k l h = rw l h
 
   same_some : {A : Type 0} (x y : A) → Some x ≡ Some y → x ≡ y
   same_some x y e = cc
 
   -- what is submitted after one input more
-  submitted_more : (q : ℕ → ℕ) (n : ℕ) (k : K) → IsSubmitted a q k → IsSubmitted a (more q n) k
+  pub submitted_more : (q : ℕ → ℕ) (n : ℕ) (k : K) → IsSubmitted a q k → IsSubmitted a (more q n) k
   submitted_more q n k h =
       (h.0, h.1, put_each (λ m v. h.0 < q m → h.0 < v) q n (suc (q n)) (λ l. omega arith) (λ m l. l) (a.home k) h.2, h.3, h.4)
 
-  submitted_new : (q : ℕ → ℕ) (n : ℕ) (x : I) (k : K) → next a n (q n) ≡ Some x → IsSubmitted a (more q n) k → IsSubmitted a q k ⊎ (asked a (state_at a n (q n)) x ≡ Some k)
+  pub submitted_new : (q : ℕ → ℕ) (n : ℕ) (x : I) (k : K) → next a n (q n) ≡ Some x → IsSubmitted a (more q n) k → IsSubmitted a q k ⊎ (asked a (state_at a n (q n)) x ≡ Some k)
   submitted_new q n x k is (j, y, low, here, asks) =
       put_apart (λ m v. a.home k ≡ m → j < v → IsSubmitted a q k ⊎ (asked a (state_at a n (q n)) x ≡ Some k)) q n (suc (q n))
       (λ e l. ⊎_elim
@@ -79,7 +79,7 @@ module _ {S I E K O L : Type 0} (a : Case S I E K O L) (laws : Laws a) (begins :
       (a.home k) refl low
 
   -- an answer that is new is of the node that took the input, and it runs
-  new_answer : (q : ℕ → ℕ) (n : ℕ) (x : I) (k : K) → next a n (q n) ≡ Some x → is_answered a q k ≡ false → is_answered a (more q n) k ≡ true → a.runs (state_at a (a.home k) (more q n (a.home k))) ≡ true
+  pub new_answer : (q : ℕ → ℕ) (n : ℕ) (x : I) (k : K) → next a n (q n) ≡ Some x → is_answered a q k ≡ false → is_answered a (more q n) k ≡ true → a.runs (state_at a (a.home k) (more q n (a.home k))) ≡ true
   new_answer q n x k is old new =
       put_apart (λ m v. a.home k ≡ m → is_some (a.answer (state_at a (a.home k) v) k) ≡ true → a.runs (state_at a (a.home k) v) ≡ true) q n (suc (q n))
       (λ e h. ⊎_elim
@@ -153,7 +153,7 @@ module _ {S I E K O L : Type 0} (a : Case S I E K O L) (laws : Laws a) (begins :
       neither : (k : K) → None ≡ Some k → ⊥
       neither k e = absurd (cc)
 
-  answered_submitted : (q : ℕ → ℕ) (i : ℕ) (ts : List (Turn I K O L)) → slice_get a.scripts i ≡ Some (Some ts) → (k : K) → IsIn k (key_in a ts) → is_answered a q k ≡ true → IsSubmitted a q k
+  pub answered_submitted : (q : ℕ → ℕ) (i : ℕ) (ts : List (Turn I K O L)) → slice_get a.scripts i ≡ Some (Some ts) → (k : K) → IsIn k (key_in a ts) → is_answered a q k ≡ true → IsSubmitted a q k
   answered_submitted q i ts script k in_ts h =
       let v = some_of a (a.answer (state_at a (a.home k) (q (a.home k))) k) h in
       let s = laws.answered (q (a.home k)) k v.0 v.1 in
@@ -165,14 +165,14 @@ module _ {S I E K O L : Type 0} (a : Case S I E K O L) (laws : Laws a) (begins :
       let l : a.locks s.1 ≡ true = subst (λ z. a.locks z ≡ true) (sym y) ir.locks in
       (s.0, s.1, s.2, s.3, asked_some (state_at a (a.home k) s.0) s.1 k l s.4)
 
-  abbrev asked_session : ℕ → List (Turn I K O L) → Option L → I → K → Option O → List (Turn I K O L) → Session I K O L
+  abbrev pub asked_session : ℕ → List (Turn I K O L) → Option L → I → K → Option O → List (Turn I K O L) → Session I K O L
   asked_session n done line x k o rest = record { node = Some n; done = done ++ Asks line x k o ∷ []; left = rest; awaits = Some (record { key = k; outcome = o }) }
 
-  abbrev asked_event : ℕ → Option L → Event
+  abbrev pub asked_event : ℕ → Option L → Event
   asked_event i None = Hangup i
   asked_event i (Some l) = Line i
 
-  event_happens : (w w' : World I E K O L) (i n : ℕ) (u : Option L) → Submits a w i n u w' → (w.sessions i).node ≡ Some n → Runs a w n → (w.sessions i).awaits ≡ None → Happens a w (asked_event i u) w'
+  pub event_happens : (w w' : World I E K O L) (i n : ℕ) (u : Option L) → Submits a w i n u w' → (w.sessions i).node ≡ Some n → Runs a w n → (w.sessions i).awaits ≡ None → Happens a w (asked_event i u) w'
   event_happens w w' i n None h node up none = (n, (node, up, none), h)
   event_happens w w' i n (Some l) h node up none = (n, (node, up, none), inr (l, h))
 
@@ -329,7 +329,7 @@ module _ {S I E K O L : Type 0} (a : Case S I E K O L) (laws : Laws a) (begins :
       grows q n = put_each (λ m v. q m ≤ v) q n (suc (q n)) (omega arith) (λ m. omega arith)
 
   -- at the end of a placing of all, each session is at its end
-  session_ends : (p : ℕ → ℕ) → ((n : ℕ) → p n ≡ used n) → (i : ℕ) (ts : List (Turn I K O L)) → slice_get a.scripts i ≡ Some (Some ts) → (s : Session I K O L) → Synced a p (at i) ts s → Caught a p s → (s.done ≡ ts) × (s.left ≡ []) × NothingAwaited a s.awaits
+  pub session_ends : (p : ℕ → ℕ) → ((n : ℕ) → p n ≡ used n) → (i : ℕ) (ts : List (Turn I K O L)) → slice_get a.scripts i ≡ Some (Some ts) → (s : Session I K O L) → Synced a p (at i) ts s → Caught a p s → (s.done ≡ ts) × (s.left ≡ []) × NothingAwaited a s.awaits
   session_ends p all i ts script s z c =
       let in_ts : (k : K) → IsIn k (key_in a s.left) → IsIn k (key_in a ts) = λ k h. subst (λ us. IsIn k (key_in a us)) z.whole (subst (λ ks. IsIn k ks) (sym (keys_both a s.done s.left)) (in_right k (key_in a s.done) _ h)) in
       let keys : HasNoKey a s.left = no_key a s.left (λ k h. z.ahead k h (submitted k (in_ts k h))) in
@@ -376,7 +376,7 @@ module _ {S I E K O L : Type 0} (a : Case S I E K O L) (laws : Laws a) (begins :
       same : (k j : ℕ) → k < suc j → j ≤ k → j ≡ k
       same k j l h = omega arith
 
-  named_once : (ns : List ℕ) (p : ℕ → ℕ) → IsPlacing a ns p → ((n : ℕ) → p n ≡ used n) → IsNamedOnce a
+  pub named_once : (ns : List ℕ) (p : ℕ → ℕ) → IsPlacing a ns p → ((n : ℕ) → p n ≡ used n) → IsNamedOnce a
   named_once ns p placing all n k x key is asks =
       let w = placed_when ns p placing n k (subst (λ v. k < v) (sym (all n)) (got_below (a.logs n) k x is)) in
       let q = w.0 in

@@ -7,6 +7,7 @@ use Rattle.audit.specs.Case.{Turn, Plain, Asks, Case, next, state_at, asked, key
 use Rattle.audit.specs.Placing.{put, is_answered}
 use Rattle.audit.specs.declared.event.Event.{Event}
 use Rattle.audit.specs.declared.event.Event.TheVariants.{Line, Collect}
+use Rattle.audit.specs.Events.{kinds, said, unsaid}
 use Rattle.audit.specs.Order.{Awaited, Session, World, Agrees, Happens, Leads}
 use Rattle.ballot.specs.Lists.{IsIn}
 use Rattle.audit.specs.Laws.{Laws}
@@ -60,6 +61,8 @@ module _ {S I E K O L : Type 0} (a : Case S I E K O L) where
     pub keys_done : key_in a done_then ≡ key_in a done
     pub keys_left : key_in a left_then ≡ key_in a left
     pub asks : StartsAsking left_then
+    pub events_are : events ≡ said i (kinds left)
+    pub kinds_are : kinds left_then ≡ unsaid (kinds left)
 
   says_line : (q : ℕ → ℕ) (sent : List E) (f : ℕ → Session I K O L) (i n : ℕ) → a.runs (state_at a n (q n)) ≡ true → (done ts : List (Turn I K O L)) (l : L) → Happens a (the_world q sent (put f i (the_session n done (Plain l ∷ ts)))) (Line i) (the_world q sent (put f i (the_session n (done ++ Plain l ∷ []) ts)))
   says_line q sent f i n up done ts l =
@@ -70,7 +73,7 @@ module _ {S I E K O L : Type 0} (a : Case S I E K O L) where
       (n, (ap (λ (z : Session I K O L). z.node) e, up, ap (λ (z : Session I K O L). z.awaits) e), inl (l, (ts, ap (λ (z : Session I K O L). z.left) e, sym (first ∙ second))))
 
   pub say : (q : ℕ → ℕ) (sent : List E) (f : ℕ → Session I K O L) (i n : ℕ) → a.runs (state_at a n (q n)) ≡ true → (left done : List (Turn I K O L)) → Said q sent f i n done left
-  say q sent f i n up [] done = record { events = []; done_then = done; left_then = []; leads = refl; whole = refl; keys_done = refl; keys_left = refl; asks = tt }
+  say q sent f i n up [] done = record { events = []; done_then = done; left_then = []; leads = refl; whole = refl; keys_done = refl; keys_left = refl; asks = tt; events_are = refl; kinds_are = refl }
   say q sent f i n up (Plain l ∷ ts) done =
       let r = say q sent f i n up ts (done ++ Plain l ∷ []) in
       record {
@@ -82,8 +85,11 @@ module _ {S I E K O L : Type 0} (a : Case S I E K O L) where
         keys_done = r.keys_done ∙ (keys_both a done (Plain l ∷ []) ∙ append-nil (key_in a done));
         keys_left = r.keys_left;
         asks = r.asks;
+        events_are = ap (λ es. Line i ∷ es) r.events_are;
+        kinds_are = r.kinds_are;
       }
-  say q sent f i n up (Asks l x k o ∷ ts) done = record { events = []; done_then = done; left_then = Asks l x k o ∷ ts; leads = refl; whole = refl; keys_done = refl; keys_left = refl; asks = tt }
+  say q sent f i n up (Asks None x k o ∷ ts) done = record { events = []; done_then = done; left_then = Asks None x k o ∷ ts; leads = refl; whole = refl; keys_done = refl; keys_left = refl; asks = tt; events_are = refl; kinds_are = refl }
+  say q sent f i n up (Asks (Some l) x k o ∷ ts) done = record { events = []; done_then = done; left_then = Asks (Some l) x k o ∷ ts; leads = refl; whole = refl; keys_done = refl; keys_left = refl; asks = tt; events_are = refl; kinds_are = refl }
 
   -- the Submit of a key is placed
   abbrev pub IsSubmitted : (ℕ → ℕ) → K → Type 0

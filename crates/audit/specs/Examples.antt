@@ -19,7 +19,10 @@ use Rattle.audit.specs.Case.{Plain, Asks}
 use Rattle.audit.specs.Placing.{put, can_place, is_stuck}
 use Rattle.audit.specs.Records.{case_of}
 use Rattle.audit.specs.Turns.{turns_from}
-use Rattle.audit.specs.Wrong.{first_wrong}
+use Rattle.audit.specs.Wrong.{first_wrong, seat}
+use Rattle.audit.specs.Events.{Own, Last}
+use Rattle.audit.specs.Written.{written_order}
+use Rattle.audit.specs.declared.event.Event.TheVariants.{Connect, Line, Given}
 
 module _ (A : Type 0) (limits : Limits) where
   abbrev alice : List ℕ
@@ -88,3 +91,8 @@ module _ (A : Type 0) (limits : Limits) where
 
   untold : first_wrong (case_of [] (session_with [] ∷ session_with (took None (Some InUse) ∷ []) ∷ [])) 0 [] (case_of [] (session_with [] ∷ session_with (took None (Some InUse) ∷ []) ∷ [])).scripts ≡ Some 1
   untold = refl
+
+  -- a session at a node that crashed has said its lines before
+  before_the_crash : written_order (case_of (log_of 1 (Tick ∷ Crash ∷ []) ∷ []) (session_with [] ∷ [])) (seat (case_of (log_of 1 (Tick ∷ Crash ∷ []) ∷ []) (session_with [] ∷ []))) (record { node = 0; source = Own } ∷ record { node = 0; source = Last } ∷ [])
+      ≡ Connect 0 1 ∷ Given 1 ∷ Line 0 ∷ Line 0 ∷ Given 1 ∷ []
+  before_the_crash = refl

@@ -9,3 +9,5 @@ pub mod Turns
 pub mod Replays
 pub mod Records
 pub mod Examples
+pub mod Events
+pub mod Written

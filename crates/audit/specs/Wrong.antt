@@ -1,5 +1,5 @@
 -- The first transcript with a wrong answer.
-use Rattle.std.specs.Prelude.{◌≡◌, ℕ, zero, suc, List, [], ◌∷◌, length, Option, Some, None, Bool, true, false, ◌==◌, ◌&&◌, ◌||◌, not, if◌then◌else◌}
+use Rattle.std.specs.Prelude.{◌≡◌, ℕ, zero, suc, List, [], ◌∷◌, length, Option, Some, None, Bool, true, false, ◌==◌, ◌&&◌, ◌||◌, not, slice_get, if◌then◌else◌}
 use Rattle.std.specs.List.{list_any}
 use Rattle.audit.specs.Case.{Turn, Plain, Asks, Case, next, state_at, turns_of}
 use Rattle.audit.specs.Right.{HasNoLine}
@@ -62,3 +62,11 @@ module _ {S I E K O L : Type 0} (a : Case S I E K O L) where
   IsScript [] = Unit {0}
   IsScript (Plain l ∷ ts) = IsScript ts
   IsScript (Asks l x k o ∷ ts) = (a.brought x ≡ None) × (a.locks x ≡ true) × (o ≡ None → HasNoLine a ts) × IsScript ts
+
+  -- the node of each session
+  abbrev pub turns_at : Option (Option (List (Turn I K O L))) → List (Turn I K O L)
+  turns_at None = []
+  turns_at (Some script) = turns_of a script
+
+  abbrev pub seat : ℕ → ℕ
+  seat i = node_of (turns_at (slice_get a.scripts i))

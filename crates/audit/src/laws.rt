@@ -10,7 +10,9 @@ ghost use Rattle.session.specs.declared.transcript.Transcript.{Transcript};
 ghost use Rattle.audit.specs.Order.{IsLegalOrder};
 ghost use Rattle.audit.specs.Placing.{IsPlacing, can_place, is_stuck, put};
 ghost use Rattle.audit.specs.Records.{AreFit, case_of};
-ghost use Rattle.audit.specs.Wrong.{first_wrong};
+ghost use Rattle.audit.specs.Events.{Placement};
+ghost use Rattle.audit.specs.Written.{ArePlaced, written_order};
+ghost use Rattle.audit.specs.Wrong.{first_wrong, seat};
 ghost use Rattle.audit.specs.declared.event.Event.{Event};
 
 use std::alloc::Allocator;
@@ -31,6 +33,15 @@ pub fn a_whole_placing_has_an_order<A: Allocator>()
         → ((node : ℕ) → placed node ≡ length ((case_of logs transcripts).logs node))
         → first_wrong (case_of logs transcripts) 0 [] (case_of logs transcripts).scripts ≡ None
         → (events : List Event) × IsLegalOrder (case_of logs transcripts) events }
+{}
+
+/// Such an order can be written down as the inputs were placed: a session takes its answer and says its lines just before
+/// it asks again, before its node crashes, and at the end.
+pub fn a_written_order_is_legal<A: Allocator>()
+    ensures { (logs : List (NodeLog A)) (transcripts : List (Transcript A)) → AreFit logs transcripts
+        → (placements : List Placement) → ArePlaced (case_of logs transcripts) (λ n. 0) [] placements
+        → first_wrong (case_of logs transcripts) 0 [] (case_of logs transcripts).scripts ≡ None
+        → IsLegalOrder (case_of logs transcripts) (written_order (case_of logs transcripts) (seat (case_of logs transcripts)) placements) }
 {}
 
 /// An input that can be placed still can once one of another node is placed.

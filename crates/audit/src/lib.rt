@@ -8,5 +8,5 @@ mod laws;
 pub use event::Event;
 pub use laws::{
     a_placing_ends, a_stuck_placing_has_no_order, a_whole_placing_has_an_order,
-    placing_takes_no_turn_away,
+    a_written_order_is_legal, placing_takes_no_turn_away,
 };

@@ -1,0 +1,104 @@
+-- The events of a placing, as they are written down: a session takes its answer and says its lines just before it asks again, before its node crashes, and at the end.
+use Rattle.std.specs.Prelude.{ℕ, zero, suc, List, [], ◌∷◌, ◌++◌, Bool, true, false, not, ◌&&◌, ◌==◌, Some, None, if◌then◌else◌}
+use Rattle.audit.specs.Case.{Turn, Plain, Asks}
+use Rattle.audit.specs.Placing.{put}
+use Rattle.audit.specs.declared.event.Event.{Event}
+use Rattle.audit.specs.declared.event.Event.TheVariants as event
+
+-- a turn: a line that asks nothing, a line that asks, or a hangup
+pub data Kind : Type 0 where
+  Says : Kind
+  Begs : Kind
+  Leaves : Kind
+
+module _ {I K O L : Type 0} where
+  abbrev pub kind_of : Turn I K O L → Kind
+  kind_of (Plain line) = Says
+  kind_of (Asks (Some line) input key outcome) = Begs
+  kind_of (Asks None input key outcome) = Leaves
+
+  abbrev pub kinds : List (Turn I K O L) → List Kind
+  kinds [] = []
+  kinds (t ∷ ts) = kind_of t ∷ kinds ts
+
+-- a session: the turns that are left, and whether it awaits an answer
+pub record Talk : Type 0 where
+  pub left : List Kind
+  pub asked : Bool
+
+-- the lines up to the next turn that asks
+abbrev pub said : ℕ → List Kind → List Event
+said i [] = []
+said i (Says ∷ ks) = event.Line i ∷ said i ks
+said i (Begs ∷ ks) = []
+said i (Leaves ∷ ks) = []
+
+abbrev pub unsaid : List Kind → List Kind
+unsaid [] = []
+unsaid (Says ∷ ks) = unsaid ks
+unsaid (Begs ∷ ks) = Begs ∷ ks
+unsaid (Leaves ∷ ks) = Leaves ∷ ks
+
+abbrev pub collected : ℕ → Bool → List Event
+collected i asked = if asked then event.Collect i ∷ [] else []
+
+-- a session goes on as far as it can, where the answer that it awaits is there or not
+abbrev pub goes_on : ℕ → Bool → Talk → List Event
+goes_on i answered talk = if talk.asked && not answered then [] else collected i talk.asked ++ said i talk.left
+
+abbrev pub gone_on : Bool → Talk → Talk
+gone_on answered talk = if talk.asked && not answered then talk else record { left = unsaid talk.left; asked = false }
+
+-- its turn to ask
+abbrev pub begs : ℕ → List Kind → List Event
+begs i [] = []
+begs i (Says ∷ ks) = []
+begs i (Begs ∷ ks) = event.Line i ∷ []
+begs i (Leaves ∷ ks) = event.Hangup i ∷ []
+
+abbrev pub behind : List Kind → List Kind
+behind [] = []
+behind (k ∷ ks) = ks
+
+abbrev pub asking : ℕ → Talk → List Event
+asking i talk = goes_on i true talk ++ begs i (gone_on true talk).left
+
+abbrev pub asked_on : Talk → Talk
+asked_on talk = record { left = behind (gone_on true talk).left; asked = true }
+
+-- the first m sessions that pass a test go on
+abbrev pub all_go_on : (ℕ → Bool) → (ℕ → Bool) → (ℕ → Talk) → ℕ → List Event
+all_go_on test answered talks zero = []
+all_go_on test answered talks (suc m) = all_go_on test answered talks m ++ (if test m then goes_on m (answered m) (talks m) else [])
+
+abbrev pub all_gone_on : (ℕ → Bool) → (ℕ → Bool) → (ℕ → Talk) → ℕ → Talk
+all_gone_on test answered talks i = if test i then gone_on (answered i) (talks i) else talks i
+
+-- what brings an input: nothing, and it is the node's last or not, the message that was sent as this number, or a session
+pub data Source : Type 0 where
+  Own : Source
+  Last : Source
+  Message : (which : ℕ) → Source
+  FromSession : (which : ℕ) → Source
+
+-- an input of the log at a place
+pub record Placement : Type 0 where
+  pub node : ℕ
+  pub source : Source
+
+module _ (number at : ℕ → ℕ) (answered : ℕ → Bool) (sessions : ℕ) where
+  abbrev pub events_of : (ℕ → Talk) → ℕ → Source → List Event
+  events_of talks n Own = event.Given (number n) ∷ []
+  events_of talks n Last = all_go_on (λ i. at i == n) answered talks sessions ++ event.Given (number n) ∷ []
+  events_of talks n (Message which) = event.Arrive which ∷ []
+  events_of talks n (FromSession i) = asking i (talks i)
+
+  abbrev pub talks_after : (ℕ → Talk) → ℕ → Source → ℕ → Talk
+  talks_after talks n Own = talks
+  talks_after talks n Last = all_gone_on (λ i. at i == n) answered talks
+  talks_after talks n (Message which) = talks
+  talks_after talks n (FromSession i) = put talks i (asked_on (talks i))
+
+  abbrev pub events_from : (ℕ → Talk) → List Placement → List Event
+  events_from talks [] = all_go_on (λ i. true) answered talks sessions
+  events_from talks (p ∷ ps) = events_of talks p.node p.source ++ events_from (talks_after talks p.node p.source) ps
