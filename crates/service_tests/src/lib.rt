@@ -11,8 +11,6 @@ mod line_tests;
 #[cfg(test)]
 mod login_tests;
 #[cfg(test)]
-mod node_tests;
-#[cfg(test)]
 mod one_node;
 #[cfg(test)]
 mod one_node_tests;
