@@ -30,3 +30,14 @@ pub mod Unchanged
 pub mod Fit
 pub mod Reached
 pub mod Later
+pub mod Arrivals
+pub mod AnswersStay
+pub mod Hosting
+pub mod HostList
+pub mod HeardLines
+pub mod Locks
+pub mod Replying
+pub mod Shown
+pub mod ServiceSteps
+pub mod Refusing
+pub mod GivenOperations

@@ -7,4 +7,8 @@ pub mod Services
 pub mod Refusals
 pub mod Projection
 pub mod Worlds
+pub mod Hosts
+pub mod Connections
+pub mod Served
+pub mod Interrupted
 pub mod Examples

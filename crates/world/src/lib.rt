@@ -2,11 +2,22 @@
 //! repeated, late or crashed.
 #![tactic(auto)]
 
+mod act;
+mod collect;
 mod config;
+mod connection;
+mod connections;
 mod event;
+mod hangup;
+mod host;
+mod hosts;
 mod laws;
+mod line;
+mod operations;
+mod refusal;
 mod refused;
 mod sent;
+mod sent_messages;
 mod service_laws;
 mod session_id;
 

@@ -1,0 +1,36 @@
+use Rattle.std.proofs.Common.{◌∙◌, ap, sym, subst}
+use Rattle.std.proofs.lemmas.Result.{on_ok_weaker, on_err_weaker}
+use Rattle.world.specs.Connections.{service_of, AreFit}
+use Rattle.world.specs.Interrupted.{IsInterrupted}
+use Rattle.world.specs.declared.event.Event.TheVariants as event
+use Rattle.world.proofs.ServiceSteps.{hangup_occurs, hangup_interrupted, hangup_absent, fit_set}
+use Rattle.world.proofs.connections.hang_up.Goals as goal
+
+pub hang_up-requires : goal.hang_up-requires
+hang_up-requires g c = c.requires.fit c.args.session c.in-Some.connection.now (sym c.in-Some.ensures.value)
+
+pub returns-in-Some-clause-ok : goal.returns-in-Some-clause-ok
+returns-in-Some-clause-ok g c cfg =
+    let es = c.args.connections.now.entries in
+    let f = (c.get_mut.follows.holds c.hang_up.new.self).0 in
+    on_ok_weaker c.hang_up.result
+    (λ h. ap (service_of c.hang_up.new.hosts) f ∙ hangup_occurs c.args.hosts.now c.hang_up.new.hosts es c.args.session c.in-Some.connection.now c.hang_up.new.self (sym c.in-Some.ensures.value) cfg h)
+    c.hang_up.ensures.ok
+
+pub returns-in-Some-clause-err : goal.returns-in-Some-clause-err
+returns-in-Some-clause-err g c cfg =
+    let es = c.args.connections.now.entries in
+    let f = (c.get_mut.follows.holds c.hang_up.new.self).0 in
+    on_err_weaker c.hang_up.result
+    (λ h. subst (λ s. IsInterrupted cfg (event.Hangup c.args.session) (service_of c.args.hosts.now es) s) (sym (ap (service_of c.hang_up.new.hosts) f))
+    (hangup_interrupted c.args.hosts.now c.hang_up.new.hosts es c.args.session c.in-Some.connection.now c.hang_up.new.self (sym c.in-Some.ensures.value) cfg h))
+    c.hang_up.ensures.err
+
+pub returns-in-Some-clause-fit : goal.returns-in-Some-clause-fit
+returns-in-Some-clause-fit g c =
+    let f = (c.get_mut.follows.holds c.hang_up.new.self).0 in
+    subst AreFit (sym f) (fit_set c.args.session c.args.connections.now.entries c.hang_up.new.self c.requires.fit c.hang_up.ensures.fit)
+
+pub returns-in-None-clause-ok : goal.returns-in-None-clause-ok
+returns-in-None-clause-ok g c cfg =
+    ap (λ m. service_of c.args.hosts.now m.entries) c.get_mut.follows.holds-at-none ∙ hangup_absent c.args.hosts.now c.args.connections.now.entries c.args.session (sym c.in-None.ensures.value) cfg

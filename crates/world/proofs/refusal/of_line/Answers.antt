@@ -1,0 +1,15 @@
+use Rattle.std.proofs.Common.{◌∙◌, sym}
+use Rattle.world.specs.Hosts.{network_of}
+use Rattle.world.specs.Messages.{log_of}
+use Rattle.world.specs.Refusals.{line_refusal}
+use Rattle.world.proofs.Refusing.{line_stranded, refused_found, refused_absent}
+use Rattle.world.proofs.refusal.of_line.Goals as goal
+
+pub returns-in-Some : goal.returns-in-Some
+returns-in-Some g c =
+    let it = c.in-Some.connection.now in
+    c.line_refusal.ensures (log_of it.node (network_of c.args.hosts.now).logs) c.is_up.ensures
+    ∙ sym (refused_found c.args.hosts.now c.args.connections.now.entries c.args.session line_refusal line_stranded it (sym c.in-Some.ensures.value))
+
+pub returns-in-None : goal.returns-in-None
+returns-in-None g c = sym (refused_absent c.args.hosts.now c.args.connections.now.entries c.args.session line_refusal (sym c.in-None.ensures.value))

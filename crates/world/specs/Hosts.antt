@@ -1,0 +1,92 @@
+-- The nodes of a world, as it keeps them: each with its answers, and with a crash in its log where it has stopped for want of memory.
+use Rattle.std.specs.Prelude.{◌≡◌, ℕ, zero, suc, nat_lt, List, [], ◌∷◌, ◌++◌, map, true, false, Bool, Option, Some, None, slice_get, if◌then◌else◌}
+use Rattle.std.specs.List.{list_any}
+use Rattle.maildrop.specs.CommandId.{CommandId}
+use Rattle.maildrop.specs.Ticket.{Ticket}
+use Rattle.node.specs.Nodes.{NodeValue, Awaited, answer_of, answered, logged}
+use Rattle.node.specs.Replay.{is_crash, sends_of, ticket_of}
+use Rattle.node.specs.declared.input.Input.{Input}
+use Rattle.node.specs.declared.input.Input.TheVariants.{Crash}
+use Rattle.node.specs.declared.log.NodeLog.{NodeLog}
+use Rattle.node.specs.declared.stopped.Stopped.{Stopped}
+use Rattle.node.specs.declared.stopped.Stopped.TheVariants.{Crashed, Memory, TicketsUsed}
+use Rattle.world.specs.Messages.{Network, is_up, newly_sent, takes, with_arrival}
+use Rattle.world.specs.declared.sent.Sent.{Sent}
+
+-- a node: the log that a run knows, and what is awaited of it
+pub record Host (A : Type 0) : Type 0 where
+  pub log : NodeLog A
+  pub awaited : Awaited A
+
+-- the nodes, in the order of their numbers, and all messages, in the order in which they were sent
+pub record Hosts (A : Type 0) : Type 0 where
+  pub hosts : List (Host A)
+  pub sent : List (Sent A)
+
+abbrev pub without_last : {X : Type 0} → List X → List X
+without_last [] = []
+without_last (x ∷ []) = []
+without_last (x ∷ y ∷ ys) = x ∷ without_last (y ∷ ys)
+
+module _ {A : Type 0} where
+  -- a run has a crash of a node that has stopped for want of memory or tickets
+  abbrev pub known_log : Option Stopped → NodeLog A → NodeLog A
+  known_log None log = log
+  known_log (Some Crashed) log = log
+  known_log (Some Memory) log = logged log Crash
+  known_log (Some TicketsUsed) log = logged log Crash
+
+  -- and in place of an input whose messages couldn't be kept
+  abbrev pub crashed_instead : NodeLog A → NodeLog A
+  crashed_instead log = logged (record { opening = log.opening; inputs = without_last log.inputs }) Crash
+
+  abbrev pub host_of : NodeValue A → Bool → Host A
+  host_of node true = record { log = crashed_instead node.log; awaited = node.awaited }
+  host_of node false = record { log = known_log node.stopped node.log; awaited = node.awaited }
+
+  -- a node that runs has no crash in its log, and one that has crashed has one
+  abbrev pub IsLoggedSo : Option Stopped → NodeLog A → Type 0
+  IsLoggedSo None log = list_any is_crash log.inputs ≡ false
+  IsLoggedSo (Some Crashed) log = list_any is_crash log.inputs ≡ true
+  IsLoggedSo (Some _) log = Unit {0}
+
+  -- the answer to the command wasn't taken: while the node is up it is there as soon as the node has it
+  abbrev pub HasAnswer : CommandId → Host A → Type 0
+  HasAnswer id host = is_up (Some host.log) ≡ true → answer_of id host.awaited ≡ answered host.log id
+
+  abbrev pub host_at : ℕ → List (Host A) → Option (Host A)
+  host_at zero hosts = None
+  host_at (suc n) hosts = slice_get hosts n
+
+  abbrev pub logs_of : List (Host A) → List (NodeLog A)
+  logs_of hosts = map (λ h. h.log) hosts
+
+  abbrev pub network_of : Hosts A → Network A
+  network_of w = record { logs = logs_of w.hosts; sent = w.sent }
+
+  abbrev pub HasAnswerAt : ℕ → CommandId → Hosts A → Type 0
+  HasAnswerAt n id w = (host : Host A) → host_at n w.hosts ≡ Some host → HasAnswer id host
+
+  -- what an input makes of a log, and what it sends behind these messages, where the node is up
+  abbrev pub log_after : NodeLog A → Input A → NodeLog A
+  log_after log i = if is_up (Some log) then logged log i else log
+
+  abbrev pub sent_after : NodeLog A → Input A → List (Sent A) → List (Sent A)
+  sent_after log i sent = if is_up (Some log) then sent ++ newly_sent (sends_of log i) else sent
+
+  -- the ticket that the node gives at an input, where it is up
+  abbrev pub ticket_at : Option (NodeLog A) → Input A → Option Ticket
+  ticket_at None i = None
+  ticket_at (Some log) i = if is_up (Some log) then ticket_of log i else None
+
+  -- whether one more arrival of the message can be counted
+  abbrev pub can_count : Sent A → Bool
+  can_count s = nat_lt s.arrived 18446744073709551615
+
+  abbrev pub counted : ℕ → Network A → Network A
+  counted which w = record { logs = w.logs; sent = with_arrival which w.sent }
+
+  -- the addressee of a message crashes
+  abbrev pub IsArrivalCut : Network A → Network A → Option (Sent A) → Type 0
+  IsArrivalCut w new None = ⊥
+  IsArrivalCut w new (Some s) = new ≡ takes w s.envelope.to Crash

@@ -1,0 +1,85 @@
+//! What events do.
+ghost use Rattle.std.specs.Prelude.{◌≡◌, ℕ, List, Some, None, OnOk, OnErr};
+ghost use Rattle.std.specs.Map.{lookup};
+ghost use Rattle.world.specs.Connections.{service_of, AreFit, AreUntaken};
+ghost use Rattle.world.specs.Hosts.{network_of, HasAnswerAt};
+ghost use Rattle.world.specs.Interrupted.{IsInterrupted};
+ghost use Rattle.world.specs.Services.{occurs, next_id};
+ghost use Rattle.world.specs.Messages.{log_of, takes};
+ghost use Rattle.node.specs.declared.log.NodeLog.{NodeLog};
+ghost use Rattle.node.specs.declared.input.Input.TheVariants.{Crash};
+ghost use Rattle.maildrop.specs.CommandId.{CommandId, same_id};
+
+use crate::config::Config;
+use crate::connections::{Connections, collect_answer, connect, hang_up, send_line};
+use crate::event::Event;
+use crate::hosts::Hosts;
+use crate::operations::{Operations, submit};
+use ballot::{Memory, NodeId};
+use maildrop::Op;
+use node::Input;
+use std::alloc::Allocator;
+
+/// An event that can happen does. After `Memory` the node or the session that found none is down.
+pub(crate) fn act<A: Allocator + Copy>(
+    alloc: A,
+    config: &Config<A>,
+    hosts: &mut Hosts<A>,
+    connections: &mut Connections<A>,
+    operations: &mut Operations<A>,
+    event: Event<A>,
+) -> Result<(), Memory>
+    requires fit { AreFit connections.old.entries }
+    requires untaken { AreUntaken hosts.old connections.old.entries }
+    requires new { (node : ℕ) (user : List ℕ) (log : NodeLog A) → log_of node (network_of hosts.old).logs ≡ Some log → lookup (same_id (next_id log user)) operations.old.entries ≡ None }
+    ensures service { OnOk result (service_of hosts.new connections.new.entries ≡ occurs config.now (service_of hosts.old connections.old.entries) event) }
+    ensures err { OnErr result (IsInterrupted config.now event (service_of hosts.old connections.old.entries) (service_of hosts.new connections.new.entries)) }
+    ensures fit { AreFit connections.new.entries }
+{
+    match event {
+        Event::Connect {
+            session,
+            node,
+            stamp,
+        } => connect(alloc, connections, hosts, session, node, stamp),
+        Event::Line { session, line } => send_line(
+            connections,
+            hosts,
+            &config.accounts,
+            session,
+            line,
+        ),
+        Event::Hangup { session } => hang_up(connections, hosts, session),
+        Event::Collect { session } => collect_answer(connections, hosts, session),
+        Event::Mail {
+            node,
+            user,
+            text,
+            key,
+        } => submit(hosts, operations, node, user, Op::Mail { text, key }),
+        Event::Break { node, user } => submit(hosts, operations, node, user, Op::Break),
+        Event::Arrive(which) => hosts.arrive(which),
+        Event::Tick(node) => give(hosts, node, Input::Tick),
+        Event::Campaign(node) => give(hosts, node, Input::Campaign),
+        Event::Crash(node) => {
+            hosts.crash(node);
+            Ok(())
+        }
+    }
+}
+
+/// Gives a node an input.
+fn give<A: Allocator + Copy>(
+    hosts: &mut Hosts<A>,
+    node: NodeId,
+    input: Input<A>,
+) -> Result<(), Memory>
+    ensures ok { OnOk result (network_of hosts.new ≡ takes (network_of hosts.old) node input) }
+    ensures err { OnErr result (network_of hosts.new ≡ takes (network_of hosts.old) node Crash) }
+    ensures answers { (n : ℕ) (id : CommandId) → HasAnswerAt n id hosts.old → HasAnswerAt n id hosts.new }
+{
+    match hosts.take(node, input) {
+        Ok(_) => Ok(()),
+        Err(error) => Err(error),
+    }
+}

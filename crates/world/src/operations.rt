@@ -1,0 +1,52 @@
+//! The operations that are given to nodes from outside of sessions, and their outcomes.
+ghost use Rattle.std.specs.Prelude.{◌≡◌, ◌++◌, [], ◌∷◌, ℕ, true, false, Some, None, OnOk, OnErr};
+ghost use Rattle.std.specs.Map.{lookup};
+ghost use Rattle.maildrop.specs.CommandId.{CommandId, same_id};
+ghost use Rattle.node.specs.Replay.{next_ticket};
+ghost use Rattle.node.specs.declared.input.Input.TheVariants.{Submit, Crash};
+ghost use Rattle.node.specs.declared.log.NodeLog.{NodeLog};
+ghost use Rattle.world.specs.Hosts.{network_of, HasAnswerAt};
+ghost use Rattle.world.specs.Messages.{is_up, log_of, takes};
+ghost use Rattle.world.specs.Services.{next_id};
+
+use crate::hosts::Hosts;
+use ballot::{Memory, NodeId};
+use indexmap::IndexMap;
+use maildrop::{CommandId, Name, Op};
+use node::Input;
+use std::alloc::Allocator;
+use std::hash::{BuildHasherDefault, FoldHasher};
+
+/// The commands of Mails and Breaks, in the order in which they were given, each with whether its outcome was taken.
+pub(crate) type Operations<A> = IndexMap<CommandId, bool, BuildHasherDefault<FoldHasher>, A>;
+
+/// Gives a node an operation, if it is up; else nothing happens. Room for its command is taken before. After `Memory` the
+/// node has crashed.
+pub(crate) fn submit<A: Allocator + Copy>(
+    hosts: &mut Hosts<A>,
+    operations: &mut Operations<A>,
+    node: NodeId,
+    user: Name,
+    op: Op<A>,
+) -> Result<(), Memory>
+    requires new { (log : NodeLog A) → log_of node (network_of hosts.old).logs ≡ Some log → lookup (same_id (next_id log user)) operations.old.entries ≡ None }
+    ensures ok { OnOk result (network_of hosts.new ≡ takes (network_of hosts.old) node (Submit user op)) }
+    ensures operations { (log : NodeLog A) → log_of node (network_of hosts.old).logs ≡ Some log → is_up (Some log) ≡ true
+        → OnOk result (operations.new.entries ≡ operations.old.entries ++ (next_id log user, false) ∷ []) }
+    ensures err { OnErr result (network_of hosts.new ≡ takes (network_of hosts.old) node Crash) }
+    ensures unchanged { OnErr result (operations.new.entries ≡ operations.old.entries) }
+    ensures answers { (n : ℕ) (id : CommandId) → HasAnswerAt n id hosts.old → HasAnswerAt n id hosts.new }
+{
+    if operations.reserve(1).is_err() {
+        hosts.crash(node);
+        return Err(Memory);
+    }
+    match hosts.take(node, Input::Submit(user, op)) {
+        Ok(Some(ticket)) => {
+            let _ = operations.insert(CommandId::new(user, ticket), false)?;
+            Ok(())
+        }
+        Ok(None) => Ok(()),
+        Err(error) => Err(error),
+    }
+}
