@@ -1,5 +1,5 @@
-//! Tests of sessions and nodes that no case of text can say: requests for memory that are refused, what a gate sees, what a
-//! transcript keeps, and a node that is a service of its own. There is nothing here but tests.
+//! Tests of sessions that no case of text can say: requests for memory that are refused, what a gate sees, and what a
+//! transcript keeps. There is nothing here but tests.
 #![tactic(auto)]
 
 #[cfg(test)]
@@ -10,10 +10,6 @@ mod gate_tests;
 mod line_tests;
 #[cfg(test)]
 mod login_tests;
-#[cfg(test)]
-mod one_node;
-#[cfg(test)]
-mod one_node_tests;
 #[cfg(test)]
 mod quit_tests;
 #[cfg(test)]
