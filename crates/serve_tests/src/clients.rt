@@ -1,0 +1,87 @@
+//! POP3 clients of a service, and raw connections to it.
+
+use std::alloc::Global;
+use std::io::{Read, Write};
+use std::net::{Ipv4Addr, Net, Shutdown, SocketAddr, TcpStream};
+use std::test::Fail;
+use std::time::Duration;
+
+/// How many seconds a client waits for what it is told. A test that meets this bound fails.
+const PATIENCE: u64 = 30;
+
+/// The address of a port of this machine.
+pub fn local(port: u16) -> SocketAddr {
+    SocketAddr::from((Ipv4Addr::LOCALHOST, port))
+}
+
+/// A connection to a port.
+pub fn connect<R: Net<Stream = TcpStream>>(rt: &R, port: u16) -> Result<TcpStream, Fail> {
+    let stream = rt.connect(local(port))?;
+    stream.set_read_timeout(Some(Duration::from_secs(PATIENCE)))?;
+    Ok(stream)
+}
+
+/// Sends bytes.
+pub fn send(stream: &TcpStream, bytes: &[u8]) -> Result<(), Fail> {
+    let mut writer = stream;
+    writer.write_all(bytes)?;
+    Ok(())
+}
+
+/// Reads up to the end of the connection.
+pub fn read_all(alloc: Global, stream: &TcpStream) -> Result<Vec<u8>, Fail> {
+    let mut reader = stream;
+    let mut bytes = Vec::new(alloc);
+    reader.read_to_end(&mut bytes)?;
+    Ok(bytes)
+}
+
+/// Reads so many lines, and gives the last one.
+pub fn line_after(alloc: Global, stream: &TcpStream, count: usize) -> Result<Vec<u8>, Fail> {
+    let mut reader = stream;
+    let mut line = Vec::new(alloc);
+    let mut byte = [0u8];
+    for _ in 0..count {
+        line.clear();
+        for _ in 0..512 {
+            reader.read_exact(&mut byte)?;
+            line.push(byte[0])?;
+            if byte[0] == b'\n' {
+                break;
+            }
+        }
+    }
+    Ok(line)
+}
+
+/// What a port answers to these bytes and the end of them, up to the end of the connection.
+pub fn answer<R: Net<Stream = TcpStream>>(
+    rt: &R,
+    alloc: Global,
+    port: u16,
+    bytes: &[u8],
+) -> Result<Vec<u8>, Fail> {
+    let stream = connect(rt, port)?;
+    send(&stream, bytes)?;
+    stream.shutdown(Shutdown::Write)?;
+    read_all(alloc, &stream)
+}
+
+/// What a node says to a client that sends these lines, behind the greeting.
+pub fn replies<R: Net<Stream = TcpStream>>(
+    rt: &R,
+    alloc: Global,
+    port: u16,
+    lines: &[u8],
+) -> Result<Vec<u8>, Fail> {
+    let said = answer(rt, alloc, port, lines)?;
+    let (greeting, replies) = said
+        .as_slice()
+        .split_at(said.iter().position(|byte| *byte == b'\n').unwrap_or(0));
+    if !greeting.starts_with(b"+OK POP3 server ready <") {
+        return Err(Fail::from("no greeting"));
+    }
+    let mut behind = Vec::new(alloc);
+    behind.extend_from_slice(replies.get(1..).unwrap_or(&[]))?;
+    Ok(behind)
+}
