@@ -1,7 +1,8 @@
 -- What a node's type keeps, from its opening on and through each input.
 use Rattle.std.proofs.Common.{◌≡◌, refl, ap, ◌∙◌, sym, subst, ℕ, ◌+◌, List, [], ◌∷◌, ◌++◌, Bool, true, false, Option, Some, None}
 use Rattle.std.specs.List.{list_any}
-use Rattle.std.specs.Prelude.{◌||◌, IfSome}
+use Rattle.std.specs.Prelude.{◌||◌, ◌↔◌, IfSome}
+use Rattle.std.proofs.lemmas.Bool.{true≢false}
 use Rattle.maildrop.specs.CommandId.{CommandId}
 use Rattle.maildrop.specs.Office.{User}
 use Rattle.replica.specs.Calls.{AreAnswers, awaited_for}
@@ -12,7 +13,7 @@ use Rattle.replica.proofs.Left.{left_itself, taken_left}
 use Rattle.replica.proofs.Waiting.{waiting_left}
 use Rattle.node.specs.Replay.{NodeState, MailReplica, mail_rules, new_node, takes, replayed, counts, is_crash}
 use Rattle.node.specs.Tickets.{tickets_of}
-use Rattle.node.specs.Nodes.{logged, taken_of, stops_after, IsButTaken, IsCurrent, IsKept, IsKnown}
+use Rattle.node.specs.Nodes.{logged, taken_of, stops_after, AreGiven, IsButTaken, IsCurrent, IsKept, IsKnown, EndsInCrash}
 use Rattle.node.specs.declared.stopped.Stopped.{Stopped}
 use Rattle.node.specs.declared.stopped.Stopped.TheVariants.{Crashed, Memory, TicketsUsed}
 use Rattle.node.specs.declared.input.Input.TheVariants.{Submit, Arrive, Tick, Campaign, Crash}
@@ -89,6 +90,26 @@ module _ {A : Type 0} where
   current_of log roles given (Some Crashed) known h = h.0
   current_of log roles given (Some Memory) known h = absurd known
   current_of log roles given (Some TicketsUsed) known h = h.0
+
+  -- the tickets are those of the log, whatever has stopped the node
+  pub given_of : (log : NodeLog A) (roles : Option (NodeState A)) (given : List (List ℕ × ℕ)) (stopped : Option Stopped) → IsKept log roles given stopped → AreGiven log.inputs given
+  given_of log roles given None h = h.0.tickets
+  given_of log roles given (Some Crashed) h = h.0.tickets
+  given_of log roles given (Some Memory) h = h.0
+  given_of log roles given (Some TicketsUsed) h = h.0.tickets
+
+  -- a log that ends in a crash has one
+  ends_crashed : (is : List (Input A)) → EndsInCrash is → list_any is_crash is ≡ true
+  ends_crashed is h = ap (list_any is_crash) h.1 ∙ crash-push h.0 Crash h.2
+
+  not_ended : (is : List (Input A)) → list_any is_crash is ≡ false → EndsInCrash is → ⊥
+  not_ended is none h = true≢false (sym (ends_crashed is h) ∙ none)
+
+  pub ended_of : (log : NodeLog A) (roles : Option (NodeState A)) (given : List (List ℕ × ℕ)) (stopped : Option Stopped) → IsKept log roles given stopped → (stopped ≡ Some Crashed) ↔ EndsInCrash log.inputs
+  ended_of log roles given None h = (λ e. absurd (cc e), λ ends. absurd (not_ended log.inputs h.1 ends))
+  ended_of log roles given (Some Crashed) h = (λ e. h.1, λ ends. refl)
+  ended_of log roles given (Some Memory) h = (λ e. absurd (cc e), λ ends. absurd (not_ended log.inputs h.1 ends))
+  ended_of log roles given (Some TicketsUsed) h = (λ e. absurd (cc e), λ ends. absurd (not_ended log.inputs h.1 ends))
 
   pub waits_known : (log : NodeLog A) (roles : Option (NodeState A)) (given : List (List ℕ × ℕ)) (stopped : Option Stopped) (waits : Bool) → IsKept log roles given stopped → IfSome roles (λ (n : NodeState A). waits ≡ is_waiting n.replica.awaited)
       → IsKnown stopped → waits ≡ is_waiting (replayed log).replica.awaited

@@ -11,3 +11,4 @@ pub mod Submitting
 pub mod Answering
 pub mod OwnOutcomes
 pub mod Crashing
+pub mod Lasting

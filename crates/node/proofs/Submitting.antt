@@ -18,7 +18,7 @@ module _ {A : Type 0} where
   submits_of-append name [] more = omega arith
   submits_of-append name (i ∷ is) more = grind (arith, submits_of-append name is more)
 
-  counts_own : (name : List ℕ) (op : Op A) → counts name (Submit name op) ≡ 1
+  pub counts_own : (name : List ℕ) (op : Op A) → counts name (Submit name op) ≡ 1
   counts_own name op = rw ((bytes_eq-Decides name name).1 refl) refl
 
   pub submitted_later : (log : NodeLog A) (more : List (Input A)) (id : CommandId) (op : Op A) → IsSubmitted log id op → IsSubmitted (lengthened log more) id op

@@ -97,6 +97,11 @@ module _ {A : Type 0} where
   abbrev pub AreGiven : List (Input A) → List (List ℕ × ℕ) → Type 0
   AreGiven inputs given = (name : List ℕ) → tickets_of name given ≡ submits_of name inputs
 
+  -- the user for whom an input is an operation
+  abbrev pub user_of : Input A → Option (List ℕ)
+  user_of (Submit name op) = Some name
+  user_of _ = None
+
   -- an input gives its user one ticket more, if it is an operation
   abbrev pub ArePassed : Input A → (before after : List (List ℕ × ℕ)) → Type 0
   ArePassed i before after = (name : List ℕ) → tickets_of name after ≡ counts name i + tickets_of name before
@@ -114,6 +119,6 @@ module _ {A : Type 0} where
 
   -- what holds of a node between steps; it has crashed where its log ends in a crash
   abbrev pub IsKept : NodeLog A → Option (NodeState A) → List (List ℕ × ℕ) → Option Stopped → Type 0
-  IsKept log roles given (Some Memory) = list_any is_crash log.inputs ≡ false
+  IsKept log roles given (Some Memory) = AreGiven log.inputs given × (list_any is_crash log.inputs ≡ false)
   IsKept log roles given (Some Crashed) = IsCurrent log roles given × EndsInCrash log.inputs
   IsKept log roles given _ = IsCurrent log roles given × (list_any is_crash log.inputs ≡ false)

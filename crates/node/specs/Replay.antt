@@ -18,6 +18,7 @@ use Rattle.maildrop.specs.Office.{User, new_user, outcome_in, users_after}
 use Rattle.maildrop.specs.declared.command.Command.{Command}
 use Rattle.maildrop.specs.declared.op.Op.{Op}
 use Rattle.maildrop.specs.declared.outcome.Outcome.{Outcome}
+use Rattle.node.specs.Tickets.{ticket_at}
 use Rattle.node.specs.declared.input.Input.{Input}
 use Rattle.node.specs.declared.input.Input.TheVariants.{Submit, Arrive, Tick, Campaign, Crash}
 use Rattle.node.specs.declared.log.Opening.{Opening}
@@ -102,6 +103,10 @@ module _ {A : Type 0} where
   -- the ticket of an operation for the user that is submitted next
   abbrev pub next_ticket : ℕ → List ℕ → List (Input A) → Ticket
   next_ticket me name before = record { node = me; seq = 1 + submits_of name before }
+
+  -- the ticket of the last operation for the user among these inputs, if there is one
+  abbrev pub last_ticket : ℕ → List ℕ → List (Input A) → Option Ticket
+  last_ticket me name inputs = ticket_at me (submits_of name inputs)
 
   abbrev pub command_for : ℕ → List ℕ → Op A → List (Input A) → Command A
   command_for me name op before = record { user = name; ticket = next_ticket me name before; op = op }

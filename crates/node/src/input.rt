@@ -1,6 +1,6 @@
 //! What a node is given to do.
 ghost use Rattle.std.specs.Prelude.{◌≡◌, IfOk};
-ghost use Rattle.node.specs.Nodes.{stops_after};
+ghost use Rattle.node.specs.Nodes.{stops_after, user_of};
 
 use crate::stopped::Stopped;
 use ballot::{Envelope, Memory};
@@ -34,6 +34,16 @@ impl<A: Allocator + Copy> Input<A> {
             Input::Campaign => Input::Campaign,
             Input::Crash => Input::Crash,
         })
+    }
+
+    /// The user for whom it is an operation.
+    pub(crate) fn user(&self) -> Option<Name>
+        ensures { result ≡ user_of self.now }
+    {
+        match self {
+            Input::Submit(user, _) => Some(*user),
+            _ => None,
+        }
     }
 
     /// Why a node stops after it.

@@ -1,11 +1,12 @@
 //! Laws of logs, and of what they lead to. Each is a function that does nothing: its contract is the law.
-ghost use Rattle.std.specs.Prelude.{◌≡◌, ◌↔◌, ℕ, List, [], Some, true};
+ghost use Rattle.std.specs.Prelude.{◌≡◌, ◌↔◌, ◌≤◌, ℕ, List, [], length, Some, true};
 ghost use Rattle.std.specs.List.{list_any};
 ghost use Rattle.maildrop.specs.CommandId.{CommandId};
 ghost use Rattle.maildrop.specs.declared.op.Op.{Op};
 ghost use Rattle.maildrop.specs.declared.outcome.Outcome.{Outcome};
-ghost use Rattle.node.specs.Replay.{is_crash, new_node, replayed, sends_of};
-ghost use Rattle.node.specs.Nodes.{logged, lengthened, answered};
+ghost use Rattle.node.specs.Replay.{is_crash, new_node, replayed, sends_of, ticket_of, last_ticket};
+ghost use Rattle.node.specs.Nodes.{logged, lengthened, answered, user_of, no_ticket_for};
+ghost use Rattle.node.specs.Tickets.{LAST_TICKET};
 ghost use Rattle.node.specs.Submits.{IsSubmitted, next_id, op_of};
 ghost use Rattle.node.specs.Outcomes.{IsOutcomeOf};
 ghost use Rattle.node.specs.declared.input.Input.{Input};
@@ -45,6 +46,16 @@ pub fn tickets_name_one_submit<A: Allocator>()
     ensures found { (log : NodeLog A) (id : CommandId) (op : Op A) → (op_of log id ≡ Some op) ↔ IsSubmitted log id op }
     ensures one { (log : NodeLog A) (id : CommandId) (op other : Op A) (here : IsSubmitted log id op) (there : IsSubmitted log id other) →
         (here.before ≡ there.before) × (op ≡ other) × (here.after ≡ there.after) }
+{}
+
+/// The ticket that a user got last is that of the user's last Submit, and no other input changes it. A log after which
+/// a user has no ticket left has as many inputs as there are tickets.
+pub fn tickets_last<A: Allocator>()
+    ensures last { (log : NodeLog A) (user : List ℕ) (op : Op A) →
+        last_ticket log.opening.me user (logged log (Submit user op)).inputs ≡ ticket_of log (Submit user op) }
+    ensures others { (log : NodeLog A) (user : List ℕ) (i : Input A) → (user_of i ≡ Some user → ⊥) →
+        last_ticket log.opening.me user (logged log i).inputs ≡ last_ticket log.opening.me user log.inputs }
+    ensures used { (log : NodeLog A) (i : Input A) → no_ticket_for log i ≡ true → LAST_TICKET ≤ length log.inputs }
 {}
 
 /// A node begins without a crash, and a crash is for good: it sends and answers nothing, and no input behind it changes or

@@ -14,7 +14,7 @@ mod tickets;
 
 pub use input::Input;
 pub use laws::{
-    answers_are_of_submits, answers_are_outcomes, answers_stay, crashes_are_for_good,
+    answers_are_of_submits, answers_are_outcomes, answers_stay, crashes_are_for_good, tickets_last,
     tickets_name_one_submit,
 };
 pub use log::{NodeLog, Opening};

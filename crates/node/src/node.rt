@@ -7,9 +7,10 @@ ghost use Rattle.maildrop.specs.Name.{are_different};
 ghost use Rattle.leader.specs.Leaders.{phase_is_active};
 ghost use Rattle.replica.specs.Replicas.{is_waiting};
 ghost use Rattle.node.specs.Replay.{replayed, sends_of, ticket_of, is_crash};
-ghost use Rattle.node.specs.Nodes.{IsKnown, opened, logged, stops_after, no_ticket_for, answer_of, answered, answer_after};
+ghost use Rattle.node.specs.Nodes.{IsKnown, opened, logged, stops_after, no_ticket_for, answer_of, answered, answer_after, EndsInCrash};
 ghost use Rattle.node.specs.Tickets.{CanStop};
 ghost use Rattle.node.specs.Nodes as spec;
+ghost use Rattle.node.specs.Replay as replay;
 
 use crate::input::Input;
 use crate::log::{NodeLog, Opening};
@@ -17,7 +18,7 @@ use crate::outputs::Outputs;
 use crate::roles::Roles;
 use crate::step::take;
 use crate::stopped::Stopped;
-use crate::tickets::Given;
+use crate::tickets::{Given, last_ticket};
 use ballot::{Cluster, Items, Memory, NodeId, Slot};
 use indexmap::IndexMap;
 use maildrop::{Command, CommandId, Limits, Name, Outcome, Ticket};
@@ -162,6 +163,14 @@ impl<A: Allocator + Copy> Node<A> {
         &self.log
     }
 
+    /// The ticket that the user's last operation got, of those that were submitted here; none where none was. Takes no
+    /// memory.
+    pub fn last_ticket(&self, user: Name) -> Option<Ticket>
+        ensures { result ≡ replay.last_ticket self.now.log.opening.me user self.now.log.inputs }
+    {
+        last_ticket(self.log.opening.me, &self.given, user)
+    }
+
     /// The log, without the node.
     pub fn into_log(self) -> NodeLog<A>
         ensures { result ≡ self.log }
@@ -176,9 +185,11 @@ impl<A: Allocator + Copy> Node<A> {
         self.log.opening.me
     }
 
-    /// Why it takes no input any more, if it doesn't. It has crashed where its log has a crash.
+    /// Why it takes no input any more, if it doesn't. It has crashed where its log has a crash, which is then the last
+    /// input.
     pub fn stopped(&self) -> Option<Stopped>
         ensures value { result ≡ self.now.stopped }
+        ensures ended { (result ≡ Some Stopped.Crashed) ↔ EndsInCrash self.now.log.inputs }
         ensures crashed { (result ≡ Some Stopped.Crashed) ↔ (list_any is_crash self.now.log.inputs ≡ true) }
         ensures awaits_none { IfSome result (λ _. self.now.awaited ≡ []) }
     {
