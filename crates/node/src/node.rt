@@ -1,7 +1,8 @@
 //! The node.
-ghost use Rattle.std.specs.Prelude.{◌≡◌, ◌↔◌, ℕ, [], true, false, Some, None, Ok, Err, is_some, IsTrue, IfOk, OnOk, IfErr, IfSome};
+ghost use Rattle.std.specs.Prelude.{◌≡◌, ◌↔◌, ◌≤◌, ◌+◌, ℕ, [], true, false, Some, None, Ok, Err, is_some, IsTrue, IfOk, OnOk, IfErr, IfSome};
 ghost use Rattle.std.specs.List.{list_any};
 ghost use Rattle.std.specs.Ordering.{is_eq};
+ghost use Rattle.ballot.specs.declared.slot.TheConstants.{LAST_SLOT};
 ghost use Rattle.maildrop.specs.CommandId.{CommandId, compare_ids};
 ghost use Rattle.maildrop.specs.Name.{are_different};
 ghost use Rattle.leader.specs.Leaders.{phase_is_active};
@@ -205,7 +206,8 @@ impl<A: Allocator + Copy> Node<A> {
 
     /// The first slot that isn't decided here, 1 to 2^63. Unknown once it has stopped without memory.
     pub fn slot_out(&self) -> u64
-        ensures { IsKnown self.now.stopped → result ≡ (replayed self.now.log).replica.slot_out }
+        ensures value { IsKnown self.now.stopped → result ≡ (replayed self.now.log).replica.slot_out }
+        ensures range { IsKnown self.now.stopped → (1 ≤ result) × (result ≤ LAST_SLOT + 1) }
     {
         self.roles.slot_out()
     }

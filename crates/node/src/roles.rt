@@ -1,5 +1,6 @@
 //! The roles of a node.
-ghost use Rattle.std.specs.Prelude.{◌≡◌, ◌==◌, ℕ, List, [], ◌∷◌, Option, Some, None, option_map, is_some, IfSome, IsTrue, OnOk, IfOk, if◌then◌else◌};
+ghost use Rattle.std.specs.Prelude.{◌≡◌, ◌≤◌, ◌+◌, ◌==◌, ℕ, List, [], ◌∷◌, Option, Some, None, option_map, is_some, IfSome, IsTrue, OnOk, IfOk, if◌then◌else◌};
+ghost use Rattle.ballot.specs.declared.slot.TheConstants.{LAST_SLOT};
 ghost use Rattle.maildrop.specs.Name.{are_different};
 ghost use Rattle.leader.specs.Leaders.{phase_is_active};
 ghost use Rattle.replica.specs.Replicas.{at_slot, is_waiting};
@@ -164,7 +165,8 @@ impl<A: Allocator + Copy> Roles<A> {
 
     /// The first slot that isn't decided.
     pub(crate) fn slot_out(&self) -> u64
-        ensures { IfSome self.now (λ n. result ≡ n.replica.slot_out) }
+        ensures value { IfSome self.now (λ n. result ≡ n.replica.slot_out) }
+        ensures range { IfSome self.now (λ n. (1 ≤ result) × (result ≤ LAST_SLOT + 1)) }
     {
         self.replica.slot_out()
     }

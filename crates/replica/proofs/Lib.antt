@@ -12,3 +12,4 @@ pub mod Left
 pub mod Behind
 pub mod Requested
 pub mod Waiting
+pub mod Gapless

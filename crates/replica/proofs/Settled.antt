@@ -1,6 +1,9 @@
 -- What holds of a replica between calls.
-use Rattle.std.proofs.Common.{◌≡◌, ℕ, ◌+◌, ◌-◌, ◌<◌, ◌≤◌, true, false, List, [], ◌∷◌, length, Option, Some, None, refl, ap, ◌∙◌, arith}
-use Rattle.replica.specs.Replicas.{Rules, ReplicaState, stays, new_replica, at_slot, is_decided, kept, once, can_propose, performs_slots, proposes, with_decision, with_request, awaiting, requested, decided, without_answer, taken, answer_for, IsFrontOf, IsSettled}
+use Rattle.std.proofs.Common.{◌≡◌, ℕ, ◌+◌, ◌-◌, ◌<◌, ◌≤◌, true, false, List, [], ◌∷◌, length, Option, Some, None, Bool, if◌then◌else◌, refl, sym, ap, ◌∙◌, subst, arith, ⊎_elim}
+use Rattle.std.specs.Prelude.{IfSome}
+use Rattle.std.proofs.lemmas.Bool.{cases_lt}
+use Rattle.ballot.specs.declared.slot.TheConstants.{LAST_SLOT}
+use Rattle.replica.specs.Replicas.{Rules, ReplicaState, stays, new_replica, at_slot, is_decided, kept, once, can_propose, performs_slots, proposes, with_decision, with_request, awaiting, requested, decided, without_answer, taken, answer_for, IsFrontOf, IsSettled, AreSlots}
 use Rattle.replica.proofs.Slots.{none_is, kept_same, first_slots-same, from_slot_few}
 use Rattle.replica.proofs.Front.{IsPart, part_slots, part_with, part_alike, ends, idle}
 use Rattle.replica.proofs.Turns.{slots_alike, rests, idle_slots}
@@ -15,6 +18,16 @@ module _ {C I R M : Type 0} (rules : Rules C I R M) where
         front = record { begins = omega arith; gapless = λ s low high. absurd (omega (arith, low, high)); ends = refl; performed = refl };
         rests = refl;
       }
+
+  -- the next slot that it performs is at most the one after the last
+  pub out_is_near : (r : ReplicaState C I R M) → IsFrontOf rules r.decisions r → AreSlots r.decisions → (1 ≤ r.slot_out) × (r.slot_out ≤ LAST_SLOT + 1)
+  out_is_near r f slots =
+      (f.begins, ⊎_elim (λ (l : LAST_SLOT + 1 < r.slot_out). absurd (let low : LAST_SLOT + 1 ≤ LAST_SLOT = slots (LAST_SLOT + 1) (f.gapless (LAST_SLOT + 1) (omega arith) l) in omega (arith, low))) (λ (l : r.slot_out ≤ LAST_SLOT + 1). l) (cases_lt (LAST_SLOT + 1) r.slot_out))
+
+  pub shown_near : (spent : Bool) (r here : ReplicaState C I R M) → (spent ≡ false → IsSettled rules r) → here ≡ r → AreSlots here.decisions
+      → IfSome (if spent then None else Some r) (λ (_ : ReplicaState C I R M). (1 ≤ here.slot_out) × (here.slot_out ≤ LAST_SLOT + 1))
+  shown_near true r here h same slots = tt
+  shown_near false r here h same slots = out_is_near here (subst (λ (q : ReplicaState C I R M). IsFrontOf rules q.decisions q) (sym same) (h refl).front) slots
 
   -- proposing settles a front that has ended
   pub proposes_settled : (A : Type 0) (r : ReplicaState C I R M) → IsPart rules r → is_decided r.slot_out r.decisions ≡ false → IsSettled rules (proposes {A = A} r).replica

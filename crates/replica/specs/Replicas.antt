@@ -81,6 +81,10 @@ module _ {X : Type 0} where
   first_slots zero es = []
   first_slots (suc n) es = first_slots n es ++ in_slot (suc n) (at_slot (suc n) es)
 
+  -- nothing stands at slot n or before it
+  abbrev pub IsAhead : ℕ → List (ℕ × X) → Type 0
+  IsAhead n es = (s : ℕ) → is_decided s es ≡ true → n < s
+
   -- nothing stands above the last slot
   abbrev pub AreSlots : List (ℕ × X) → Type 0
   AreSlots es = (s : ℕ) → IsSome (at_slot s es) → s ≤ LAST_SLOT

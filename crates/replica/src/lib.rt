@@ -4,6 +4,7 @@
 #![tactic(auto)]
 
 mod awaiting;
+mod decisions;
 mod laws;
 mod moves;
 mod performed;

@@ -64,6 +64,6 @@ fn has_decision<M: Machine, A: Allocator + Copy>(state: &State<M, A>, slot: Slot
     match slot.get().cmp(&state.slot_out) {
         Ordering::Less => true,
         Ordering::Equal => false,
-        Ordering::Greater => state.decisions.contains_key(&slot),
+        Ordering::Greater => state.decisions.has(slot),
     }
 }

@@ -1,5 +1,5 @@
 //! What a replica has performed.
-ghost use Rattle.std.specs.Prelude.{◌≡◌, [], ◌∷◌, ◌++◌, OnOk, OnErr};
+ghost use Rattle.std.specs.Prelude.{◌≡◌, [], ◌∷◌, ◌++◌, not, IfOk, OnErr, if◌then◌else◌};
 ghost use Rattle.std.specs.List.{list_any};
 ghost use Rattle.std.specs.Ordering.{is_eq};
 
@@ -53,14 +53,18 @@ impl<C: Payload, A: Allocator + Copy> Performed<C, A> {
         self.identities.contains(&identity)
     }
 
-    /// Adds a command at the end. After `Memory` they are as they were.
-    pub fn push(&mut self, slot: Slot, command: C) -> Result<(), Memory>
-        ensures ok { OnOk result (self.new ≡ self.old ++ (slot, command) ∷ []) }
+    /// Adds a command at the end, unless one of its identity is among them, and tells whether it did. Logarithmic in
+    /// their number. After `Memory` they are as they were.
+    pub fn push(&mut self, slot: Slot, command: C) -> Result<bool, Memory>
+        ensures new { IfOk result (λ new. new ≡ not (list_any (λ e. is_eq (C.Id.cmp (C.identity e.1) (C.identity command))) self.old)) }
+        ensures pushed { IfOk result (λ new. self.new ≡ (if new then self.old ++ (slot, command) ∷ [] else self.old)) }
         ensures err { OnErr result (self.new ≡ self.old) }
     {
         self.commands.reserve(1)?;
-        let _ = self.identities.insert(command.id())?;
-        self.commands.push((slot, command))?;
-        Ok(())
+        if !self.identities.insert(command.id())? {
+            return Ok(false);
+        }
+        self.commands.push_reserved((slot, command));
+        Ok(true)
     }
 }

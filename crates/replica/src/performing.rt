@@ -17,8 +17,7 @@ pub fn keep<M: Machine, A: Allocator + Copy>(
     ensures { OnOk result (state.new ≡ with_decision slot command state.old) }
 {
     prove!(slot.get() <= LAST_SLOT);
-    let _ = state.decisions.insert(slot, command)?;
-    Ok(())
+    state.decisions.insert(slot, command)
 }
 
 /// Takes back what was proposed here for `slot_out`. Where its identity is another than that of
@@ -52,12 +51,14 @@ fn perform<M: Machine, A: Allocator + Copy>(
 {
     let identity = command.id();
     state.slot_out = slot.get() + 1;
-    if state.performed.has(identity) {
+    if !state.performed.push(slot, command)? {
         return Ok(());
     }
-    let result = state.machine.apply(&command)?;
+    let Some((_, command)) = state.performed.get().last() else {
+        return Ok(());
+    };
+    let result = state.machine.apply(command)?;
     answer(&mut state.awaited, identity, result);
-    state.performed.push(slot, command)?;
     Ok(())
 }
 
@@ -65,12 +66,12 @@ fn perform<M: Machine, A: Allocator + Copy>(
 pub fn perform_all<M: Machine, A: Allocator + Copy>(state: &mut State<M, A>) -> Result<(), Memory>
     ensures { OnOk result (state.new ≡ performs_slots (rules_of M.Command.identity M.Command.Id.cmp M.answer_to M.after) (length state.old.decisions) state.old) }
 {
-    let turns = state.decisions.len();
+    let turns = state.decisions.count();
     for turn in 0..turns {
         let Some(slot) = Slot::new(state.slot_out) else {
             return Ok(());
         };
-        let Some(decided) = state.decisions.get(&slot) else {
+        let Some(decided) = state.decisions.get(slot) else {
             return Ok(());
         };
         let command = decided.copy()?;

@@ -51,7 +51,7 @@ fn propose_next<M: Machine, A: Allocator + Copy>(
     let Some(slot) = open_slot(state.slot_in, state.slot_out, state.window) else {
         return Ok(false);
     };
-    if state.decisions.contains_key(&slot) {
+    if state.decisions.has(slot) {
         state.slot_in = slot.get() + 1;
         return Ok(true);
     }
@@ -124,7 +124,7 @@ fn send_again<M: Machine, A: Allocator + Copy>(
 {
     let mut sends = Items::new(state.alloc);
     for (slot, command) in &state.proposals {
-        if !state.decisions.contains_key(slot) {
+        if !state.decisions.has(*slot) {
             send_proposal(state.cluster, *slot, command, &mut sends)?;
         }
     }

@@ -1,7 +1,9 @@
 //! The replica.
-ghost use Rattle.std.specs.Prelude.{◌≡◌, ◌↔◌, Some, None, true, false, is_some, option_map, option_and_then, IsErr, IsOk, IfOk, IfSome};
+ghost use Rattle.std.specs.Prelude.{◌≡◌, ◌↔◌, ◌≤◌, ◌+◌, Some, None, true, false, is_some, option_map, option_and_then, IsErr, IsOk, IfOk, IfSome};
 ghost use Rattle.std.specs.Option.{option_map_or};
+ghost use Rattle.ballot.specs.declared.slot.TheConstants.{LAST_SLOT};
 
+use crate::decisions::Decisions;
 use crate::performed::Performed;
 use crate::state::State;
 use crate::{awaiting, moves, proposing};
@@ -48,7 +50,7 @@ impl<M: Machine, A: Allocator + Copy> Replica<M, A> {
                 machine,
                 requests: VecDeque::new(alloc),
                 proposals: BTreeMap::new(alloc),
-                decisions: BTreeMap::new(alloc),
+                decisions: Decisions::new(alloc),
                 performed: Performed::new(alloc),
                 awaited: BTreeMap::new(alloc),
                 alloc,
@@ -106,7 +108,7 @@ impl<M: Machine, A: Allocator + Copy> Replica<M, A> {
         if self.spent {
             return Err(Memory);
         }
-        match self.state.decisions.get(&slot) {
+        match self.state.decisions.get(slot) {
             None => Ok(None),
             Some(command) => Ok(Some(command.copy()?)),
         }
@@ -123,7 +125,8 @@ impl<M: Machine, A: Allocator + Copy> Replica<M, A> {
 
     /// The first slot that isn't decided, 1 to 2^63: all below it are performed.
     pub fn slot_out(&self) -> u64
-        ensures { IfSome self.now (λ r. result ≡ r.slot_out) }
+        ensures value { IfSome self.now (λ r. result ≡ r.slot_out) }
+        ensures range { IfSome self.now (λ r. (1 ≤ result) × (result ≤ LAST_SLOT + 1)) }
     {
         self.state.slot_out
     }

@@ -1,4 +1,5 @@
 //! What a replica keeps.
+use crate::decisions::Decisions;
 use crate::performed::Performed;
 use ballot::{Cluster, Machine, NodeId, Payload, Slot};
 use std::alloc::Allocator;
@@ -24,7 +25,7 @@ pub struct State<M: Machine, A: Allocator> {
     pub requests: VecDeque<M::Command, A>,
     pub proposals: BTreeMap<Slot, M::Command, A>,
     /// Every decision, also those that are performed.
-    pub decisions: BTreeMap<Slot, M::Command, A>,
+    pub decisions: Decisions<M::Command, A>,
     pub performed: Performed<M::Command, A>,
     /// What was requested here, each with its answer once it is performed, until that is taken.
     pub awaited: Awaited<<M::Command as Payload>::Id, M::Answer, A>,
@@ -37,7 +38,7 @@ impl<M: Machine, A: Allocator> Model for State<M, A> {
 
     ghost Value = { ReplicaState M.Command M.Command.Id M.Answer M };
 
-    ghost view = { λ s. record { me = s.me; size = s.cluster; window = s.window; slot_in = s.slot_in; slot_out = s.slot_out; machine = s.machine; requests = s.requests.items; proposals = s.proposals.entries; decisions = s.decisions.entries; performed = s.performed; awaited = s.awaited.entries } };
+    ghost view = { λ s. record { me = s.me; size = s.cluster; window = s.window; slot_in = s.slot_in; slot_out = s.slot_out; machine = s.machine; requests = s.requests.items; proposals = s.proposals.entries; decisions = s.decisions; performed = s.performed; awaited = s.awaited.entries } };
 
-    ghost invariant = { λ s. (1 ≤ s.slot_in) × (1 ≤ s.slot_out) × AreSlots s.decisions.entries };
+    ghost invariant = { λ s. (1 ≤ s.slot_in) × (1 ≤ s.slot_out) × AreSlots s.decisions };
 }

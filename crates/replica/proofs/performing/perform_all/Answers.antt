@@ -12,7 +12,7 @@ pub returns-in_default : goal.returns-in_default
 returns-in_default g c =
     let S = ReplicaState g.row.M-Command.Denot g.row.M-Command-Id.Denot g.row.M-Answer.Denot g.row.M.Denot in
     let here : S = seen c.state-in-loop-turn.inside in
-    let turns : c.len-turns.result ≡ length c.args.state.now.decisions = c.len-turns.ensures.len ∙ ap (λ (r : S). length r.decisions) c.state.view_is in
+    let turns : c.count-turns.result ≡ length c.args.state.now.decisions = c.count-turns.ensures ∙ ap (λ (r : S). length r.decisions) c.state.view_is in
     let high : LAST_SLOT < here.slot_out =
     ⊎_elim
     (λ (l : LAST_SLOT < here.slot_out). l)
@@ -20,17 +20,17 @@ returns-in_default g c =
     (cases_lt LAST_SLOT here.slot_out) in
     let none : at_slot here.slot_out here.decisions ≡ None = none_above here.slot_out here.decisions c.state-in-loop-turn.invariant.2 high in
     let undecided : at_slot c.loop-turn.state.slot_out c.loop-turn.state.decisions ≡ None = subst (λ (r : S). at_slot r.slot_out r.decisions ≡ None) c.state-in-loop-turn.view_is none in
-    ended (the_rules g) c.len-turns.result c.loop-turn.turn (length c.args.state.now.decisions) c.loop-turn.state c.args.state.now undecided c.loop-turn.invariant turns
+    ended (the_rules g) c.count-turns.result c.loop-turn.turn (length c.args.state.now.decisions) c.loop-turn.state c.args.state.now undecided c.loop-turn.invariant turns
 
 pub returns-in_default-get : goal.returns-in_default-get
 returns-in_default-get g c =
     let S = ReplicaState g.row.M-Command.Denot g.row.M-Command-Id.Denot g.row.M-Answer.Denot g.row.M.Denot in
     let here : S = seen c.state-in-loop-turn.inside in
-    let turns : c.len-turns.result ≡ length c.args.state.now.decisions = c.len-turns.ensures.len ∙ ap (λ (r : S). length r.decisions) c.state.view_is in
+    let turns : c.count-turns.result ≡ length c.args.state.now.decisions = c.count-turns.ensures ∙ ap (λ (r : S). length r.decisions) c.state.view_is in
     let at : c.in-Some.slot ≡ here.slot_out = c.in-Some.ensures.value in
-    let none : at_slot here.slot_out here.decisions ≡ None = subst (λ s. at_slot s here.decisions ≡ None) at (sym c.in_default-get.ensures.value) in
+    let none : at_slot here.slot_out here.decisions ≡ None = subst (λ s. at_slot s here.decisions ≡ None) at (sym c.in_default-get.ensures) in
     let undecided : at_slot c.loop-turn.state.slot_out c.loop-turn.state.decisions ≡ None = subst (λ (r : S). at_slot r.slot_out r.decisions ≡ None) c.state-in-loop-turn.view_is none in
-    ended (the_rules g) c.len-turns.result c.loop-turn.turn (length c.args.state.now.decisions) c.loop-turn.state c.args.state.now undecided c.loop-turn.invariant turns
+    ended (the_rules g) c.count-turns.result c.loop-turn.turn (length c.args.state.now.decisions) c.loop-turn.state c.args.state.now undecided c.loop-turn.invariant turns
 
 pub perform-requires : goal.perform-requires
 perform-requires g c =
@@ -44,7 +44,7 @@ loop-turn-preserved g c =
     let S = ReplicaState g.row.M-Command.Denot g.row.M-Command-Id.Denot g.row.M-Answer.Denot g.row.M.Denot in
     let here : S = seen c.state-in-loop-turn.inside in
     let at : c.in-Some.slot ≡ here.slot_out = c.in-Some.ensures.value in
-    let found : at_slot c.in-Some.slot here.decisions ≡ Some c.in_ok-command.command = sym c.in-Some-get.ensures.value ∙ ap Some (sym c.in_ok-command.ensures) in
+    let found : at_slot c.in-Some.slot here.decisions ≡ Some c.in_ok-command.command = sym c.in-Some-get.ensures ∙ ap Some (sym c.in_ok-command.ensures) in
     let decided : at_slot c.loop-turn.state.slot_out c.loop-turn.state.decisions ≡ Some c.in_ok-command.command =
     subst (λ (r : S). at_slot r.slot_out r.decisions ≡ Some c.in_ok-command.command) c.state-in-loop-turn.view_is (subst (λ s. at_slot s here.decisions ≡ Some c.in_ok-command.command) at found) in
-    turn_on (the_rules g) c.len-turns.result c.loop-turn.turn c.loop-turn.state c.give_way.new.state c.perform.new.state c.in_ok-command.command (omega arith) decided c.in_ok-give_way.ensures c.in_ok-perform.ensures ∙ c.loop-turn.invariant
+    turn_on (the_rules g) c.count-turns.result c.loop-turn.turn c.loop-turn.state c.give_way.new.state c.perform.new.state c.in_ok-command.command (omega arith) decided c.in_ok-give_way.ensures c.in_ok-perform.ensures ∙ c.loop-turn.invariant
