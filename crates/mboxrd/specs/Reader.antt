@@ -1,5 +1,5 @@
 -- What is kept of a mailbox whose bytes come in pieces.
-use Rattle.std.specs.Prelude.{◌≡◌, ℕ, ◌==◌, ◌&&◌, ◌++◌, Bool, true, List, [], ◌∷◌, map, drop, length, min, codes, Option, None, Some, if◌then◌else◌}
+use Rattle.std.specs.Prelude.{◌≡◌, ℕ, ◌==◌, ◌&&◌, ◌++◌, Bool, true, false, List, [], ◌∷◌, map, drop, length, min, codes, Option, None, Some, if◌then◌else◌}
 use Rattle.std.specs.Option.{option_map}
 use Rattle.std.specs.List.{slice_split}
 use Rattle.std.specs.Str.Lines.{strip_carriage_return}
@@ -44,6 +44,10 @@ pub data Kept : Type 0 where
   -- the texts that have ended, the lines of the one that is open, and the bytes of the line that is open
   Reading : List (List (List ℕ)) → Option (List (List ℕ)) → List ℕ → Kept
   Failed : MboxError → Kept
+
+abbrev pub has_failed : Kept → Bool
+has_failed (Reading texts text line) = false
+has_failed (Failed error) = true
 
 abbrev pub kept_of : List (List (List ℕ)) → List ℕ → Kept
 kept_of messages line = Reading (map text_of (ended_parts messages)) (open_text messages) line

@@ -1,5 +1,5 @@
 //! Reads mailboxes that come in pieces.
-ghost use Rattle.std.specs.Prelude.{◌≡◌, ◌↔◌, ◌++◌, ◌<◌, length, ℕ, List, [], ◌∷◌, None, Ok, Err, IfOk, IfErr, OnOk, OnErr, IsErrOf};
+ghost use Rattle.std.specs.Prelude.{◌≡◌, ◌↔◌, ◌++◌, ◌<◌, length, ℕ, List, [], ◌∷◌, false, None, Ok, Err, IsOk, IfOk, IfErr, OnOk, OnErr, IsErrOf};
 ghost use Rattle.std.specs.Str.Lines.{strip_carriage_return};
 ghost use Rattle.maildrop.specs.Text.{IsLine};
 ghost use Rattle.mboxrd.specs.declared.error.MboxError.{MboxError};
@@ -123,6 +123,7 @@ fn take_in<A: Allocator + Copy>(
     ensures line { IsLine line.new.items }
     ensures kept { (bytes : List ℕ) → spec.IsKept bytes texts.old.items text.old line.old.items →
         OnOk result (spec.IsKept (bytes ++ piece.now) texts.new.items text.new line.new.items) }
+    ensures empty { piece.now ≡ [] → IsOk result }
 {
     let mut rest = piece;
     while let Some(end) = memchr(b'\n', rest) {
@@ -154,6 +155,9 @@ impl<A: Allocator + Copy> Reader<A> {
             IsErrOf result MboxError.NoFromLine ↔ (kept_after (bytes ++ piece.now) ≡ Failed MboxError.NoFromLine) }
         ensures err { IfErr result (λ error. self.new ≡ Failed error) }
         ensures sticky { (error : MboxError) → self.old ≡ Failed error → result ≡ Err error }
+
+        // An empty piece takes no memory.
+        ensures empty { spec.has_failed self.old ≡ false → piece.now ≡ [] → IsOk result }
     {
         if let Some(error) = self.error {
             return Err(error);
@@ -178,6 +182,9 @@ impl<A: Allocator + Copy> Reader<A> {
         ensures refused { (bytes : List ℕ) → self ≡ kept_after bytes →
             IsErrOf result MboxError.NoFromLine ↔ (read_of bytes ≡ Err MboxError.NoFromLine) }
         ensures sticky { (error : MboxError) → self ≡ Failed error → result ≡ Err error }
+
+        // The texts of an empty mailbox take no memory.
+        ensures empty { self ≡ kept_after [] → IsOk result }
     {
         if let Some(error) = self.error {
             return Err(error);
@@ -196,7 +203,8 @@ fn texts_of<A: Allocator + Copy>(
     line: &[u8],
 ) -> Result<Vec<Text<A>, A>, Memory>
     requires { IsLine line.now }
-    ensures { IfOk result (λ all. all.items ≡ spec.all_texts texts.items text line.now) }
+    ensures all { IfOk result (λ all. all.items ≡ spec.all_texts texts.items text line.now) }
+    ensures empty { text ≡ None → line.now ≡ [] → IsOk result }
 {
     let mut texts = texts;
     let mut text = text;

@@ -1,5 +1,5 @@
 //! Reads whole mailboxes.
-ghost use Rattle.std.specs.Prelude.{◌≡◌, ◌↔◌, None, Ok, Err, IfOk, IsErrOf};
+ghost use Rattle.std.specs.Prelude.{◌≡◌, ◌↔◌, [], None, Ok, Err, IsOk, IfOk, IsErrOf};
 ghost use Rattle.mboxrd.specs.Mailbox as spec;
 ghost use Rattle.mboxrd.specs.Reader.{is_begun};
 
@@ -23,6 +23,9 @@ fn is_mailbox(bytes: &[u8]) -> bool
 pub fn read<A: Allocator + Copy>(alloc: A, bytes: &[u8]) -> Result<Vec<Text<A>, A>, MboxError>
     ensures value { IfOk result (λ texts. spec.read_of bytes.now ≡ Ok texts.items) }
     ensures refused { IsErrOf result MboxError.NoFromLine ↔ (spec.read_of bytes.now ≡ Err MboxError.NoFromLine) }
+
+    // An empty file takes no memory.
+    ensures empty { bytes.now ≡ [] → IsOk result }
 {
     if !is_mailbox(bytes) {
         return Err(MboxError::NoFromLine);

@@ -1,5 +1,5 @@
 //! Writes mailboxes.
-ghost use Rattle.std.specs.Prelude.{◌≡◌, ◌++◌, ◌∷◌, [], IsTrue, IfOk, OnOk};
+ghost use Rattle.std.specs.Prelude.{◌≡◌, ◌++◌, ◌∷◌, [], IsTrue, IsOk, IfOk, OnOk};
 ghost use Rattle.mboxrd.specs.Mailbox.{is_from_line, file_of, message_of, quoted, written_of};
 
 use crate::quoting::is_quotable;
@@ -49,7 +49,10 @@ pub fn write<A: Allocator + Copy>(
     texts: &[Text<A>],
 ) -> Result<Vec<u8, A>, Memory>
     requires { IsTrue (is_from_line from_line.now) }
-    ensures { IfOk result (λ bytes. bytes.items ≡ written_of from_line.now texts.now) }
+    ensures value { IfOk result (λ bytes. bytes.items ≡ written_of from_line.now texts.now) }
+
+    // A mailbox without texts takes no memory.
+    ensures empty { texts.now ≡ [] → IsOk result }
 {
     let mut bytes = Vec::new(alloc);
     for text in texts {

@@ -26,7 +26,7 @@ returns-clause-value g c bytes is =
     let kept = opened_by _ _ _ _ _ bytes c.self.view_is c.in_default.is is in
     let begun : is_begun c.self.inside.text c.self.inside.line.items ≡ true = ap (is_begun c.self.inside.text) (sym c.deref.ensures.value) ∙ sym c.is_begun.ensures ∙ c.if-not-is_begun.false in
     read_of-begun bytes _ _ _ kept.0 kept.1 begun
-    ∙ ap (λ texts. Ok texts) (ap (all_texts c.self.inside.texts.items c.self.inside.text) (sym c.deref-2.ensures.value) ∙ sym c.in_ok-texts_of.ensures)
+    ∙ ap (λ texts. Ok texts) (ap (all_texts c.self.inside.texts.items c.self.inside.text) (sym c.deref-2.ensures.value) ∙ sym c.in_ok-texts_of.ensures.all)
 
 pub returns-clause-refused : goal.returns-clause-refused
 returns-clause-refused g c bytes is =
