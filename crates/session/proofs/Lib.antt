@@ -5,6 +5,7 @@ pub mod Runs
 pub mod Streams
 pub mod Answering
 pub mod Pieces
+pub mod Gates
 pub mod ReaderLemmas
 pub mod Served
 pub mod Closing

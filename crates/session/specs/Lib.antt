@@ -7,6 +7,7 @@ pub mod Prefix
 pub mod Desks
 pub mod Conversation
 pub mod Transcript
+pub mod Gates
 pub mod Serve
 pub mod Dialogue
 pub mod Asking

@@ -20,11 +20,19 @@ pub trait Desk<O, R> {
 
 /// What a session passes around each line: it enters before the line is heard, and leaves once the reply is written.
 pub trait Gate {
+    /// That the gate, in the first state, may be entered, and be in the second state then.
+    ghost enters: { Self → Self → Type 0 };
+
+    /// That the gate, in the first state, may be left, and be in the second state then.
+    ghost leaves: { Self → Self → Type 0 };
+
     /// A line is about to be heard.
-    fn enter(&mut self);
+    fn enter(&mut self)
+        ensures { enters self.old self.new };
 
     /// The reply is written. What stops the session in between passes no leave.
-    fn leave(&mut self);
+    fn leave(&mut self)
+        ensures { leaves self.old self.new };
 }
 
 /// A gate that holds nothing up.
@@ -32,6 +40,12 @@ pub trait Gate {
 pub struct OpenGate;
 
 impl Gate for OpenGate {
+    ghost use Rattle.std.specs.Prelude.{◌≡◌};
+
+    ghost enters = { λ old new. new ≡ old };
+
+    ghost leaves = { λ old new. new ≡ old };
+
     fn enter(&mut self) {}
 
     fn leave(&mut self) {}

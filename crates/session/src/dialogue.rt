@@ -1,5 +1,5 @@
 //! A session beside its desk, with all that is kept of it.
-ghost use Rattle.std.specs.Prelude.{◌≡◌, ◌+◌, ◌<◌, [], ◌∷◌, ◌++◌, true, Some, IfOk, IfErr, OnOk, length, vec_len, vec_capacity};
+ghost use Rattle.std.specs.Prelude.{◌≡◌, ◌≢◌, ◌+◌, ◌<◌, [], ◌∷◌, ◌++◌, true, Some, IfOk, IfErr, OnOk, length, vec_len, vec_capacity};
 ghost use Rattle.session.specs.Dialogue.{place, place_alone, end_of, entry_of, saying_by, IsSettled, IsHeard, Says, IsSilenced, IsAnswered, IsUnanswered, IsKept, IsSpent, Responds, Refuses, IsStop};
 ghost use Rattle.session.specs.Session.{hears, awaits_answer};
 
@@ -65,6 +65,7 @@ impl<A: Allocator + Copy> Dialogue<A> {
             (place self.old desk.old) (place self.new desk.new) line.now saying) }
         ensures stopped { IfErr result (λ stop. IsStop accounts.now self.old.session.stamp D.gives
             (place self.old desk.old) (place self.new desk.new) (line.now ∷ []) (end_of stop) []) }
+        ensures silent { IfErr result (λ stop. stop ≢ Stop.Closed) }
     {
         let lock = self.session.lock();
         match self.session.line(accounts, line) {
@@ -87,6 +88,7 @@ impl<A: Allocator + Copy> Dialogue<A> {
             (place self.old desk.old) (place self.new desk.new) line.now step saying) }
         ensures refuses { IfErr result (λ stop. Refuses D.gives
             (place self.old desk.old) (place self.new desk.new) line.now lock step (end_of stop)) }
+        ensures silent { IfErr result (λ stop. stop ≢ Stop.Closed) }
     {
         match step {
             Step::Say(bytes) => {
@@ -134,6 +136,7 @@ impl<A: Allocator + Copy> Dialogue<A> {
             (place self.old desk.old) (place self.new desk.new) line.now (Step.Ask user op) saying) }
         ensures refuses { IfErr result (λ stop. Refuses D.gives
             (place self.old desk.old) (place self.new desk.new) line.now lock (Step.Ask user op) (end_of stop)) }
+        ensures silent { IfErr result (λ stop. stop ≢ Stop.Closed) }
     {
         match op.copy() {
             Ok(kept) => {
@@ -164,6 +167,7 @@ impl<A: Allocator + Copy> Dialogue<A> {
             (place self.old desk.old) (place self.new desk.new) line user op saying) }
         ensures unanswered { IfErr result (λ stop. IsUnanswered D.gives
             (place self.old desk.old) (place self.new desk.new) line user op (end_of stop)) }
+        ensures silent { IfErr result (λ stop. stop ≢ Stop.Closed) }
     {
         match desk.ask(user, op) {
             Err(stopped) => {
@@ -198,6 +202,7 @@ impl<A: Allocator + Copy> Dialogue<A> {
         ensures asked { self.new.asked.items ≡ self.old.asked.items ++ entry_of line user kept (Some ticket) (Some outcome) ∷ [] }
         ensures count { self.new.count ≡ self.old.count }
         ensures room { vec_len self.new.asked < vec_capacity self.new.asked }
+        ensures silent { IfErr result (λ stop. stop ≢ Stop.Closed) }
     {
         let answered = self.session.answer(ticket, &outcome);
         self.asked.push_reserved(Asked {
@@ -213,7 +218,8 @@ impl<A: Allocator + Copy> Dialogue<A> {
 
 /// What an answer has the session say. It asks nothing more.
 fn saying_of<A: Allocator>(answered: Result<Step<A>, SessionError>) -> Result<Saying<A>, Stop>
-    ensures { result ≡ saying_by answered }
+    ensures value { result ≡ saying_by answered }
+    ensures silent { IfErr result (λ stop. stop ≢ Stop.Closed) }
 {
     match answered {
         Ok(Step::Say(bytes)) => Ok(Saying {

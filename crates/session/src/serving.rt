@@ -4,6 +4,7 @@ ghost use Rattle.std.specs.Io.KnownBytes.{Appends};
 ghost use Rattle.pop3_wire.specs.Reader.{lines_after, waiting};
 ghost use Rattle.pop3_wire.specs.Reply.{greeting as greeting_of};
 ghost use Rattle.session.specs.Dialogue.{place, end_of, IsRun, IsStop, IsPieceFront, IsPieceStop, IsListened, IsConversed, IsHungUp};
+ghost use Rattle.session.specs.Gates.{IsGated, IsPassedFrom, IsStoppedFrom};
 ghost use Rattle.session.specs.Serve as spec;
 ghost use Rattle.session.specs.Serve.{IsTranscript, IsReadAndWritten};
 ghost use Rattle.session.specs.Session.{hears, opening};
@@ -74,6 +75,8 @@ fn exchange<A: Allocator + Copy, W: Write, D: Desk<Op<A>, Outcome<A>>, G: Gate>(
         × IsRun accounts.now dialogue.old.session.stamp D.gives (place dialogue.old desk.old) (place dialogue.new desk.new) (line.now ∷ []) written) }
     ensures stops { IfErr result (λ stop. (written : List ℕ) × Appends (W.contents writer.old) (W.contents writer.new) written
         × IsStop accounts.now dialogue.old.session.stamp D.gives (place dialogue.old desk.old) (place dialogue.new desk.new) (line.now ∷ []) (end_of stop) written) }
+    ensures passed { OnOk result (IsPassedFrom G.enters G.leaves (length dialogue.old.lines) (length dialogue.new.lines) gate.old gate.new) }
+    ensures held { IfErr result (λ stop. IsStoppedFrom G.enters G.leaves (end_of stop) (length dialogue.old.lines) (length dialogue.new.lines) gate.old gate.new) }
 {
     gate.enter();
     let saying = dialogue.hear(accounts, desk, line)?;
@@ -111,6 +114,8 @@ fn exchange_all<A: Allocator + Copy, W: Write, D: Desk<Op<A>, Outcome<A>>, G: Ga
         lines.old lines.new piece.now [] (W.contents writer.old) (W.contents writer.new)) }
     ensures stops { IfErr result (λ stop. IsPieceStop accounts.now dialogue.old.session.stamp D.gives (place dialogue.old desk.old) (place dialogue.new desk.new)
         lines.old piece.now (end_of stop) (W.contents writer.old) (W.contents writer.new)) }
+    ensures passed { OnOk result (IsPassedFrom G.enters G.leaves (length dialogue.old.lines) (length dialogue.new.lines) gate.old gate.new) }
+    ensures held { IfErr result (λ stop. IsStoppedFrom G.enters G.leaves (end_of stop) (length dialogue.old.lines) (length dialogue.new.lines) gate.old gate.new) }
 {
     let mut rest = piece;
     while !rest.is_empty() {
@@ -137,8 +142,9 @@ fn listen<A: Allocator + Copy, R: Read, W: Write, D: Desk<Op<A>, Outcome<A>>, G:
     requires hearing { hears dialogue.old.session.state ≡ true }
     requires entry_room { vec_len dialogue.old.asked < vec_capacity dialogue.old.asked }
     requires room { dialogue.old.count ≤ 2 ^ 64 }
-    ensures { IsListened accounts.now dialogue.old.session.stamp D.gives (place dialogue.old desk.old) (place dialogue.new desk.new)
+    ensures listened { IsListened accounts.now dialogue.old.session.stamp D.gives (place dialogue.old desk.old) (place dialogue.new desk.new)
         result (R.remaining reader.old) (R.remaining reader.new) (W.contents writer.old) (W.contents writer.new) }
+    ensures gated { IsStoppedFrom G.enters G.leaves result (length dialogue.old.lines) (length dialogue.new.lines) gate.old gate.new }
 {
     let mut lines = LineReader::new();
     let mut buffer = [0u8; PIECE];
@@ -173,6 +179,7 @@ fn converse<A: Allocator + Copy, R: Read, W: Write, D: Desk<Op<A>, Outcome<A>>, 
     requires entry_room { vec_len dialogue.old.asked < vec_capacity dialogue.old.asked }
     ensures conversed { IsConversed accounts.now dialogue.old.session.stamp D.gives desk.old (place dialogue.new desk.new)
         result (R.remaining reader.old) (R.remaining reader.new) (W.contents writer.old) (W.contents writer.new) }
+    ensures gated { IsGated G.enters G.leaves result (length dialogue.new.lines) gate.old gate.new }
 {
     let sent = send(writer, greeting);
     dialogue.count = sent as u128;
@@ -224,6 +231,9 @@ pub fn serve<A: Allocator + Copy, R: Read, W: Write, D: Desk<Op<A>, Outcome<A>>,
 
     // The desk was asked what the entries say, gave what they say, and was asked nothing else.
     ensures desk { IsHistory D.gives desk.old result.asked desk.new }
+
+    // The gate was entered before each line, left once its reply was written, and nothing else.
+    ensures gate { IsGated G.enters G.leaves result.end (length result.lines) gate.old gate.new }
 {
     let session = Session::new(alloc, stamp);
     let Ok(greeting) = session.greeting() else {

@@ -1,8 +1,9 @@
-use Rattle.std.proofs.Common.{◌≡◌, ◌++◌, [], refl, rules, arith, inl, inr}
+use Rattle.std.proofs.Common.{◌≡◌, ◌++◌, [], length, refl, rules, arith, inl, inr}
 use Rattle.pop3_wire.specs.Reader.{Open}
 use Rattle.session.specs.declared.transcript.End.TheVariants.{HungUp, ReadFault}
 use Rattle.session.specs.Dialogue.{place, end_of}
 use Rattle.session.proofs.Streams.{consumes_none, consumes_join, consumes_kept, consumes_over}
+use Rattle.session.proofs.Gates.{passed_none, passed_from, stopped_from}
 use Rattle.session.proofs.Pieces.{front_none, front_join, listened, listened_stop, unended}
 use Rattle.session.proofs.serving.listen.Goals as goal
 
@@ -16,32 +17,33 @@ loop-init g c = record {
   ready = rw c.new-lines.ensures refl;
   ended = rw c.new-lines.ensures refl;
   count = search rules;
+  passed = passed_none g.G.Gate.enters g.G.Gate.leaves (length c.args.dialogue.now.lines) c.args.gate.now;
 }
 
-pub returns-in-Ok-eq0 : goal.returns-in-Ok-eq0
-returns-in-Ok-eq0 g c =
+pub returns-in-Ok-eq0-clause-listened : goal.returns-in-Ok-eq0-clause-listened
+returns-in-Ok-eq0-clause-listened g c =
     let served = c.loop.invariant.served in
     let none : c.in-Ok-eq0.field-0 ≡ 0 = search rules in
     listened c.args.accounts.now c.args.dialogue.now.session.stamp g.D.Desk.gives (place c.args.dialogue.now c.args.desk.now) (place c.loop.dialogue c.loop.desk) c.loop.lines served.0 HungUp
     (g.R.Read.remaining c.args.reader.now) (g.R.Read.remaining c.read.new.self) (g.W.Write.contents c.args.writer.now) (g.W.Write.contents c.loop.writer)
     served.2 c.loop.invariant.ended (consumes_over _ (g.R.Read.remaining c.loop.reader) _ served.0 served.1 (rw none at c.in-Ok-eq0.ensures.bytes.0)) (inl refl) (λ same. c.in-Ok-eq0.ensures.bytes.1 none (search rules))
 
-pub returns-in-Err : goal.returns-in-Err
-returns-in-Err g c =
+pub returns-in-Err-clause-listened : goal.returns-in-Err-clause-listened
+returns-in-Err-clause-listened g c =
     let served = c.loop.invariant.served in
     listened c.args.accounts.now c.args.dialogue.now.session.stamp g.D.Desk.gives (place c.args.dialogue.now c.args.desk.now) (place c.loop.dialogue c.loop.desk) c.loop.lines served.0 ReadFault
     (g.R.Read.remaining c.args.reader.now) (g.R.Read.remaining c.read.new.self) (g.W.Write.contents c.args.writer.now) (g.W.Write.contents c.loop.writer)
     served.2 c.loop.invariant.ended (consumes_kept _ (g.R.Read.remaining c.loop.reader) _ served.0 served.1 c.in-Err.ensures.bytes) (inr refl) (λ same. absurd (cc))
 
-pub returns : goal.returns
-returns g c =
+pub returns-clause-listened : goal.returns-clause-listened
+returns-clause-listened g c =
     let served = c.loop.invariant.served in
     listened c.args.accounts.now c.args.dialogue.now.session.stamp g.D.Desk.gives (place c.args.dialogue.now c.args.desk.now) (place c.loop.dialogue c.loop.desk) c.loop.lines served.0 ReadFault
     (g.R.Read.remaining c.args.reader.now) (g.R.Read.remaining c.loop.reader) (g.W.Write.contents c.args.writer.now) (g.W.Write.contents c.loop.writer)
     served.2 c.loop.invariant.ended served.1 (inr refl) (λ same. absurd (cc))
 
-pub returns-in-Err-exchange_all : goal.returns-in-Err-exchange_all
-returns-in-Err-exchange_all g c =
+pub returns-in-Err-exchange_all-clause-listened : goal.returns-in-Err-exchange_all-clause-listened
+returns-in-Err-exchange_all-clause-listened g c =
     let served = c.loop.invariant.served in
     let stopped = c.in-Err-exchange_all.ensures.stops in
     rw c.end.ensures
@@ -62,4 +64,19 @@ loop-preserved g c = record {
   ready = c.in_default.ensures.ready;
   ended = c.in_default.ensures.ended;
   count = search rules;
+  passed = passed_from g.G.Gate.enters g.G.Gate.leaves (length c.args.dialogue.now.lines) (length c.loop.dialogue.lines) (length c.exchange_all.new.dialogue.lines) c.args.gate.now c.loop.gate c.exchange_all.new.gate c.loop.invariant.passed c.in_default.ensures.passed;
 }
+
+pub returns-in-Ok-eq0-clause-gated : goal.returns-in-Ok-eq0-clause-gated
+returns-in-Ok-eq0-clause-gated g c = c.loop.invariant.passed
+
+pub returns-in-Err-clause-gated : goal.returns-in-Err-clause-gated
+returns-in-Err-clause-gated g c = c.loop.invariant.passed
+
+pub returns-clause-gated : goal.returns-clause-gated
+returns-clause-gated g c = c.loop.invariant.passed
+
+pub returns-in-Err-exchange_all-clause-gated : goal.returns-in-Err-exchange_all-clause-gated
+returns-in-Err-exchange_all-clause-gated g c =
+    rw c.end.ensures
+    (stopped_from g.G.Gate.enters g.G.Gate.leaves (end_of c.in-Err-exchange_all.stop) (length c.args.dialogue.now.lines) (length c.loop.dialogue.lines) (length c.exchange_all.new.dialogue.lines) c.args.gate.now c.loop.gate c.exchange_all.new.gate c.loop.invariant.passed c.in-Err-exchange_all.ensures.held)

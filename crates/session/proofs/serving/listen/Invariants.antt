@@ -1,7 +1,8 @@
-use Rattle.std.proofs.Common.{◌≡◌, ℕ, ◌+◌, ◌*◌, ◌^◌, ◌≤◌, List, [], None}
+use Rattle.std.proofs.Common.{◌≡◌, ℕ, ◌+◌, ◌*◌, ◌^◌, ◌≤◌, List, [], None, length}
 use Rattle.std.specs.Io.KnownBytes.{Consumes}
 use Rattle.pop3_wire.specs.Reader.{Open, lines_after, waiting}
 use Rattle.session.specs.Dialogue.{place, IsPieceFront}
+use Rattle.session.specs.Gates.{IsPassedFrom}
 use Rattle.session.proofs.serving.listen.Given as goal
 
 -- what was read was served
@@ -13,4 +14,5 @@ invariant-loop g l = record {
   ready : waiting l.lines ≡ None;
   ended : lines_after l.lines [] ≡ [];
   count : l.dialogue.count ≤ 2 ^ 64 + l.counter * (4096 * 2 ^ 64);
+  passed : IsPassedFrom g.G.Gate.enters g.G.Gate.leaves (length l.initial.dialogue.lines) (length l.dialogue.lines) l.initial.gate l.gate;
 }

@@ -1,4 +1,5 @@
-use Rattle.std.proofs.Common.{rules}
+use Rattle.std.proofs.Common.{length, rules, subst, sym}
+use Rattle.session.specs.Gates.{IsGated}
 use Rattle.session.specs.Dialogue.{place}
 use Rattle.session.proofs.Served.{transcribed, transported, historic, nothing_transcribed, nothing_transported}
 use Rattle.session.proofs.serving.serve.Goals as goal
@@ -32,3 +33,7 @@ returns-clause-desk g c =
     rw c.from_vec.ensures (historic c.args.accounts.now c.args.stamp g.D.Desk.gives c.args.desk.now (place c.converse-end.new.dialogue c.converse-end.new.desk) (place c.hang_up.new.dialogue c.hang_up.new.desk) c.converse-end.result
     (g.R.Read.remaining c.args.reader.now) (g.R.Read.remaining c.converse-end.new.reader) (g.W.Write.contents c.args.writer.now) (g.W.Write.contents c.converse-end.new.writer)
     (rw (c.in-Ok-new.ensures.session, c.new-session.ensures) at c.converse-end.ensures.conversed) c.hang_up.ensures)
+
+pub returns-clause-gate : goal.returns-clause-gate
+returns-clause-gate g c =
+    subst (λ lines. IsGated g.G.Gate.enters g.G.Gate.leaves c.converse-end.result (length lines) c.args.gate.now c.converse-end.new.gate) (sym c.hang_up.ensures.lines) c.converse-end.ensures.gated
