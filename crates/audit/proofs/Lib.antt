@@ -14,3 +14,10 @@ pub mod Settled
 pub mod Fit
 pub mod Written
 pub mod Connected
+pub mod Rests
+pub mod RunNodes
+pub mod RunClients
+pub mod RunHappenings
+pub mod RunSteps
+pub mod RunOrders
+pub mod RunScripts

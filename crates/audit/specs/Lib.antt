@@ -11,3 +11,5 @@ pub mod Records
 pub mod Examples
 pub mod Events
 pub mod Written
+pub mod Runs
+pub mod RunExamples

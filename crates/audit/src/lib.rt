@@ -4,9 +4,13 @@
 
 mod event;
 mod laws;
+mod run_laws;
 
 pub use event::Event;
 pub use laws::{
     a_placing_ends, a_stuck_placing_has_no_order, a_whole_placing_has_an_order,
     a_written_order_is_legal, placing_takes_no_turn_away,
+};
+pub use run_laws::{
+    a_legal_order_is_a_run, counted_bytes_are_projected, served_transcripts_are_scripts,
 };

@@ -1,0 +1,255 @@
+-- A legal order is a run.
+use Rattle.std.proofs.Common.{◌≡◌, ◌⊎◌, ℕ, zero, suc, ◌+◌, ◌<◌, ◌≤◌, length, take, List, [], ◌∷◌, ◌++◌, Bool, true, false, Option, Some, None, refl, sym, ap, ◌∙◌, subst, inl, inr, ⊎_elim, cond, arith}
+use Rattle.std.specs.Prelude.{slice_get, option_map, ◌==◌, ◌&&◌, fold}
+use Rattle.std.specs.List.{concat}
+use Rattle.std.proofs.lemmas.Bool.{eq-eqb, cases_eq, cases_lt}
+use Rattle.std.proofs.lemmas.List.{append-nil, take_all}
+use Rattle.std.proofs.lemmas.List.Sums.{fold-append}
+use Rattle.std.proofs.lemmas.Option.{slice_get-map, slice_get_past}
+use Rattle.apop.specs.Stamp.{Stamp}
+use Rattle.maildrop.specs.CommandId.{CommandId}
+use Rattle.maildrop.specs.declared.outcome.Outcome.{Outcome}
+use Rattle.node.specs.declared.input.Input.{Input}
+use Rattle.node.specs.declared.log.NodeLog.{NodeLog}
+use Rattle.pop3_wire.specs.declared.line.Line.{Line}
+use Rattle.session.specs.Prefix.{IsPrefix}
+use Rattle.session.specs.Serve.{told, IsWrittenBy}
+use Rattle.session.specs.declared.transcript.End.{End}
+use Rattle.session.specs.declared.transcript.End.TheVariants as end
+use Rattle.session.specs.declared.transcript.Transcript.{Transcript}
+use Rattle.session.proofs.Runs.{prefix_behind}
+use Rattle.world.specs.Clients.{Client, new_client, client_of, with_client}
+use Rattle.world.specs.Messages.{log_of}
+use Rattle.world.specs.Projection.{IsUserOf, own_commands, alone_bytes}
+use Rattle.world.specs.Services.{Service, Happening, Occurs, opening_of, happens, run_of}
+use Rattle.world.specs.declared.config.Config.{Config}
+use Rattle.world.specs.declared.event.Event.TheVariants as happening
+use Rattle.world.proofs.Logs.{new_log_of}
+use Rattle.world.proofs.Prefixes.{all_of, prefix_on, concat_append}
+use Rattle.world.proofs.Projected.{every_projected}
+use Rattle.audit.specs.Case.{next, after_next, state_at}
+use Rattle.audit.specs.Order.{Awaited, Session, World, Ends, NothingAwaited, SessionEnds, IsLegalOrder, opening}
+use Rattle.audit.specs.Records.{is_fit, place_of, inputs_in, number_in, begun_at, RealCase, case_of, AreFit}
+use Rattle.audit.specs.Replays.{Replay, runs}
+use Rattle.audit.specs.Runs.{AreOfService, AreItsLines, EndsWithoutTicket, IsClientOf, IsRunOf, AreCounted, AreSaidAlone, line_tickets}
+use Rattle.audit.specs.Turns.{Turns, turns_from, is_empty, is_blank, script_of}
+use Rattle.audit.specs.declared.event.Event.{Event}
+use Rattle.audit.proofs.RunClients.{Goes, IsDone, StandsFor, StandsAs, at_end}
+use Rattle.audit.proofs.RunHappenings.{client_put, client_other, connects_new}
+use Rattle.audit.proofs.RunNodes.{AreAt, at_first}
+use Rattle.audit.proofs.RunSteps.{OrderSession, OrderWorld, IsSession, IsIdle, AtNode, ByScript, IsFollowed, Follows, steps, greeted}
+
+-- lists
+got_some : {X : Type 0} (xs : List X) (k : ℕ) → k < length xs → (x : X) × (slice_get xs k ≡ Some x)
+got_some [] k below = absurd (omega (arith, below))
+got_some (x ∷ xs) zero below = (x, refl)
+got_some (x ∷ xs) (suc k) below = got_some xs k (omega (arith, below))
+
+take_push : {X : Type 0} (xs : List X) (k : ℕ) (x : X) → slice_get xs k ≡ Some x → take (suc k) xs ≡ take k xs ++ x ∷ []
+take_push [] k x e = absurd (cc)
+take_push (y ∷ ys) zero x e = let same : y ≡ x = cc in ap (λ z. z ∷ []) same
+take_push (y ∷ ys) (suc k) x e = ap (λ zs. y ∷ zs) (take_push ys k x e)
+
+-- what is written is a front of the replies, whatever the end is
+all_written : (replies : List (List ℕ)) (written : List ℕ) → written ≡ concat replies → IsPrefix written (concat replies)
+all_written replies written all = ([], append-nil written ∙ all)
+
+concat_last : (front : List (List ℕ)) (last : List ℕ) → concat (front ++ last ∷ []) ≡ concat front ++ last
+concat_last front last = concat_append front (last ∷ []) ∙ ap (λ bytes. concat front ++ bytes) (append-nil last)
+
+front_written : (ended : End) (replies : List (List ℕ)) (written : List ℕ) → IsWrittenBy ended replies written → IsPrefix written (concat replies)
+front_written end.Closed replies written all = all_written replies written all
+front_written end.HungUp replies written all = all_written replies written all
+front_written end.ReadFault replies written all = all_written replies written all
+front_written end.WriteFault replies written less =
+    rw (less.said, less.in_order, concat_last less.front less.last) (prefix_behind (concat less.front) less.sent less.last less.cut)
+front_written end.DeskStopped replies written all = all_written replies written all
+front_written end.Memory replies written h =
+    ⊎_elim (λ all. all_written replies written all) (λ less. rw (less.said, less.in_order, concat_last less.front less.last) (less.last, refl)) h
+
+module _ {A : Type 0} (cfg : Config A) (stamps : ℕ → Stamp) (logs : List (NodeLog A)) (transcripts : List (Transcript A)) (fit : AreFit logs transcripts) (service : AreOfService cfg stamps logs transcripts) where
+  abbrev real : RealCase A
+  real = case_of logs transcripts
+
+  abbrev number_of : ℕ → ℕ
+  number_of n = number_in (slice_get logs n)
+
+  abbrev none_placed : ℕ → ℕ
+  none_placed n = 0
+
+  abbrev unborn : OrderSession A
+  unborn = record { node = None; done = []; left = []; awaits = None }
+
+  abbrev Followed : (ℕ → ℕ) → ℕ → OrderSession A → Option (Client A) → Type 0
+  Followed = IsFollowed cfg stamps logs transcripts fit service
+
+  abbrev By : (ℕ → ℕ) → ℕ → OrderSession A → Option (Client A) → Option (Option (Turns A)) → Type 0
+  By = ByScript cfg stamps logs transcripts fit service
+
+  -- Sessions without turns are greeted first
+
+  abbrev greet : ℕ → Option (Option (Turns A)) → List (Happening A)
+  greet i None = []
+  greet i (Some None) = []
+  greet i (Some (Some [])) = Occurs (happening.Connect (suc i) (number_of 0) (stamps i)) ∷ []
+  greet i (Some (Some (turn ∷ turns))) = []
+
+  abbrev greets : ℕ → List (Happening A)
+  greets zero = []
+  greets (suc m) = greets m ++ greet m (slice_get real.scripts m)
+
+  first_log : (log : NodeLog A) × (slice_get logs 0 ≡ Some log)
+  first_log = got_some logs 0 fit.some
+
+  first_begun : state_at real 0 0 ≡ Some (record { opening = first_log.0.opening; inputs = [] })
+  unfolding first_log
+  first_begun =
+      let its = fit.openings 0 first_log.0 first_log.1 in
+      ap (begun_at logs 0) first_log.1 ∙ rw (its.0, eq-eqb (place_of first_log.0.opening.me logs) 0 its.1) refl
+
+  -- the first m sessions are seen to
+  record AreGreeted (m : ℕ) (v : Service A) : Type 0 where
+    nodes : AreAt cfg logs transcripts fit service.openings none_placed [] v.network
+    past : (i : ℕ) → i < m → Followed none_placed i unborn (client_of (suc i) v.clients)
+    ahead : (i : ℕ) → m ≤ i → client_of (suc i) v.clients ≡ None
+
+  past_one : (m : ℕ) (P : ℕ → Type 0) → P m → ((i : ℕ) → i < m → P i) → (i : ℕ) → i < suc m → P i
+  past_one m P here past i below =
+      ⊎_elim (λ (e : i ≡ m). subst P (sym e) here) (λ ne. past i (grind (arith, below, ne))) (cases_eq i m)
+
+  greets_one : (m : ℕ) (v : Service A) → AreGreeted m v → (script : Option (Option (Turns A))) → slice_get real.scripts m ≡ script → AreGreeted (suc m) (fold (happens cfg) v (greet m script))
+  greets_one m v g script e =
+      go script e
+    where
+      quiet : (script : Option (Option (Turns A))) → slice_get real.scripts m ≡ script → By none_placed m unborn (client_of (suc m) v.clients) script → AreGreeted (suc m) v
+      quiet script e here = record {
+        nodes = g.nodes;
+        past = past_one m (λ i. Followed none_placed i unborn (client_of (suc i) v.clients)) (subst (By none_placed m unborn (client_of (suc m) v.clients)) (sym e) here) g.past;
+        ahead = λ i above. g.ahead i (omega (arith, above));
+      }
+
+      go : (script : Option (Option (Turns A))) → slice_get real.scripts m ≡ script → AreGreeted (suc m) (fold (happens cfg) v (greet m script))
+      go None e = quiet None e (refl, refl)
+      go (Some None) e = quiet (Some None) e (refl, refl)
+      go (Some (Some (turn ∷ turns))) e = quiet (Some (Some (turn ∷ turns))) e (g.ahead m (omega arith), refl)
+      go (Some (Some [])) e =
+          subst (AreGreeted (suc m)) (sym (connects_new cfg v (suc m) (number_of 0) (stamps m) (record { opening = first_log.0.opening; inputs = [] }) (g.nodes.nodes 0 ∙ first_begun) refl (g.ahead m (omega arith))))
+          (record {
+            nodes = g.nodes;
+            past = past_one m (λ i. Followed none_placed i unborn (client_of (suc i) (with_client (suc m) (new_client (number_of 0) (stamps m)) v.clients)))
+                (subst (By none_placed m unborn (client_of (suc m) (with_client (suc m) (new_client (number_of 0) (stamps m)) v.clients))) (sym e)
+                ((refl, refl), subst (IsSession cfg stamps logs transcripts fit service none_placed m 0 [] None) (sym (client_put (suc m) (new_client (number_of 0) (stamps m)) v.clients)) (greeted cfg stamps logs transcripts fit service none_placed m 0 [] e)))
+                (λ i below. subst (Followed none_placed i unborn) (sym (client_other (suc m) (suc i) (new_client (number_of 0) (stamps m)) v.clients (λ q. omega (arith, below, q)))) (g.past i below));
+            ahead = λ i above. client_other (suc m) (suc i) (new_client (number_of 0) (stamps m)) v.clients (λ q. omega (arith, above, q)) ∙ g.ahead i (omega (arith, above));
+          })
+
+  all_greeted : (m : ℕ) → AreGreeted m (run_of cfg (greets m))
+  all_greeted zero = record { nodes = at_first cfg logs transcripts fit service.openings; past = λ i below. absurd (omega (arith, below)); ahead = λ i above. refl }
+  all_greeted (suc m) =
+      subst (AreGreeted (suc m)) (sym (fold-append (happens cfg) _ (greets m) (greet m (slice_get real.scripts m)))) (greets_one m (run_of cfg (greets m)) (all_greeted m) (slice_get real.scripts m) refl)
+
+  begun : Follows cfg stamps logs transcripts fit service (opening real) (run_of cfg (greets (length transcripts)))
+  begun =
+      record {
+        nodes = g.nodes;
+        sessions = λ i. ⊎_elim (λ below. g.past i below) (λ above. subst (By none_placed i unborn (client_of (suc i) (run_of cfg (greets (length transcripts))).clients)) (sym (none i above)) (refl, refl)) (cases_lt i (length transcripts));
+      }
+    where
+      g : AreGreeted (length transcripts) (run_of cfg (greets (length transcripts)))
+      g = all_greeted (length transcripts)
+
+      none : (i : ℕ) → length transcripts ≤ i → slice_get real.scripts i ≡ None
+      none i above = slice_get-map script_of transcripts i ∙ ap (option_map script_of) (slice_get_past transcripts i above)
+
+  -- Where the order ends
+
+  -- the whole log
+  front_at : (n : ℕ) (log : NodeLog A) → slice_get logs n ≡ Some log → (k : ℕ) → k ≤ length log.inputs → state_at real n k ≡ Some (record { opening = log.opening; inputs = take k log.inputs })
+  front_at n log e zero most =
+      let its = fit.openings n log e in
+      ap (begun_at logs n) e ∙ rw (its.0, eq-eqb (place_of log.opening.me logs) n its.1) refl
+  front_at n log e (suc k) most =
+      let x = got_some log.inputs k most in
+      let comes : next real n k ≡ Some x.0 = ap (λ o. slice_get (inputs_in o) k) e ∙ x.1 in
+      ap (λ s. after_next real s (next real n k)) (front_at n log e k (omega (arith, most)))
+      ∙ ap (after_next real (Some (record { opening = log.opening; inputs = take k log.inputs }))) comes
+      ∙ ap (λ is. Some (record { opening = log.opening; inputs = is })) (sym (take_push log.inputs k x.0 x.1))
+
+  whole_at : (n : ℕ) (log : NodeLog A) → slice_get logs n ≡ Some log → state_at real n (length (real.logs n)) ≡ Some log
+  whole_at n log e =
+      ap (λ o. state_at real n (length (inputs_in o))) e ∙ front_at n log e (length log.inputs) (omega arith)
+      ∙ ap (λ is. Some (record { opening = log.opening; inputs = is })) (take_all (length log.inputs) log.inputs (omega arith))
+
+  its_script : (i : ℕ) (t : Transcript A) → slice_get transcripts i ≡ Some t → (t.greeting ≡ [] → ⊥) → slice_get real.scripts i ≡ Some (Some (turns_from 0 t.lines t.asked))
+  its_script i t e greeting =
+      slice_get-map script_of transcripts i ∙ ap (option_map script_of) e ∙ ap (λ s. Some s) (go t.greeting greeting)
+    where
+      go : (bytes : List ℕ) → (bytes ≡ [] → ⊥) → cond (is_empty bytes && (is_empty t.lines && is_empty t.asked)) None (Some (turns_from 0 t.lines t.asked)) ≡ Some (turns_from 0 t.lines t.asked)
+      go [] some = absurd (some refl)
+      go (byte ∷ bytes) some = refl
+
+  finished : (up : Type 0) (stamp : Stamp) (t : Transcript A) (left : Turns A) (awaits : Option (Awaited CommandId (Outcome A))) (c : Client A) → left ≡ [] → NothingAwaited real awaits → StandsAs cfg.accounts stamp t up left awaits c → IsDone cfg.accounts stamp t [] c
+  finished up stamp t left None c e nothing h =
+      ⊎_elim
+      (λ (g : Goes cfg.accounts stamp t up [] c). at_end cfg.accounts stamp t up c g)
+      (λ d. d)
+      (subst (λ u. StandsAs cfg.accounts stamp t up u None c) e h)
+  finished up stamp t left (Some y) c e nothing h =
+      subst (λ u. IsDone cfg.accounts stamp t u c) e (subst (StandsFor cfg.accounts stamp t up left y.key c) nothing h)
+
+  abbrev ItsClient : Service A → ℕ → Transcript A → Type 0
+  ItsClient v i t = (c : Client A) × (client_of (suc i) v.clients ≡ Some c) × IsClientOf cfg (stamps i) t c
+
+  found_client : (placed : ℕ → ℕ) (v : Service A) (i n : ℕ) (t : Transcript A) (left : Turns A) (awaits : Option (Awaited CommandId (Outcome A))) → slice_get transcripts i ≡ Some t → left ≡ [] → NothingAwaited real awaits
+      → IsSession cfg stamps logs transcripts fit service placed i n left awaits (client_of (suc i) v.clients) → ItsClient v i t
+  found_client placed v i n t left awaits its e nothing x =
+      let some : Some x.transcript ≡ Some t = sym x.its ∙ its in
+      let same : x.transcript ≡ t = cc in
+      let d = finished (runs (state_at real n (placed n)) ≡ true) (stamps i) x.transcript left awaits x.client e nothing x.stands in
+      (x.client, x.there, subst (λ u. IsClientOf cfg (stamps i) u x.client) same (record { greeted = x.greeted; lines = d.its_lines; tickets = d.its_tickets; replies = d.its_replies }))
+
+  its_client : (w : OrderWorld A) (v : Service A) → Follows cfg stamps logs transcripts fit service w v → (i : ℕ) (t : Transcript A) → slice_get transcripts i ≡ Some t → (turns : Turns A) → slice_get real.scripts i ≡ Some (Some turns)
+      → SessionEnds real (Some (Some turns)) (w.sessions i) → ItsClient v i t
+  its_client w v f i t its [] script ends =
+      let h : By w.placed i (w.sessions i) (client_of (suc i) v.clients) (Some (Some [])) = subst (By w.placed i (w.sessions i) (client_of (suc i) v.clients)) script (f.sessions i) in
+      found_client w.placed v i 0 t [] None its refl tt h.1
+  its_client w v f i t its (turn ∷ turns) script ends =
+      go (w.sessions i).node (subst (By w.placed i (w.sessions i) (client_of (suc i) v.clients)) script (f.sessions i))
+    where
+      go : (node : Option ℕ) → AtNode cfg stamps logs transcripts fit service w.placed i (w.sessions i) (client_of (suc i) v.clients) node → ItsClient v i t
+      go None h = let no : [] ≡ turn ∷ turns = sym h.1 ∙ ends.0 in absurd (cc)
+      go (Some n) h = found_client w.placed v i n t (w.sessions i).left (w.sessions i).awaits its ends.1 ends.2 h
+
+  at_the_end : (w : OrderWorld A) (v : Service A) → Follows cfg stamps logs transcripts fit service w v → Ends real w → IsRunOf cfg stamps logs transcripts v
+  at_the_end w v f ends = record {
+    nodes = λ n log e.
+        ap (λ o. log_of (number_in o) v.network.logs) (sym e) ∙ f.nodes.nodes n ∙ ap (state_at real n) (ends.0 n) ∙ whole_at n log e;
+    others = λ number log none e. sym (ap (λ (l : NodeLog A). l.inputs) (new_log_of (opening_of cfg) cfg.cluster number log (sym (f.nodes.others number none) ∙ e)));
+    clients = λ i t e greeting.
+        let script = its_script i t e greeting in
+        its_client w v f i t e (turns_from 0 t.lines t.asked) script (subst (λ s. SessionEnds real s (w.sessions i)) script (ends.1 i));
+  }
+
+  pub order_run : (events : List Event) → IsLegalOrder real events → (happenings : List (Happening A)) × IsRunOf cfg stamps logs transcripts (run_of cfg happenings)
+  order_run events legal =
+      let first = greets (length transcripts) in
+      let run = steps cfg stamps logs transcripts fit service events (opening real) legal.1.0 (run_of cfg (greets (length transcripts))) begun legal.1.1 in
+      (greets (length transcripts) ++ run.0, subst (IsRunOf cfg stamps logs transcripts) (sym (fold-append (happens cfg) _ (greets (length transcripts)) run.0)) (at_the_end legal.1.0 _ run.1 legal.1.2))
+
+module _ {A : Type 0} (cfg : Config A) (stamps : ℕ → Stamp) (logs : List (NodeLog A)) (transcripts : List (Transcript A)) (happenings : List (Happening A)) where
+  its_lines : (t : Transcript A) (lines : List Line) → AreItsLines t lines → IsPrefix lines t.lines
+  its_lines t lines h =
+      ⊎_elim
+      (λ e. ([], append-nil lines ∙ sym e))
+      (λ x. (x.0 ∷ [], sym x.1))
+      h
+
+  pub bytes_alone : IsRunOf cfg stamps logs transcripts (run_of cfg happenings) → (i : ℕ) (t : Transcript A) (written : List ℕ) → slice_get transcripts i ≡ Some t → (t.greeting ≡ [] → ⊥) → AreCounted cfg (stamps i) t written
+      → (c : Client A) × (client_of (suc i) (run_of cfg happenings).clients ≡ Some c) × AreSaidAlone cfg (run_of cfg happenings) c t written
+  bytes_alone run i t written its greeting counted =
+      let c = run.clients i t its greeting in
+      (c.0, c.1, λ user is_user.
+      prefix_on written c.0.replies (alone_bytes cfg c.0 user t.lines (line_tickets t.asked) (own_commands cfg (run_of cfg happenings) user))
+      (prefix_on written (concat (told cfg.accounts (stamps i) t).replies) c.0.replies (front_written t.end (told cfg.accounts (stamps i) t).replies written counted.said) c.2.replies)
+      (every_projected cfg happenings (suc i) c.0 c.1 user t.lines (line_tickets t.asked) (own_commands cfg (run_of cfg happenings) user) is_user
+      (its_lines t c.0.lines c.2.lines) ([], append-nil c.0.tickets ∙ c.2.tickets) (all_of (own_commands cfg (run_of cfg happenings) user))))

@@ -1,0 +1,74 @@
+-- Runs of a service, and the logs and transcripts that they leave.
+use mathlib.Core.Logic.{◌⊎◌}
+use Rattle.std.specs.Prelude.{◌≡◌, ℕ, suc, length, List, [], ◌∷◌, ◌++◌, Option, Some, None, slice_get}
+use Rattle.std.specs.List.{concat}
+use Rattle.apop.specs.Stamp.{Stamp}
+use Rattle.maildrop.specs.Ticket.{Ticket}
+use Rattle.pop3_wire.specs.declared.line.Line.{Line}
+use Rattle.node.specs.declared.log.NodeLog.{NodeLog}
+use Rattle.node.specs.declared.log.Opening.{Opening}
+use Rattle.session.specs.Prefix.{IsPrefix}
+use Rattle.session.specs.Serve.{IsTranscript, IsWrittenBy, told}
+use Rattle.session.specs.declared.transcript.Asked.{Asked}
+use Rattle.session.specs.declared.transcript.Transcript.{Transcript}
+use Rattle.world.specs.Clients.{Client, client_of}
+use Rattle.world.specs.Messages.{log_of}
+use Rattle.world.specs.Projection.{IsUserOf, own_commands, alone_bytes}
+use Rattle.world.specs.Services.{Service, opening_of}
+use Rattle.world.specs.declared.config.Config.{Config}
+use Rattle.audit.specs.Records.{place_of}
+
+-- the ticket of what a line asked
+abbrev pub line_ticket : Option ℕ → Option Ticket → List Ticket
+line_ticket (Some line) (Some ticket) = ticket ∷ []
+line_ticket line ticket = []
+
+module _ {A : Type 0} where
+  -- what the node of a number begins with
+  abbrev pub opening_at : Config A → ℕ → Opening A
+  opening_at cfg number = record (opening_of cfg) { me = number }
+
+  -- These are logs and transcripts of a service: each node began as the service's nodes do, and session i, behind the
+  -- greeting of its timestamp, was served over the service's accounts.
+  pub record AreOfService (cfg : Config A) (stamps : ℕ → Stamp) (logs : List (NodeLog A)) (transcripts : List (Transcript A)) : Type 0 where
+    pub openings : (n : ℕ) (log : NodeLog A) → slice_get logs n ≡ Some log → log.opening ≡ opening_at cfg log.opening.me
+    pub served : (i : ℕ) (t : Transcript A) → slice_get transcripts i ≡ Some t → IsTranscript cfg.accounts (stamps i) t
+
+  abbrev pub line_tickets : List (Asked A) → List Ticket
+  line_tickets [] = []
+  line_tickets (entry ∷ entries) = line_ticket entry.line entry.ticket ++ line_tickets entries
+
+  -- the last of the entries got no ticket: its node had stopped
+  pub record EndsWithoutTicket (entries : List (Asked A)) : Type 0 where
+    pub front : List (Asked A)
+    pub last : Asked A
+    pub in_order : entries ≡ front ++ last ∷ []
+    pub no_ticket : last.ticket ≡ None
+
+  -- the transcript's lines, but for a last one whose operation got no ticket
+  abbrev pub AreItsLines : Transcript A → List Line → Type 0
+  AreItsLines t lines = (t.lines ≡ lines) ⊎ ((last : Line) × (t.lines ≡ lines ++ last ∷ []) × EndsWithoutTicket t.asked)
+
+  -- The client said what the transcript tells, and was told all that it tells, and perhaps more.
+  pub record IsClientOf (cfg : Config A) (stamp : Stamp) (t : Transcript A) (c : Client A) : Type 0 where
+    pub greeted : c.stamp ≡ stamp
+    pub lines : AreItsLines t c.lines
+    pub tickets : c.tickets ≡ line_tickets t.asked
+    pub replies : IsPrefix (concat (told cfg.accounts stamp t).replies) c.replies
+
+  -- What came of a run is what these logs and transcripts tell: its nodes took the inputs of their logs, those without a
+  -- log took none, and session i, if it began, was that of client i + 1.
+  pub record IsRunOf (cfg : Config A) (stamps : ℕ → Stamp) (logs : List (NodeLog A)) (transcripts : List (Transcript A)) (w : Service A) : Type 0 where
+    pub nodes : (n : ℕ) (log : NodeLog A) → slice_get logs n ≡ Some log → log_of log.opening.me w.network.logs ≡ Some log
+    pub others : (number : ℕ) (log : NodeLog A) → place_of number logs ≡ length logs → log_of number w.network.logs ≡ Some log → log.inputs ≡ []
+    pub clients : (i : ℕ) (t : Transcript A) → slice_get transcripts i ≡ Some t → (t.greeting ≡ [] → ⊥) → (c : Client A) × (client_of (suc i) w.clients ≡ Some c) × IsClientOf cfg (stamps i) t c
+
+  -- of a session with this transcript these bytes were written, and counted
+  pub record AreCounted (cfg : Config A) (stamp : Stamp) (t : Transcript A) (written : List ℕ) : Type 0 where
+    pub count : t.count ≡ length written
+    pub said : IsWrittenBy t.end (told cfg.accounts stamp t).replies written
+
+  -- They are a prefix of what a server says that has the user's maildrop alone: to the session's greeting and lines,
+  -- where what its lines asked has its tickets, taking the user's decided commands in order, each once.
+  abbrev pub AreSaidAlone : Config A → Service A → Client A → Transcript A → List ℕ → Type 0
+  AreSaidAlone cfg w c t written = (user : List ℕ) → IsUserOf cfg c user → IsPrefix written (alone_bytes cfg c user t.lines (line_tickets t.asked) (own_commands cfg w user))
