@@ -1,22 +1,19 @@
 -- What is left of a session that was served: its next turn, and what the session says of it.
-use Rattle.std.proofs.Common.{◌≡◌, ◌⊎◌, ℕ, zero, suc, ◌+◌, ◌<◌, ◌≤◌, length, take, List, [], ◌∷◌, ◌++◌, Bool, true, false, Option, Some, None, refl, sym, ap, ◌∙◌, subst, inl, inr, ⊎_elim, cond, arith}
-use Rattle.std.specs.Prelude.{⊤, ◌==◌}
+use Rattle.std.proofs.Common.{◌≡◌, ◌⊎◌, ℕ, suc, ◌+◌, ◌<◌, ◌≤◌, length, take, List, [], ◌∷◌, ◌++◌, Bool, true, false, Option, Some, None, refl, sym, ap, ◌∙◌, subst, inl, inr, ⊎_elim, cond, arith}
+use Rattle.std.specs.Prelude.{⊤}
 use Rattle.std.proofs.lemmas.Bool.{eq-eqb, ne_eqb, true≢false}
-use Rattle.std.proofs.lemmas.List.{append-nil}
 use Rattle.apop.specs.Stamp.{Stamp}
 use Rattle.apop.specs.Accounts.{Account}
-use Rattle.maildrop.specs.CommandId.{CommandId}
 use Rattle.maildrop.specs.Ticket.{Ticket}
 use Rattle.maildrop.specs.declared.op.Op.{Op}
 use Rattle.maildrop.specs.declared.op.Op.TheVariants.{Free}
 use Rattle.maildrop.specs.declared.outcome.Outcome.{Outcome}
-use Rattle.node.specs.declared.input.Input.{Input}
 use Rattle.node.specs.declared.input.Input.TheVariants.{Submit}
 use Rattle.pop3_wire.specs.declared.line.Line.{Line}
 use Rattle.session.specs.Calls.{said_by}
 use Rattle.session.specs.Conversation.{Answer, Request, Rest, Conversation, silence, with_reply, with_request, after_said, after_answer, after_asked, after_line, conversation_from}
 use Rattle.session.specs.Dialogue.{IsSettled}
-use Rattle.session.specs.Serve.{EndsUnanswered, AreAnsweredAt, IsFreed}
+use Rattle.session.specs.Serve.{AreAnsweredAt, IsFreed}
 use Rattle.session.specs.Session.{hears, awaits_answer, lock_due, free_of, by_line, by_answer}
 use Rattle.session.specs.Transcript.{answer_by, answers_of, request_by, requests_of, IsAnsweredEntry, AreAnswered}
 use Rattle.session.specs.declared.state.State.{State}
@@ -30,7 +27,7 @@ use Rattle.session.specs.declared.transcript.End.TheVariants as end
 use Rattle.session.proofs.Settled.{IsAnswering, line_settles, answer_settles, heard_awaits, awaiting}
 use Rattle.audit.specs.Case.{Plain, Asks}
 use Rattle.audit.specs.Runs.{line_ticket, line_tickets, EndsWithoutTicket}
-use Rattle.audit.specs.Turns.{Turns, is_of_line, asks_by, asks, hangups, turn_of, turns_from}
+use Rattle.audit.specs.Turns.{Turns, is_of_line, asks, turn_of, turns_from}
 
 module _ {A : Type 0} where
   -- the turns that are left

@@ -15,11 +15,11 @@ use Rattle.node.specs.declared.input.Input.TheVariants.{Submit}
 use Rattle.pop3_wire.specs.declared.line.Line.{Line}
 use Rattle.pop3_wire.specs.Reply as reply
 use Rattle.session.specs.Calls.{said_by}
-use Rattle.session.specs.Conversation.{Answer, conversation_from}
+use Rattle.session.specs.Conversation.{conversation_from}
 use Rattle.session.specs.Dialogue.{IsSettled}
 use Rattle.session.specs.Prefix.{IsPrefix}
-use Rattle.session.specs.Serve.{IsTranscript, IsFreed, nothing, told as told_by}
-use Rattle.session.specs.Session.{opening, hears, awaits_answer, lock_due, free_of, by_line, by_answer}
+use Rattle.session.specs.Serve.{IsTranscript, IsFreed, told as told_by}
+use Rattle.session.specs.Session.{opening, hears, lock_due, free_of, by_line, by_answer}
 use Rattle.session.specs.Transcript.{answers_of}
 use Rattle.session.specs.declared.state.State.{State}
 use Rattle.session.specs.declared.state.State.TheVariants.{Closed}
@@ -30,12 +30,12 @@ use Rattle.session.specs.declared.transcript.Asked.{Asked}
 use Rattle.session.specs.declared.transcript.Transcript.{Transcript}
 use Rattle.session.proofs.Parts.{answers_append}
 use Rattle.session.proofs.Settled.{line_settles, answer_settles}
-use Rattle.world.specs.Clients.{Standing, Hears, Waits, Shut, Stranded, Over, Client, new_client, standing_as, told, with_line, asking}
+use Rattle.world.specs.Clients.{Standing, Hears, Waits, Over, Client, new_client, standing_as, told, with_line, asking}
 use Rattle.world.specs.Services.{after_answer, by_turn}
-use Rattle.world.proofs.Prefixes.{all_of, prefix_on, front_of}
+use Rattle.world.proofs.Prefixes.{prefix_on, front_of}
 use Rattle.audit.specs.Case.{Plain, Asks}
 use Rattle.audit.specs.Order.{Awaited}
-use Rattle.audit.specs.Runs.{line_tickets, line_ticket, EndsWithoutTicket, AreItsLines, IsClientOf}
+use Rattle.audit.specs.Runs.{line_tickets, line_ticket, EndsWithoutTicket, AreItsLines}
 use Rattle.audit.specs.Turns.{Turns, turns_from, is_blank, script_of}
 use Rattle.audit.proofs.Rests as rests
 use Rattle.audit.proofs.Rests.{turns_left, asks_then, talks, replies_left, IsRest, Next, IsOver, Frees, Says, AsksLast, AsksOn, next, asked_at, freed_answers, freed_tickets}

@@ -1,5 +1,5 @@
 -- The nodes of a run, beside the logs that an order uses up.
-use Rattle.std.proofs.Common.{◌≡◌, ◌⊎◌, ℕ, zero, suc, ◌+◌, ◌-◌, ◌<◌, ◌≤◌, length, List, [], ◌∷◌, ◌++◌, Bool, true, false, Option, Some, None, refl, sym, ap, ◌∙◌, subst, inl, inr, ⊎_elim, cond, arith, set, map}
+use Rattle.std.proofs.Common.{◌≡◌, ℕ, zero, suc, ◌+◌, ◌-◌, ◌<◌, ◌≤◌, length, List, [], ◌∷◌, ◌++◌, Bool, true, false, Option, Some, None, refl, sym, ap, ◌∙◌, subst, cond, arith, set}
 use Rattle.std.specs.Prelude.{slice_get, option_map, not, nat_lt, nat_le, ◌&&◌, ◌||◌, ◌==◌}
 use Rattle.std.specs.List.{list_any}
 use Rattle.std.proofs.lemmas.Bool.{eqb-true, eq-eqb, and_parts, or_right, true≢false, leb-true}
@@ -23,7 +23,7 @@ use Rattle.world.specs.declared.sent.Sent.{Sent}
 use Rattle.world.proofs.Logs.{log_same, log_other, arrival_alike, envelopes_more}
 use Rattle.audit.specs.Case.{next, after_next, state_at}
 use Rattle.audit.specs.Placing.{put}
-use Rattle.audit.specs.Records.{is_fit, place_of, inputs_in, number_in, begun_at, RealCase, case_of, AreFit}
+use Rattle.audit.specs.Records.{is_fit, place_of, number_in, begun_at, RealCase, case_of, AreFit}
 use Rattle.audit.specs.Replays.{Replay, after, sends, runs, brought}
 use Rattle.audit.specs.Runs.{opening_at}
 use Rattle.audit.proofs.Walk.{put_apart}

@@ -1,6 +1,6 @@
 -- A legal order is a run.
-use Rattle.std.proofs.Common.{◌≡◌, ◌⊎◌, ℕ, zero, suc, ◌+◌, ◌<◌, ◌≤◌, length, take, List, [], ◌∷◌, ◌++◌, Bool, true, false, Option, Some, None, refl, sym, ap, ◌∙◌, subst, inl, inr, ⊎_elim, cond, arith}
-use Rattle.std.specs.Prelude.{slice_get, option_map, ◌==◌, ◌&&◌, fold}
+use Rattle.std.proofs.Common.{◌≡◌, ℕ, zero, suc, ◌<◌, ◌≤◌, length, take, List, [], ◌∷◌, ◌++◌, true, Option, Some, None, refl, sym, ap, ◌∙◌, subst, ⊎_elim, cond, arith}
+use Rattle.std.specs.Prelude.{slice_get, option_map, ◌&&◌, fold}
 use Rattle.std.specs.List.{concat}
 use Rattle.std.proofs.lemmas.Bool.{eq-eqb, cases_eq, cases_lt}
 use Rattle.std.proofs.lemmas.List.{append-nil, take_all}
@@ -9,7 +9,6 @@ use Rattle.std.proofs.lemmas.Option.{slice_get-map, slice_get_past}
 use Rattle.apop.specs.Stamp.{Stamp}
 use Rattle.maildrop.specs.CommandId.{CommandId}
 use Rattle.maildrop.specs.declared.outcome.Outcome.{Outcome}
-use Rattle.node.specs.declared.input.Input.{Input}
 use Rattle.node.specs.declared.log.NodeLog.{NodeLog}
 use Rattle.pop3_wire.specs.declared.line.Line.{Line}
 use Rattle.session.specs.Prefix.{IsPrefix}
@@ -20,7 +19,7 @@ use Rattle.session.specs.declared.transcript.Transcript.{Transcript}
 use Rattle.session.proofs.Runs.{prefix_behind}
 use Rattle.world.specs.Clients.{Client, new_client, client_of, with_client}
 use Rattle.world.specs.Messages.{log_of}
-use Rattle.world.specs.Projection.{IsUserOf, own_commands, alone_bytes}
+use Rattle.world.specs.Projection.{own_commands, alone_bytes}
 use Rattle.world.specs.Services.{Service, Happening, Occurs, opening_of, happens, run_of}
 use Rattle.world.specs.declared.config.Config.{Config}
 use Rattle.world.specs.declared.event.Event.TheVariants as happening
@@ -28,16 +27,16 @@ use Rattle.world.proofs.Logs.{new_log_of}
 use Rattle.world.proofs.Prefixes.{all_of, prefix_on, concat_append}
 use Rattle.world.proofs.Projected.{every_projected}
 use Rattle.audit.specs.Case.{next, after_next, state_at}
-use Rattle.audit.specs.Order.{Awaited, Session, World, Ends, NothingAwaited, SessionEnds, IsLegalOrder, opening}
-use Rattle.audit.specs.Records.{is_fit, place_of, inputs_in, number_in, begun_at, RealCase, case_of, AreFit}
-use Rattle.audit.specs.Replays.{Replay, runs}
-use Rattle.audit.specs.Runs.{AreOfService, AreItsLines, EndsWithoutTicket, IsClientOf, IsRunOf, AreCounted, AreSaidAlone, line_tickets}
-use Rattle.audit.specs.Turns.{Turns, turns_from, is_empty, is_blank, script_of}
+use Rattle.audit.specs.Order.{Awaited, Ends, NothingAwaited, SessionEnds, IsLegalOrder, opening}
+use Rattle.audit.specs.Records.{place_of, inputs_in, number_in, begun_at, RealCase, case_of, AreFit}
+use Rattle.audit.specs.Replays.{runs}
+use Rattle.audit.specs.Runs.{AreOfService, AreItsLines, IsClientOf, IsRunOf, AreCounted, AreSaidAlone, line_tickets}
+use Rattle.audit.specs.Turns.{Turns, turns_from, is_empty, script_of}
 use Rattle.audit.specs.declared.event.Event.{Event}
 use Rattle.audit.proofs.RunClients.{Goes, IsDone, StandsFor, StandsAs, at_end}
 use Rattle.audit.proofs.RunHappenings.{client_put, client_other, connects_new}
 use Rattle.audit.proofs.RunNodes.{AreAt, at_first}
-use Rattle.audit.proofs.RunSteps.{OrderSession, OrderWorld, IsSession, IsIdle, AtNode, ByScript, IsFollowed, Follows, steps, greeted}
+use Rattle.audit.proofs.RunSteps.{OrderSession, OrderWorld, IsSession, AtNode, ByScript, IsFollowed, Follows, steps, greeted}
 
 -- lists
 got_some : {X : Type 0} (xs : List X) (k : ℕ) → k < length xs → (x : X) × (slice_get xs k ≡ Some x)
@@ -247,9 +246,12 @@ module _ {A : Type 0} (cfg : Config A) (stamps : ℕ → Stamp) (logs : List (No
   pub bytes_alone : IsRunOf cfg stamps logs transcripts (run_of cfg happenings) → (i : ℕ) (t : Transcript A) (written : List ℕ) → slice_get transcripts i ≡ Some t → (t.greeting ≡ [] → ⊥) → AreCounted cfg (stamps i) t written
       → (c : Client A) × (client_of (suc i) (run_of cfg happenings).clients ≡ Some c) × AreSaidAlone cfg (run_of cfg happenings) c t written
   bytes_alone run i t written its greeting counted =
-      let c = run.clients i t its greeting in
-      (c.0, c.1, λ user is_user.
-      prefix_on written c.0.replies (alone_bytes cfg c.0 user t.lines (line_tickets t.asked) (own_commands cfg (run_of cfg happenings) user))
-      (prefix_on written (concat (told cfg.accounts (stamps i) t).replies) c.0.replies (front_written t.end (told cfg.accounts (stamps i) t).replies written counted.said) c.2.replies)
-      (every_projected cfg happenings (suc i) c.0 c.1 user t.lines (line_tickets t.asked) (own_commands cfg (run_of cfg happenings) user) is_user
-      (its_lines t c.0.lines c.2.lines) ([], append-nil c.0.tickets ∙ c.2.tickets) (all_of (own_commands cfg (run_of cfg happenings) user))))
+      let c = run.clients i t its greeting in (
+        c.0,
+        c.1,
+        λ user is_user.
+            prefix_on written c.0.replies (alone_bytes cfg c.0 user t.lines (line_tickets t.asked) (own_commands cfg (run_of cfg happenings) user))
+            (prefix_on written (concat (told cfg.accounts (stamps i) t).replies) c.0.replies (front_written t.end (told cfg.accounts (stamps i) t).replies written counted.said) c.2.replies)
+            (every_projected cfg happenings (suc i) c.0 c.1 user t.lines (line_tickets t.asked) (own_commands cfg (run_of cfg happenings) user) is_user
+            (its_lines t c.0.lines c.2.lines) ([], append-nil c.0.tickets ∙ c.2.tickets) (all_of (own_commands cfg (run_of cfg happenings) user))),
+      )

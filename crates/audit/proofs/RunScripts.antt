@@ -1,5 +1,5 @@
 -- The turns of a session that was served are a script.
-use Rattle.std.proofs.Common.{◌≡◌, ◌⊎◌, ℕ, ◌+◌, List, [], ◌∷◌, ◌++◌, true, Option, Some, None, refl, sym, ap, ◌∙◌, subst}
+use Rattle.std.proofs.Common.{◌≡◌, ℕ, ◌+◌, List, [], ◌∷◌, true, Option, Some, None, refl, sym, subst}
 use Rattle.std.specs.Prelude.{slice_get}
 use Rattle.apop.specs.Stamp.{Stamp}
 use Rattle.apop.specs.Accounts.{Account}
@@ -16,8 +16,7 @@ use Rattle.session.specs.declared.state.Step.TheVariants.{Ask}
 use Rattle.session.specs.declared.transcript.Asked.{Asked}
 use Rattle.session.specs.declared.transcript.Transcript.{Transcript}
 use Rattle.world.proofs.Fitting.{Fits, StepFits, line_fits}
-use Rattle.audit.specs.Case.{Plain, Asks}
-use Rattle.audit.specs.Records.{RealCase, case_of}
+use Rattle.audit.specs.Records.{case_of}
 use Rattle.audit.specs.Replays.{is_of_lock}
 use Rattle.audit.specs.Turns.{Turns}
 use Rattle.audit.specs.Wrong.{IsScript}

@@ -1,12 +1,11 @@
 -- Each event of a legal order happens in a run.
-use Rattle.std.proofs.Common.{◌≡◌, ◌⊎◌, ℕ, suc, List, [], ◌∷◌, ◌++◌, Bool, true, false, Option, Some, None, refl, sym, ap, ◌∙◌, subst, inl, inr, ⊎_elim, cond, arith, map}
+use Rattle.std.proofs.Common.{◌≡◌, ℕ, suc, List, [], ◌∷◌, ◌++◌, Bool, true, false, Option, Some, None, refl, sym, ap, ◌∙◌, subst, inl, inr, ⊎_elim, cond, arith, map}
 use Rattle.std.specs.Prelude.{slice_get, option_map, ◌==◌, fold}
 use Rattle.std.proofs.lemmas.Bool.{eqb-true, true≢false}
 use Rattle.std.proofs.lemmas.Option.{slice_get-map}
 use Rattle.apop.specs.Stamp.{Stamp}
 use Rattle.ballot.specs.declared.message.Envelope.{Envelope}
 use Rattle.maildrop.specs.CommandId.{CommandId}
-use Rattle.maildrop.specs.Ticket.{Ticket}
 use Rattle.maildrop.specs.declared.command.Command.{Command}
 use Rattle.maildrop.specs.declared.op.Op.{Op}
 use Rattle.maildrop.specs.declared.op.Op.TheVariants.{Mail, Take, Commit, Free, Break}
@@ -22,9 +21,9 @@ use Rattle.session.specs.declared.state.Step.{Step}
 use Rattle.session.specs.declared.state.Step.TheVariants.{Say, Ask, SayAndClose}
 use Rattle.session.specs.declared.state.Turn.{Turn}
 use Rattle.session.specs.declared.transcript.Transcript.{Transcript}
-use Rattle.world.specs.Clients.{Hears, Waits, Over, Client, new_client, standing_as, told, with_line, asking, stranded, client_of, with_client, without_node, all_without_node}
-use Rattle.world.specs.Messages.{Network, Submits, log_of, is_up, takes}
-use Rattle.world.specs.Services.{Service, Happening, Occurs, at_nodes, keeps, submits, next_id, after_answer, by_turn, crashes, occurs, happens}
+use Rattle.world.specs.Clients.{Hears, Waits, Over, Client, new_client, standing_as, told, with_line, asking, stranded, client_of, with_client, all_without_node}
+use Rattle.world.specs.Messages.{Network, log_of, is_up, takes}
+use Rattle.world.specs.Services.{Service, Happening, Occurs, keeps, submits, next_id, after_answer, by_turn, occurs, happens}
 use Rattle.world.specs.declared.config.Config.{Config}
 use Rattle.world.specs.declared.event.Event.TheVariants as happening
 use Rattle.audit.specs.Case.{Plain, Asks, next, state_at, asked}
@@ -32,14 +31,14 @@ use Rattle.audit.specs.Order.{Awaited, Session, World, Agrees, Happens, Leads, o
 use Rattle.audit.specs.Order as order
 use Rattle.audit.specs.Placing.{put}
 use Rattle.audit.specs.Records.{place_of, number_in, RealCase, case_of, AreFit}
-use Rattle.audit.specs.Replays.{Replay, sends, runs, key_of, answer, brought, is_of_lock, locks}
+use Rattle.audit.specs.Replays.{Replay, sends, runs, key_of, answer, brought, is_of_lock}
 use Rattle.audit.specs.Runs.{AreOfService}
 use Rattle.audit.specs.Turns.{Turns, script_of}
 use Rattle.audit.specs.declared.event.Event.{Event}
 use Rattle.audit.specs.declared.event.Event.TheVariants as event
-use Rattle.audit.proofs.RunClients.{Goes, AwaitsIt, IsDone, StandsFor, StandsAs, SaysLine, AsksLine, HangsUp, stands_later, stands_down, says_line, asks_line, hangs_up, takes_it, takes_more, begins}
+use Rattle.audit.proofs.RunClients.{Goes, AwaitsIt, IsDone, StandsFor, StandsAs, SaysLine, AsksLine, stands_later, stands_down, says_line, asks_line, hangs_up, takes_it, takes_more, begins}
 use Rattle.audit.proofs.RunHappenings.{client_put, client_other, client_without, none_without, connects_new, connects_again, crashes_up, line_says, line_closes, line_asks, hangup_frees, answer_taken, Collected, Unchanged, Took, collected}
-use Rattle.audit.proofs.RunNodes.{AreAt, one_more, takes_at, arrives_at, is_there, same_place, up_before, down_after}
+use Rattle.audit.proofs.RunNodes.{AreAt, takes_at, arrives_at, same_place, up_before, down_after}
 use Rattle.audit.proofs.Walk.{put_apart}
 
 -- what is left of a legal order so far
@@ -260,10 +259,12 @@ module _ {A : Type 0} (cfg : Config A) (stamps : ℕ → Stamp) (logs : List (No
 
         said : Goes cfg.accounts (stamps i) b.session.transcript (Up w.placed n) (Plain l ∷ ts) b.session.client
             → Then (record { placed = w.placed; sent = w.sent; sessions = put w.sessions i (record { node = Some n; done = (w.sessions i).done ++ Plain l ∷ []; left = ts; awaits = None }) }) v
-        said goes =
-            (Occurs (happening.Line (suc i) l), subst (Follows _) (sym happened) (one_session w.placed w.sent v.network i n _ later f.nodes (λ n h. h)
-            (b.again w.placed (record { node = Some n; done = (w.sessions i).done ++ Plain l ∷ []; left = ts; awaits = None }) (Some later) refl
-            (record { client = later; there = refl; transcript = b.session.transcript; its = b.session.its; node = b.session.node; greeted = b.session.greeted; stands = inl r.goes }))))
+        said goes = (
+          Occurs (happening.Line (suc i) l),
+          subst (Follows _) (sym happened) (one_session w.placed w.sent v.network i n _ later f.nodes (λ n h. h)
+              (b.again w.placed (record { node = Some n; done = (w.sessions i).done ++ Plain l ∷ []; left = ts; awaits = None }) (Some later) refl
+              (record { client = later; there = refl; transcript = b.session.transcript; its = b.session.its; node = b.session.node; greeted = b.session.greeted; stands = inl r.goes }))),
+        )
           where
             r : SaysLine cfg.accounts (stamps i) b.session.transcript (Up w.placed n) l ts b.session.client
             r = says_line cfg.accounts (stamps i) b.session.transcript (Up w.placed n) (Up w.placed n) l ts b.session.client up goes
@@ -326,12 +327,14 @@ module _ {A : Type 0} (cfg : Config A) (stamps : ℕ → Stamp) (logs : List (No
         its_log = ap (λ k. log_of k v.network.logs) b.session.node ∙ g.its_log
 
         asks : Goes cfg.accounts (stamps i) b.session.transcript (Up w.placed n) (Asks (Some l) x k o ∷ ts) b.session.client → Then (asked_world i n (Some l) x k o ts) v
-        asks goes =
-            (Occurs (happening.Line (suc i) l), subst (Follows (asked_world i n (Some l) x k o ts)) (sym happened)
-            (one_session (more w.placed n) (w.sent ++ sends (state_at real n (w.placed n)) x) (takes v.network later.node (Submit r.user r.op)) i n _ later
-            (submitted_at n x comes up later.node b.session.node r.user r.op r.input) (before n x comes)
-            (b.again (more w.placed n) (record { node = Some n; done = (w.sessions i).done ++ Asks (Some l) x k o ∷ []; left = ts; awaits = Some (record { key = k; outcome = o }) }) (Some later) refl
-            (record { client = later; there = refl; transcript = b.session.transcript; its = b.session.its; node = b.session.node; greeted = b.session.greeted; stands = r.stands }))))
+        asks goes = (
+          Occurs (happening.Line (suc i) l),
+          subst (Follows (asked_world i n (Some l) x k o ts)) (sym happened)
+              (one_session (more w.placed n) (w.sent ++ sends (state_at real n (w.placed n)) x) (takes v.network later.node (Submit r.user r.op)) i n _ later
+              (submitted_at n x comes up later.node b.session.node r.user r.op r.input) (before n x comes)
+              (b.again (more w.placed n) (record { node = Some n; done = (w.sessions i).done ++ Asks (Some l) x k o ∷ []; left = ts; awaits = Some (record { key = k; outcome = o }) }) (Some later) refl
+              (record { client = later; there = refl; transcript = b.session.transcript; its = b.session.its; node = b.session.node; greeted = b.session.greeted; stands = r.stands }))),
+        )
           where
             r : AsksLine cfg.accounts (stamps i) b.session.transcript (Up (more w.placed n) n) l x k o ts b.session.client
             r = asks_line cfg.accounts (stamps i) b.session.transcript (Up w.placed n) (Up (more w.placed n) n) l x k o ts b.session.client up goes
@@ -367,12 +370,14 @@ module _ {A : Type 0} (cfg : Config A) (stamps : ℕ → Stamp) (logs : List (No
 
         frees : Goes cfg.accounts (stamps i) b.session.transcript (Up w.placed n) (Asks None x k o ∷ ts) b.session.client → Then (asked_world i n None x k o ts) v
         frees goes =
-            let r = hangs_up cfg.accounts (stamps i) b.session.transcript (Up w.placed n) (Up (more w.placed n) n) x k o ts b.session.client up goes in
-            (Occurs (happening.Hangup (suc i)), subst (Follows (asked_world i n None x k o ts)) (sym (hangup_frees cfg v (suc i) b.session.client g.log b.session.there its_log g.up r.state r.user r.lock r.hearing r.due))
-            (one_session (more w.placed n) (w.sent ++ sends (state_at real n (w.placed n)) x) (takes v.network b.session.client.node (Submit r.user (Free r.lock))) i n _ (standing_as b.session.client Over)
-            (submitted_at n x comes up b.session.client.node b.session.node r.user (Free r.lock) r.input) (before n x comes)
-            (b.again (more w.placed n) (record { node = Some n; done = (w.sessions i).done ++ Asks None x k o ∷ []; left = ts; awaits = Some (record { key = k; outcome = o }) }) (Some (standing_as b.session.client Over)) refl
-            (record { client = standing_as b.session.client Over; there = refl; transcript = b.session.transcript; its = b.session.its; node = b.session.node; greeted = b.session.greeted; stands = r.stands }))))
+            let r = hangs_up cfg.accounts (stamps i) b.session.transcript (Up w.placed n) (Up (more w.placed n) n) x k o ts b.session.client up goes in (
+              Occurs (happening.Hangup (suc i)),
+              subst (Follows (asked_world i n None x k o ts)) (sym (hangup_frees cfg v (suc i) b.session.client g.log b.session.there its_log g.up r.state r.user r.lock r.hearing r.due))
+                  (one_session (more w.placed n) (w.sent ++ sends (state_at real n (w.placed n)) x) (takes v.network b.session.client.node (Submit r.user (Free r.lock))) i n _ (standing_as b.session.client Over)
+                  (submitted_at n x comes up b.session.client.node b.session.node r.user (Free r.lock) r.input) (before n x comes)
+                  (b.again (more w.placed n) (record { node = Some n; done = (w.sessions i).done ++ Asks None x k o ∷ []; left = ts; awaits = Some (record { key = k; outcome = o }) }) (Some (standing_as b.session.client Over)) refl
+                  (record { client = standing_as b.session.client Over; there = refl; transcript = b.session.transcript; its = b.session.its; node = b.session.node; greeted = b.session.greeted; stands = r.stands }))),
+            )
 
     -- an answer is taken
     abbrev collected_world : ℕ → ℕ → OrderWorld A
@@ -401,21 +406,25 @@ module _ {A : Type 0} (cfg : Config A) (stamps : ℕ → Stamp) (logs : List (No
 
         kept : (c : Client A) → c.node ≡ b.session.client.node → c.stamp ≡ b.session.client.stamp → StandsAs cfg.accounts (stamps i) b.session.transcript (Up w.placed n) (w.sessions i).left None c
             → occurs cfg v (happening.Collect (suc i)) ≡ keeps v (suc i) c → Then (collected_world i n) v
-        kept c same stamp now happened =
-            (Occurs (happening.Collect (suc i)), subst (Follows (collected_world i n)) (sym happened) (one_session w.placed w.sent v.network i n _ c f.nodes (λ n h. h)
-            (b.again w.placed (record { node = Some n; done = (w.sessions i).done; left = (w.sessions i).left; awaits = None }) (Some c) refl
-            (record { client = c; there = refl; transcript = b.session.transcript; its = b.session.its; node = same ∙ b.session.node; greeted = stamp ∙ b.session.greeted; stands = now }))))
+        kept c same stamp now happened = (
+          Occurs (happening.Collect (suc i)),
+          subst (Follows (collected_world i n)) (sym happened) (one_session w.placed w.sent v.network i n _ c f.nodes (λ n h. h)
+              (b.again w.placed (record { node = Some n; done = (w.sessions i).done; left = (w.sessions i).left; awaits = None }) (Some c) refl
+              (record { client = c; there = refl; transcript = b.session.transcript; its = b.session.its; node = same ∙ b.session.node; greeted = stamp ∙ b.session.greeted; stands = now }))),
+        )
 
         -- nothing changes but that the order takes the answer
         unchanged : IsDone cfg.accounts (stamps i) b.session.transcript (w.sessions i).left b.session.client → occurs cfg v (happening.Collect (suc i)) ≡ v → Then (collected_world i n) v
-        unchanged d happened =
-            (Occurs (happening.Collect (suc i)), subst (Follows (collected_world i n)) (sym happened) (record {
-              nodes = f.nodes;
-              sessions = put_apart (λ j x. IsFollowed w.placed j x (client_of (suc j) v.clients)) w.sessions i _
-                  (b.again w.placed (record { node = Some n; done = (w.sessions i).done; left = (w.sessions i).left; awaits = None }) (client_of (suc i) v.clients) refl
-                  (record { client = b.session.client; there = b.session.there; transcript = b.session.transcript; its = b.session.its; node = b.session.node; greeted = b.session.greeted; stands = inr d }))
-                  (λ j ne. f.sessions j);
-            }))
+        unchanged d happened = (
+          Occurs (happening.Collect (suc i)),
+          subst (Follows (collected_world i n)) (sym happened) (record {
+            nodes = f.nodes;
+            sessions = put_apart (λ j x. IsFollowed w.placed j x (client_of (suc j) v.clients)) w.sessions i _
+                (b.again w.placed (record { node = Some n; done = (w.sessions i).done; left = (w.sessions i).left; awaits = None }) (client_of (suc i) v.clients) refl
+                (record { client = b.session.client; there = b.session.there; transcript = b.session.transcript; its = b.session.its; node = b.session.node; greeted = b.session.greeted; stands = inr d }))
+                (λ j ne. f.sessions j);
+          }),
+        )
 
         taken : (state : State A) (id : CommandId) (outcome : Outcome A) → StandsAs cfg.accounts (stamps i) b.session.transcript (Up w.placed n) (w.sessions i).left None (by_turn b.session.client (by_answer state id.ticket outcome))
             → occurs cfg v (happening.Collect (suc i)) ≡ keeps v (suc i) (by_turn b.session.client (by_answer state id.ticket outcome)) → Then (collected_world i n) v
@@ -521,11 +530,13 @@ module _ {A : Type 0} (cfg : Config A) (stamps : ℕ → Stamp) (logs : List (No
 
     crash : (n : ℕ) → next real n (w.placed n) ≡ Some Crash → Up w.placed n → Then (given_world n Crash) v
     crash n comes up =
-        let g = log_there w.placed w.sent v.network f.nodes n up in
-        (Occurs (happening.Crash (number_of n)), subst (Follows (given_world n Crash)) (sym (crashes_up cfg v 0 (number_of n) g.log g.its_log g.up)) (record {
-          nodes = takes_at cfg logs transcripts fit service.openings w.placed w.sent v.network f.nodes n Crash comes up;
-          sessions = crash_followed n comes up;
-        }))
+        let g = log_there w.placed w.sent v.network f.nodes n up in (
+          Occurs (happening.Crash (number_of n)),
+          subst (Follows (given_world n Crash)) (sym (crashes_up cfg v 0 (number_of n) g.log g.its_log g.up)) (record {
+            nodes = takes_at cfg logs transcripts fit service.openings w.placed w.sent v.network f.nodes n Crash comes up;
+            sessions = crash_followed n comes up;
+          }),
+        )
 
     pub given : (n : ℕ) (x : Input A) → brought x ≡ None → asked real (state_at real n (w.placed n)) x ≡ None → next real n (w.placed n) ≡ Some x → Up w.placed n → Then (given_world n x) v
     given n (Submit user (Mail text key)) brings none comes up = (Occurs (happening.Mail (number_of n) user text key), takes_input n (Submit user (Mail text key)) comes up)
@@ -541,9 +552,11 @@ module _ {A : Type 0} (cfg : Config A) (stamps : ℕ → Stamp) (logs : List (No
     -- a message arrives
     pub arrive : (which : ℕ) (e : Envelope (Command A) A) (x : Input A) → slice_get w.sent which ≡ Some e → brought x ≡ Some e → next real (place_of e.to logs) (w.placed (place_of e.to logs)) ≡ Some x → Up w.placed (place_of e.to logs)
         → Then (given_world (place_of e.to logs) x) v
-    arrive which e x was brings comes up =
-        (Occurs (happening.Arrive which), at_nodes_alone (more w.placed (place_of e.to logs)) _ _
-        (arrives_at cfg logs transcripts fit service.openings w.placed w.sent v.network f.nodes which e x was brings comes up) (before (place_of e.to logs) x comes))
+    arrive which e x was brings comes up = (
+      Occurs (happening.Arrive which),
+      at_nodes_alone (more w.placed (place_of e.to logs)) _ _
+          (arrives_at cfg logs transcripts fit service.openings w.placed w.sent v.network f.nodes which e x was brings comes up) (before (place_of e.to logs) x comes),
+    )
 
     -- a session connects
     abbrev new_session : ℕ → Turns A → OrderSession A
@@ -561,19 +574,23 @@ module _ {A : Type 0} (cfg : Config A) (stamps : ℕ → Stamp) (logs : List (No
 
         go : (ts : Turns A) → slice_get real.scripts i ≡ Some (Some ts) → ByScript w.placed i (w.sessions i) (client_of (suc i) v.clients) (Some (Some ts)) → Then (connected_world i n ts) v
         go [] script h =
-            let x = h.1 in
-            (Occurs (happening.Connect (suc i) (number_of n) (stamps i)), subst (Follows (connected_world i n [])) (sym (connects_again cfg v (suc i) (number_of n) (stamps i) x.client x.there)) (record {
-              nodes = f.nodes;
-              sessions = put_apart (λ j s. IsFollowed w.placed j s (client_of (suc j) v.clients)) w.sessions i (new_session n [])
-                  (subst (ByScript w.placed i (new_session n []) (client_of (suc i) v.clients)) (sym script) ((refl, refl), x))
-                  (λ j ne. f.sessions j);
-            }))
+            let x = h.1 in (
+              Occurs (happening.Connect (suc i) (number_of n) (stamps i)),
+              subst (Follows (connected_world i n [])) (sym (connects_again cfg v (suc i) (number_of n) (stamps i) x.client x.there)) (record {
+                nodes = f.nodes;
+                sessions = put_apart (λ j s. IsFollowed w.placed j s (client_of (suc j) v.clients)) w.sessions i (new_session n [])
+                    (subst (ByScript w.placed i (new_session n []) (client_of (suc i) v.clients)) (sym script) ((refl, refl), x))
+                    (λ j ne. f.sessions j);
+              }),
+            )
         go (turn ∷ turns) script h =
-            let none : client_of (suc i) v.clients ≡ None = (subst (AtNode w.placed i (w.sessions i) (client_of (suc i) v.clients)) node h).0 in
-            (Occurs (happening.Connect (suc i) (number_of n) (stamps i)), subst (Follows (connected_world i n (turn ∷ turns))) (sym (connects_new cfg v (suc i) (number_of n) (stamps i) g.log g.its_log g.up none))
-            (one_session w.placed w.sent v.network i n (new_session n (turn ∷ turns)) (new_client (number_of n) (stamps i)) f.nodes (λ n h. h)
-            (subst (ByScript w.placed i (new_session n (turn ∷ turns)) (Some (new_client (number_of n) (stamps i)))) (sym script)
-            (greeted w.placed i n (turn ∷ turns) script))))
+            let none : client_of (suc i) v.clients ≡ None = (subst (AtNode w.placed i (w.sessions i) (client_of (suc i) v.clients)) node h).0 in (
+              Occurs (happening.Connect (suc i) (number_of n) (stamps i)),
+              subst (Follows (connected_world i n (turn ∷ turns))) (sym (connects_new cfg v (suc i) (number_of n) (stamps i) g.log g.its_log g.up none))
+                  (one_session w.placed w.sent v.network i n (new_session n (turn ∷ turns)) (new_client (number_of n) (stamps i)) f.nodes (λ n h. h)
+                  (subst (ByScript w.placed i (new_session n (turn ∷ turns)) (Some (new_client (number_of n) (stamps i)))) (sym script)
+                  (greeted w.placed i n (turn ∷ turns) script))),
+            )
 
   -- an event happens in the run
   pub step : (w w' : OrderWorld A) (v : Service A) (e : Event) → Follows w v → Happens real w e w' → Then w' v

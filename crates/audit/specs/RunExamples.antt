@@ -1,6 +1,6 @@
 -- A worked run and its transcript: a cluster of one node, whose user is alice.
 use mathlib.Core.Logic.{inr}
-use Rattle.std.specs.Prelude.{◌≡◌, refl, ℕ, length, List, [], ◌∷◌, ◌++◌, Option, Some, None, option_map, codes}
+use Rattle.std.specs.Prelude.{◌≡◌, refl, ℕ, length, List, [], ◌∷◌, Option, Some, None, option_map, codes}
 use Rattle.std.specs.List.{concat}
 use Rattle.std.specs.Fmt.{digits}
 use Rattle.apop.specs.Stamp.{Stamp}
@@ -12,14 +12,13 @@ use Rattle.maildrop.specs.declared.op.Op.TheVariants.{Take, Free}
 use Rattle.maildrop.specs.declared.outcome.Outcome.{Outcome}
 use Rattle.maildrop.specs.declared.outcome.Outcome.TheVariants.{Taken, Done}
 use Rattle.pop3_wire.specs.Reply.{greeting}
-use Rattle.pop3_wire.specs.declared.line.Line.{Line}
 use Rattle.pop3_wire.specs.declared.line.Line.TheVariants.{Whole}
 use Rattle.session.specs.Serve.{told}
 use Rattle.session.specs.declared.transcript.Asked.{Asked}
 use Rattle.session.specs.declared.transcript.End.TheVariants.{Closed, DeskStopped}
 use Rattle.session.specs.declared.transcript.Transcript.{Transcript}
 use Rattle.world.specs.Clients.{client_of}
-use Rattle.world.specs.Services.{Happening, Occurs, Service, run_of}
+use Rattle.world.specs.Services.{Happening, Occurs, run_of}
 use Rattle.world.specs.declared.config.Config.{Config}
 use Rattle.world.specs.declared.event.Event.TheVariants as event
 use Rattle.audit.specs.Runs.{line_tickets, AreItsLines}
