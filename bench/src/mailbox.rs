@@ -1,6 +1,6 @@
 //! The readers of mailboxes. Each of its runs has a process of its own, so that the memory of one is not counted for the
 //! other.
-use crate::measure::timed;
+use crate::measure::{memory, timed};
 use crate::shared::{find, line_value};
 use std::process::Command;
 use std::sync::Arc;
@@ -83,16 +83,6 @@ fn rust_mailbox(bytes: &[u8]) -> u64 {
         .flat_map(|text| text.iter())
         .map(|line| line_value(line))
         .sum()
-}
-
-/// A size that the system tells of this process, in bytes.
-fn memory(name: &str) -> Option<u64> {
-    let status = std::fs::read_to_string("/proc/self/status").ok()?;
-    let line = status
-        .lines()
-        .find_map(|line| line.strip_prefix(name)?.strip_prefix(':'))?;
-    let kilobytes: u64 = line.trim().strip_suffix(" kB")?.parse().ok()?;
-    Some(kilobytes * 1024)
 }
 
 /// Reads the mailbox once, and prints the milliseconds, the most memory that the process had besides what it had

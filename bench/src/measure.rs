@@ -24,3 +24,30 @@ pub fn compare(name: &str, mut rattle: impl FnMut() -> (Duration, u64), mut rust
         best[0].as_secs_f64() / best[1].as_secs_f64()
     );
 }
+
+/// A size that the system tells of this process, in bytes.
+pub fn memory(name: &str) -> Option<u64> {
+    let status = std::fs::read_to_string("/proc/self/status").ok()?;
+    let line = status
+        .lines()
+        .find_map(|line| line.strip_prefix(name)?.strip_prefix(':'))?;
+    let kilobytes: u64 = line.trim().strip_suffix(" kB")?.parse().ok()?;
+    Some(kilobytes * 1024)
+}
+
+/// The processor time that this process has taken, which doesn't grow while others run.
+pub fn processor_time() -> Duration {
+    #[repr(C)]
+    struct Time {
+        seconds: i64,
+        nanoseconds: i64,
+    }
+    unsafe extern "C" {
+        fn clock_gettime(clock: i32, time: *mut Time) -> i32;
+    }
+    const PROCESS: i32 = 2;
+    let mut time = Time { seconds: 0, nanoseconds: 0 };
+    let status = unsafe { clock_gettime(PROCESS, &mut time) };
+    assert_eq!(status, 0, "no clock of the process");
+    Duration::new(time.seconds as u64, time.nanoseconds as u32)
+}

@@ -3,5 +3,6 @@
 
 mod decisions;
 mod mailbox;
+mod nodes;
 mod value;
 mod wire;
