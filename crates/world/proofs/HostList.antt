@@ -13,6 +13,7 @@ use Rattle.node.specs.declared.input.Input.TheVariants.{Crash}
 use Rattle.node.specs.declared.log.NodeLog.{NodeLog}
 use Rattle.world.specs.Hosts.{Host, Hosts, HasAnswer, HasAnswerAt, host_at, logs_of, log_after, network_of, sent_after, can_count, counted}
 use Rattle.world.specs.Messages.{Network, log_of, is_up, newly_sent, taken_by, takes, with_arrival}
+use Rattle.world.specs.Worlds.{performed_in}
 use Rattle.world.specs.declared.sent.Sent.{Sent}
 use Rattle.world.proofs.Hosting.{crash_sent}
 
@@ -170,11 +171,8 @@ module _ {A : Type 0} where
       go None = refl
       go (Some log) = up log (is_up (Some log))
 
-  -- what a node has performed, by whichever log it has
+  -- what a node has performed, by its log
   pub performed_at : {X : Type 0} (o : Option X) (now : X → List (ℕ × Command A)) (at : Option (NodeLog A)) (log : NodeLog A) → at ≡ Some log → IfSome o (λ x. now x ≡ (replayed log).replica.performed)
-      → IfSome o (λ x. (l : NodeLog A) → at ≡ Some l → now x ≡ (replayed l).replica.performed)
+      → IfSome o (λ x. performed_in at ≡ Some (now x))
   performed_at None now at log e p = tt
-  performed_at (Some x) now at log e p = λ l f. p ∙ ap (λ (k : NodeLog A). (replayed k).replica.performed) (some_same log l (sym e ∙ f))
-    where
-      some_same : (a b : NodeLog A) → Some a ≡ Some b → a ≡ b
-      some_same a b e = cc
+  performed_at (Some x) now at log e p = ap performed_in e ∙ ap Some (sym p)

@@ -66,7 +66,7 @@ module _ {A : Type 0} where
       go false = itself c
 
   -- the client of each session, where that of one is put in
-  at_inserted : (session s : ℕ) (d : Client A) (clients : List (ℕ × Client A)) → client_of s (with_client session d clients) ≡ cond (eqb s session) (Some d) (client_of s clients)
+  pub at_inserted : (session s : ℕ) (d : Client A) (clients : List (ℕ × Client A)) → client_of s (with_client session d clients) ≡ cond (eqb s session) (Some d) (client_of s clients)
   at_inserted session s d [] = refl
   at_inserted session s d (e ∷ es) =
       go (eqb session e.0) refl (at_inserted session s d es)

@@ -41,3 +41,5 @@ pub mod Shown
 pub mod ServiceSteps
 pub mod Refusing
 pub mod GivenOperations
+pub mod Awaiting
+pub mod Keeping

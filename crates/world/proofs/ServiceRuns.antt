@@ -114,7 +114,7 @@ module _ {A : Type 0} where
     occurs_follows cfg (event.Campaign node) = (Campaigns node ∷ [], refl)
     occurs_follows cfg (event.Crash node) = up_follows (log_of node w.network.logs) _ (λ log. (Crashes node ∷ [], refl))
 
-    happens_follows : (cfg : Config A) (h : Happening A) → Follows w (happens cfg w h)
+    pub happens_follows : (cfg : Config A) (h : Happening A) → Follows w (happens cfg w h)
     happens_follows cfg (Occurs e) = occurs_follows cfg e
     happens_follows cfg (Lost session) = served_follows (client_of session w.clients) _ (λ c log. lost_follows session c log c.standing)
 

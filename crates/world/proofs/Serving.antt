@@ -39,7 +39,7 @@ module _ {A : Type 0} where
   -- Logs only grow
 
   -- the log of the node is this one, with more inputs
-  abbrev Logs : Network A → ℕ → NodeLog A → Type 0
+  abbrev pub Logs : Network A → ℕ → NodeLog A → Type 0
   Logs w n log = (more : List (Input A)) × (log_of n w.logs ≡ Some (record { opening = log.opening; inputs = log.inputs ++ more }))
 
   logs_same : (w : Network A) (n : ℕ) (log : NodeLog A) → log_of n w.logs ≡ Some log → Logs w n log
@@ -74,7 +74,7 @@ module _ {A : Type 0} where
       go true = takes_logs (record { logs = w.logs; sent = with_arrival which w.sent }) s.envelope.to (input.Arrive s.envelope) n log e
       go false = logs_same w n log e
 
-  happens_logs : (w : Network A) (event : NodeEvent A) (n : ℕ) (log : NodeLog A) → log_of n w.logs ≡ Some log → Logs (network.happens w event) n log
+  pub happens_logs : (w : Network A) (event : NodeEvent A) (n : ℕ) (log : NodeLog A) → log_of n w.logs ≡ Some log → Logs (network.happens w event) n log
   happens_logs w (Submits m name op) n log e = takes_logs w m (input.Submit name op) n log e
   happens_logs w (Arrives which) n log e = arrives_logs w which (slice_get w.sent which) n log e
   happens_logs w (Ticks m) n log e = takes_logs w m input.Tick n log e
@@ -82,7 +82,7 @@ module _ {A : Type 0} where
   happens_logs w (Crashes m) n log e = takes_logs w m input.Crash n log e
 
   -- a Submit at a node that is up is logged
-  submitted_log : (w : Network A) (n : ℕ) (log : NodeLog A) (user : List ℕ) (op : Op A) → log_of n w.logs ≡ Some log → is_up (Some log) ≡ true →
+  pub submitted_log : (w : Network A) (n : ℕ) (log : NodeLog A) (user : List ℕ) (op : Op A) → log_of n w.logs ≡ Some log → is_up (Some log) ≡ true →
       log_of n (network.happens w (Submits n user op)).logs ≡ Some (logged log (input.Submit user op))
   submitted_log w n log user op e up =
       go (log_of n w.logs) e
@@ -124,7 +124,7 @@ module _ {A : Type 0} where
       go true ih q = here (eqb s e.0) q
       go false ih q = there (eqb s e.0) ih q
 
-  at_without : (node s : ℕ) (x : Client A) (clients : List (ℕ × Client A)) → client_of s (all_without_node node clients) ≡ Some x → (c : Client A) × (client_of s clients ≡ Some c) × (without_node node c ≡ x)
+  pub at_without : (node s : ℕ) (x : Client A) (clients : List (ℕ × Client A)) → client_of s (all_without_node node clients) ≡ Some x → (c : Client A) × (client_of s clients ≡ Some c) × (without_node node c ≡ x)
   at_without node s x [] h = absurd (cc)
   at_without node s x (e ∷ es) h =
       go (eqb s e.0) (at_without node s x es) h

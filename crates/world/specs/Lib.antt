@@ -11,4 +11,5 @@ pub mod Hosts
 pub mod Connections
 pub mod Served
 pub mod Interrupted
+pub mod Kept
 pub mod Examples

@@ -1,8 +1,8 @@
 -- What contracts see of a world: a service, and what its caller may take of it. A node that has found no memory is seen as
 -- one that has crashed.
-use Rattle.std.specs.Prelude.{◌≡◌, ℕ, zero, suc, ◌+◌, ◌==◌, ◌&&◌, nat_lt, Bool, true, false, List, [], ◌∷◌, ◌++◌, drop, find, map, position, Option, Some, None, is_some, option_map, if◌then◌else◌}
+use Rattle.std.specs.Prelude.{◌≡◌, ℕ, zero, suc, ◌+◌, ◌==◌, ◌&&◌, nat_lt, Bool, true, false, List, [], ◌∷◌, ◌++◌, drop, find, position, Option, Some, None, is_some, option_map, if◌then◌else◌}
 use Rattle.std.specs.Option.{option_or}
-use Rattle.std.specs.Map.{lookup}
+use Rattle.std.specs.Map.{lookup, set_value}
 use Rattle.maildrop.specs.CommandId.{CommandId, same_id}
 use Rattle.maildrop.specs.Ticket.{Ticket}
 use Rattle.maildrop.specs.declared.command.Command.{Command}
@@ -36,7 +36,7 @@ last_position test (x ∷ xs) = option_or (option_map (λ k. k + 1) (last_positi
 
 -- the outcome of this command was taken
 abbrev pub with_taken : CommandId → List (CommandId × Bool) → List (CommandId × Bool)
-with_taken id operations = map (λ e. (e.0, if same_id id e.0 then true else e.1)) operations
+with_taken id operations = set_value (same_id id) operations true
 
 module _ {A : Type 0} where
   -- some run leads to the service
@@ -77,9 +77,19 @@ module _ {A : Type 0} where
   abbrev pub without_outcome : World A → CommandId → World A
   without_outcome w id = if is_some (outcome_left w id) then record w { operations = with_taken id w.operations } else w
 
+  -- the same at a node: a node has the outcomes of the commands that it gave their tickets
+  abbrev pub outcome_at : World A → ℕ → CommandId → Option (Outcome A)
+  outcome_at w node id = if node == id.ticket.node then outcome_left w id else None
+
+  abbrev pub without_outcome_at : World A → ℕ → CommandId → World A
+  without_outcome_at w node id = if node == id.ticket.node then without_outcome w id else w
+
+  abbrev pub performed_in : Option (NodeLog A) → Option (List (ℕ × Command A))
+  performed_in log = option_map (λ l. (replayed l).replica.performed) log
+
   -- what a node has performed, in order, each command with its slot
   abbrev pub performed_by : Service A → ℕ → Option (List (ℕ × Command A))
-  performed_by w node = option_map (λ log. (replayed log).replica.performed) (log_of node w.network.logs)
+  performed_by w node = performed_in (log_of node w.network.logs)
 
   abbrev pub ticket_after : NodeLog A → List ℕ → ℕ → Option Ticket
   ticket_after log user count = if count == 0 then None else Some (record { node = log.opening.me; seq = count })

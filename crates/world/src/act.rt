@@ -1,11 +1,14 @@
 //! What events do.
-ghost use Rattle.std.specs.Prelude.{◌≡◌, ℕ, List, Some, None, OnOk, OnErr};
+ghost use Rattle.std.specs.Prelude.{◌≡◌, ◌++◌, ℕ, List, Some, None, OnOk, OnErr};
 ghost use Rattle.std.specs.Map.{lookup};
 ghost use Rattle.world.specs.Connections.{service_of, AreFit, AreUntaken};
 ghost use Rattle.world.specs.Hosts.{network_of, HasAnswerAt};
 ghost use Rattle.world.specs.Interrupted.{IsInterrupted};
+ghost use Rattle.world.specs.Kept.{collected_by};
+ghost use Rattle.world.specs.Refusals.{refusal_of};
 ghost use Rattle.world.specs.Services.{occurs, next_id};
 ghost use Rattle.world.specs.Messages.{log_of, takes};
+ghost use Rattle.world.specs.Worlds.{operation_of};
 ghost use Rattle.node.specs.declared.log.NodeLog.{NodeLog};
 ghost use Rattle.node.specs.declared.input.Input.TheVariants.{Crash};
 ghost use Rattle.maildrop.specs.CommandId.{CommandId, same_id};
@@ -35,6 +38,10 @@ pub(crate) fn act<A: Allocator + Copy>(
     ensures service { OnOk result (service_of hosts.new connections.new.entries ≡ occurs config.now (service_of hosts.old connections.old.entries) event) }
     ensures err { OnErr result (IsInterrupted config.now event (service_of hosts.old connections.old.entries) (service_of hosts.new connections.new.entries)) }
     ensures fit { AreFit connections.new.entries }
+    ensures operations { refusal_of (service_of hosts.old connections.old.entries) event ≡ None
+        → OnOk result (operations.new.entries ≡ operations.old.entries ++ operation_of (service_of hosts.old connections.old.entries) event) }
+    ensures unchanged { OnErr result (operations.new.entries ≡ operations.old.entries) }
+    ensures answers { (n : ℕ) (id : CommandId) → (collected_by connections.old.entries event ≡ Some id → ⊥) → HasAnswerAt n id hosts.old → HasAnswerAt n id hosts.new }
 {
     match event {
         Event::Connect {

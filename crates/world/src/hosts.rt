@@ -2,12 +2,10 @@
 ghost use Rattle.std.specs.Prelude.{◌≡◌, ◌+◌, ℕ, [], true, false, Some, is_some, slice_get, IfOk, OnOk, OnErr, IfSome};
 ghost use Rattle.std.specs.Ordering.{is_eq};
 ghost use Rattle.maildrop.specs.CommandId.{CommandId, compare_ids};
-ghost use Rattle.node.specs.Replay.{replayed};
 ghost use Rattle.node.specs.declared.input.Input.TheVariants.{Crash};
-ghost use Rattle.node.specs.declared.log.NodeLog.{NodeLog};
 ghost use Rattle.world.specs.Hosts.{network_of, HasAnswerAt, IsArrivalCut, ticket_at, can_count, counted};
 ghost use Rattle.world.specs.Messages.{is_up, log_of, takes, arrives};
-ghost use Rattle.world.specs.Worlds.{answer_at};
+ghost use Rattle.world.specs.Worlds.{answer_at, performed_in};
 ghost use Rattle.world.specs.declared.sent.Sent.{Sent};
 
 use crate::host::Host;
@@ -151,7 +149,7 @@ impl<A: Allocator + Copy> Hosts<A> {
     /// What a node has performed: each command once, with its slot. None where there is no such node, or it has stopped
     /// for want of memory.
     pub(crate) fn performed(&self, node: NodeId) -> Option<&[(Slot, Command<A>)]>
-        ensures value { IfSome result (λ performed. (log : NodeLog A) → log_of node (network_of self.now).logs ≡ Some log → performed.now ≡ (replayed log).replica.performed) }
+        ensures value { IfSome result (λ performed. performed_in (log_of node (network_of self.now).logs) ≡ Some performed.now) }
         ensures up { is_up (log_of node (network_of self.now).logs) ≡ true → is_some result ≡ true }
     {
         match self.hosts.get(place_of(node)) {

@@ -20,6 +20,7 @@ mod sent;
 mod sent_messages;
 mod service_laws;
 mod session_id;
+mod world;
 
 pub use config::Config;
 pub use event::Event;
@@ -33,3 +34,4 @@ pub use service_laws::{
     tickets_of_sessions, two_runs, what_was_told_stays,
 };
 pub use session_id::SessionId;
+pub use world::{WIDEST_WINDOW, World};

@@ -1,18 +1,20 @@
 //! The operations that are given to nodes from outside of sessions, and their outcomes.
-ghost use Rattle.std.specs.Prelude.{◌≡◌, ◌++◌, [], ◌∷◌, ℕ, true, false, Some, None, OnOk, OnErr};
+ghost use Rattle.std.specs.Prelude.{◌≡◌, ◌==◌, ◌++◌, [], ◌∷◌, ℕ, true, false, Some, None, is_some, OnOk, OnErr, if◌then◌else◌};
 ghost use Rattle.std.specs.Map.{lookup};
-ghost use Rattle.maildrop.specs.CommandId.{CommandId, same_id};
+ghost use Rattle.std.specs.Ordering.{is_eq};
+ghost use Rattle.maildrop.specs.CommandId.{CommandId, compare_ids, same_id};
 ghost use Rattle.node.specs.Replay.{next_ticket};
 ghost use Rattle.node.specs.declared.input.Input.TheVariants.{Submit, Crash};
 ghost use Rattle.node.specs.declared.log.NodeLog.{NodeLog};
 ghost use Rattle.world.specs.Hosts.{network_of, HasAnswerAt};
 ghost use Rattle.world.specs.Messages.{is_up, log_of, takes};
 ghost use Rattle.world.specs.Services.{next_id};
+ghost use Rattle.world.specs.Worlds.{answer_at, unless_taken, with_taken};
 
 use crate::hosts::Hosts;
 use ballot::{Memory, NodeId};
 use indexmap::IndexMap;
-use maildrop::{CommandId, Name, Op};
+use maildrop::{CommandId, Name, Op, Outcome};
 use node::Input;
 use std::alloc::Allocator;
 use std::hash::{BuildHasherDefault, FoldHasher};
@@ -49,4 +51,34 @@ pub(crate) fn submit<A: Allocator + Copy>(
         Ok(None) => Ok(()),
         Err(error) => Err(error),
     }
+}
+
+/// The outcome of an operation that this node was given, if it is there and the node is up. It is given once. Takes no
+/// memory.
+pub(crate) fn take_outcome<A: Allocator + Copy>(
+    hosts: &mut Hosts<A>,
+    operations: &mut Operations<A>,
+    node: NodeId,
+    id: CommandId,
+) -> Option<Outcome<A>>
+    requires untaken { lookup (same_id id) operations.old.entries ≡ Some false → HasAnswerAt node id hosts.old }
+    ensures outcome { result ≡ (if node == id.ticket.node then unless_taken (lookup (same_id id) operations.old.entries) (answer_at (log_of node (network_of hosts.old).logs) id) else None) }
+    ensures network { network_of hosts.new ≡ network_of hosts.old }
+    ensures operations { operations.new.entries ≡ (if is_some result then with_taken id operations.old.entries else operations.old.entries) }
+    ensures others { (n : ℕ) (other : CommandId) → is_eq (compare_ids id other) ≡ false → HasAnswerAt n other hosts.old → HasAnswerAt n other hosts.new }
+    ensures none { result ≡ None → hosts.new ≡ hosts.old }
+{
+    let (_, ticket) = id.get();
+    let (giver, _) = ticket.get();
+    if giver != node {
+        return None;
+    }
+    let Some(taken) = operations.get_mut(&id) else {
+        return None;
+    };
+    if *taken || !hosts.has_answer(node, id) {
+        return None;
+    }
+    *taken = true;
+    hosts.take_answer(node, id)
 }

@@ -1,13 +1,15 @@
-use Rattle.std.proofs.Common.{◌≡◌, refl, subst, sym}
+use Rattle.std.proofs.Common.{◌≡◌, ◌∙◌, Some, ap, refl, subst, sym}
 use Rattle.std.specs.Prelude.{OnOk, OnErr}
 use Rattle.std.proofs.lemmas.Result.{on_ok_weaker, on_err_weaker}
 use Rattle.maildrop.specs.declared.op.Op.TheVariants as op
 use Rattle.node.specs.declared.input.Input.TheVariants as input
 use Rattle.world.specs.Connections.{service_of}
 use Rattle.world.specs.Interrupted.{IsInterrupted}
+use Rattle.world.specs.Kept.{awaited_in, collected_by}
 use Rattle.world.specs.Services.{occurs}
 use Rattle.world.specs.declared.event.Event.{Event}
 use Rattle.world.proofs.ServiceSteps.{nodes_on, nodes_crash, nodes_arrive, arrival_interrupted}
+use Rattle.world.proofs.Keeping.{other_id}
 use Rattle.world.proofs.act.act.Goals as goal
 
 pub submit-requires : goal.submit-requires
@@ -105,3 +107,10 @@ pub returns-in-Crash-clause-service : goal.returns-in-Crash-clause-service
 returns-in-Crash-clause-service g c =
     subst (λ (e : Event g.row.A.Denot). service_of c.crash.new.self c.args.connections.now.entries ≡ occurs c.args.config.now (service_of c.args.hosts.now c.args.connections.now.entries) e) (sym c.in-Crash.is)
     (nodes_crash c.args.hosts.now c.crash.new.self c.args.connections.now.entries c.args.config.now c.in-Crash.node c.crash.ensures.network)
+
+pub returns-in-Collect-clause-answers : goal.returns-in-Collect-clause-answers
+returns-in-Collect-clause-answers g c n id apart has =
+    let es = c.args.connections.now.entries in
+    c.collect_answer.ensures.others n id
+    (λ it other found awaits. other_id other id (λ e. apart (ap (collected_by es) c.in-Collect.is ∙ ap awaited_in found ∙ awaits ∙ ap Some e)))
+    has

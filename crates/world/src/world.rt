@@ -1,0 +1,179 @@
+//! A service that takes one event after another.
+ghost use Rattle.std.specs.Prelude.{◌≡◌, ◌≤◌, ℕ, true, Some, None, Err, is_some, option_map, IfOk, IfErr, IfSome, OnOk, OnErr};
+ghost use Rattle.std.specs.Option.{option_copied};
+ghost use Rattle.ballot.specs.Nodes.{in_cluster};
+ghost use Rattle.world.specs.Clients.{Client, client_of};
+ghost use Rattle.world.specs.Interrupted.{IsInterrupted};
+ghost use Rattle.world.specs.Kept.{new_host, new_hosts};
+ghost use Rattle.world.specs.Messages.{is_up, log_of};
+ghost use Rattle.world.specs.Projection.{IsProjected};
+ghost use Rattle.world.specs.Refusals.{step_refusal};
+ghost use Rattle.world.specs.Services.{opening_of};
+ghost use Rattle.world.specs.Worlds as spec;
+ghost use Rattle.world.specs.declared.refused.Refused.{Refused};
+
+use crate::act::act;
+use crate::config::Config;
+use crate::connections::Connections;
+use crate::event::Event;
+use crate::host::Host;
+use crate::hosts::Hosts;
+use crate::operations::{Operations, take_outcome};
+use crate::refusal::refusal_of;
+use crate::refused::Refused;
+use crate::sent::Sent;
+use crate::session_id::SessionId;
+use ballot::{Memory, NodeId, Slot};
+use indexmap::IndexMap;
+use maildrop::{Command, CommandId, Name, Outcome, Ticket};
+use node::Node;
+use std::alloc::{Allocator, Global};
+use std::marker::Model;
+
+/// For how many slots a node proposes at most, from the next one on that it performs.
+pub use node::WIDEST_WINDOW;
+
+/// A service. It takes one event after another, and is always where some run leads.
+#[derive(Drop)]
+pub struct World<A: Allocator + Copy = Global> {
+    config: Config<A>,
+    pub(crate) hosts: Hosts<A>,
+    pub(crate) connections: Connections<A>,
+    operations: Operations<A>,
+    alloc: A,
+}
+
+impl<A: Allocator + Copy> Model for World<A> {
+    ghost use Rattle.world.specs.Worlds.{World};
+
+    ghost Value = { World A };
+
+    ghost use Rattle.world.specs.Kept.{IsKept, world_of};
+
+    ghost view = { λ w. world_of w.config w.hosts w.connections.entries w.operations.entries };
+
+    ghost invariant = { λ w. IsKept w.config w.hosts w.connections.entries w.operations.entries };
+}
+
+impl<A: Allocator + Copy> World<A> {
+    /// A service that begins so: its nodes have empty maildrops, nothing was sent, and nobody is connected.
+    pub fn new(alloc: A, config: Config<A>) -> Result<Self, Memory>
+        requires window { (1 ≤ config.window) × (config.window ≤ 1000) }
+        ensures { IfOk result (λ world. world ≡ spec.new_world config) }
+    {
+        let hosts = begin(alloc, &config)?;
+        Ok(World {
+            config,
+            hosts: Hosts::new(alloc, hosts),
+            connections: IndexMap::new(alloc),
+            operations: IndexMap::new(alloc),
+            alloc,
+        })
+    }
+
+    /// An event happens, if it can. One that can't is refused, the first of its reasons is told, and nothing has changed.
+    /// After `Memory` the node or the session that found none is down; a client that connects is as if it hadn't.
+    pub fn step(&mut self, event: Event<A>) -> Result<(), Refused>
+        ensures refused { (reason : Refused) → step_refusal self.old.config self.old.service event ≡ Some reason → result ≡ Err reason }
+        ensures unchanged { (reason : Refused) → step_refusal self.old.config self.old.service event ≡ Some reason → self.new ≡ self.old }
+        ensures ok { OnOk result (self.new ≡ spec.stepped self.old event) }
+        ensures memory { step_refusal self.old.config self.old.service event ≡ None → IfErr result (λ error. error ≡ Refused.Memory) }
+        ensures interrupted { step_refusal self.old.config self.old.service event ≡ None → OnErr result (IsInterrupted self.old.config event self.old.service self.new.service) }
+        ensures operations { OnErr result (self.new.operations ≡ self.old.operations) }
+        ensures config { self.new.config ≡ self.old.config }
+    {
+        if let Some(reason) = refusal_of(&self.config, &self.hosts, &self.connections, &event) {
+            return Err(reason);
+        }
+        act(
+            self.alloc,
+            &self.config,
+            &mut self.hosts,
+            &mut self.connections,
+            &mut self.operations,
+            event,
+        )?;
+        Ok(())
+    }
+
+    /// The bytes of all replies that a session got, its greeting first; None where no such session has connected. They
+    /// are a prefix of what a POP3 server says that has the session's user's maildrop alone: to the session's greeting and
+    /// lines, where it performs the user's decided commands in order, each once.
+    pub fn replies(&self, session: SessionId) -> Option<&[u8]>
+        ensures value { option_copied result ≡ option_map (λ c. c.replies) (client_of session self.now.service.clients) }
+        ensures projected { (c : Client A) → client_of session self.now.service.clients ≡ Some c → IsProjected self.now.config self.now.service c }
+    {
+        match self.connections.get(&session) {
+            Some(connection) => Some(connection.replies.get()),
+            None => None,
+        }
+    }
+
+    /// All messages that nodes have sent, in the order in which they were sent.
+    pub fn sent(&self) -> &[Sent<A>]
+        ensures { result.now ≡ self.now.service.network.sent }
+    {
+        self.hosts.sent()
+    }
+
+    /// The outcome of a Mail or a Break that this node was given for the user under this ticket, if it is there and the
+    /// node is up. It is given once. Takes no memory.
+    pub fn take_outcome(&mut self, node: NodeId, user: Name, ticket: Ticket) -> Option<Outcome<A>>
+        ensures outcome { result ≡ spec.outcome_at self.old node (record { user = user; ticket = ticket }) }
+        ensures world { self.new ≡ spec.without_outcome_at self.old node (record { user = user; ticket = ticket }) }
+    {
+        take_outcome(
+            &mut self.hosts,
+            &mut self.operations,
+            node,
+            CommandId::new(user, ticket),
+        )
+    }
+
+    /// What a node has performed: each command once, with its slot. None where there is no such node, or it has stopped
+    /// for want of memory.
+    pub fn performed(&self, node: NodeId) -> Option<&[(Slot, Command<A>)]>
+        ensures value { IfSome result (λ performed. spec.performed_by self.now.service node ≡ Some performed.now) }
+        ensures up { is_up (log_of node self.now.service.network.logs) ≡ true → is_some result ≡ true }
+    {
+        self.hosts.performed(node)
+    }
+}
+
+/// The nodes as they begin, in the order of their numbers.
+fn begin<A: Allocator + Copy>(alloc: A, config: &Config<A>) -> Result<Vec<Host<A>, A>, Memory>
+    requires window { (1 ≤ config.now.window) × (config.now.window ≤ 1000) }
+    ensures { IfOk result (λ hosts. hosts.items ≡ new_hosts (opening_of config.now) 1 config.now.cluster) }
+{
+    let mut hosts = Vec::new(alloc);
+    for place in 0..config.cluster.get() {
+        let Some(me) = NodeId::new(place + 1) else {
+            unreachable!();
+        };
+        hosts.push(begin_one(alloc, config, me)?)?;
+    }
+    Ok(hosts)
+}
+
+/// A node as it begins.
+fn begin_one<A: Allocator + Copy>(
+    alloc: A,
+    config: &Config<A>,
+    me: NodeId,
+) -> Result<Host<A>, Memory>
+    requires window { (1 ≤ config.now.window) × (config.now.window ≤ 1000) }
+    requires its { in_cluster config.now.cluster me ≡ true }
+    ensures { IfOk result (λ host. host ≡ new_host (opening_of config.now) me) }
+{
+    match Node::new(
+        alloc,
+        me,
+        config.cluster,
+        config.window,
+        config.accounts.names(),
+        config.limits,
+    )? {
+        Some(node) => Ok(Host::new(node)),
+        None => unreachable!(),
+    }
+}
