@@ -31,6 +31,10 @@ pub mod Fit
 pub mod Reached
 pub mod Later
 pub mod Arrivals
+pub mod Blocks
+pub mod Searching
+pub mod Nexts
+pub mod Settled
 pub mod AnswersStay
 pub mod Hosting
 pub mod HostList

@@ -12,4 +12,6 @@ pub mod Connections
 pub mod Served
 pub mod Interrupted
 pub mod Kept
+pub mod Scheduling
+pub mod Settling
 pub mod Examples

@@ -1,42 +1,42 @@
-//! The nodes of a service, and the messages between them.
-ghost use Rattle.std.specs.Prelude.{◌≡◌, ◌+◌, ℕ, [], true, false, Some, is_some, slice_get, IfOk, OnOk, OnErr, IfSome};
+//! The nodes of a service, the messages between them, and which of these may arrive.
+ghost use Rattle.std.specs.Prelude.{◌≡◌, ◌+◌, ◌^◌, ◌<◌, ◌≤◌, [], true, false, ℕ, length, Some, is_some, slice_get, drop, IfOk, OnOk, OnErr, IfSome};
+ghost use Rattle.std.specs.List.{position};
+ghost use Rattle.std.specs.Option.{option_map};
 ghost use Rattle.std.specs.Ordering.{is_eq};
 ghost use Rattle.maildrop.specs.CommandId.{CommandId, compare_ids};
 ghost use Rattle.node.specs.declared.input.Input.TheVariants.{Crash};
-ghost use Rattle.world.specs.Hosts.{network_of, HasAnswerAt, IsArrivalCut, ticket_at, can_count, counted};
+ghost use Rattle.world.specs.Hosts.{network_of, HasAnswerAt, IsArrivalCut, ticket_at};
 ghost use Rattle.world.specs.Messages.{is_up, log_of, takes, arrives};
-ghost use Rattle.world.specs.Worlds.{answer_at, performed_in};
+ghost use Rattle.world.specs.Scheduling.{reach, can_arrive, IsQuiet};
+ghost use Rattle.world.specs.Worlds.{answer_at, last_position, performed_in};
 ghost use Rattle.world.specs.declared.sent.Sent.{Sent};
 
 use crate::host::Host;
+use crate::index::{Index, block_end, block_start, pass_over, refresh, take_in};
+use crate::nodes::Nodes;
 use crate::sent::Sent;
-use crate::sent_messages::{SentMessages, arriving};
 use ballot::{Memory, NodeId, Slot};
 use maildrop::{Command, CommandId, Outcome, Ticket};
 use node::Input;
 use std::alloc::{Allocator, Global};
 use std::marker::Model;
 
-/// The nodes, in the order of their numbers, and all messages that they sent.
+/// The nodes, in the order of their numbers, and all messages that they sent, with an index of these.
 #[derive(Drop)]
 pub(crate) struct Hosts<A: Allocator + Copy = Global> {
-    hosts: Vec<Host<A>, A>,
-    sent: SentMessages<A>,
+    nodes: Nodes<A>,
+    index: Index<A>,
 }
 
 impl<A: Allocator + Copy> Model for Hosts<A> {
-    ghost use Rattle.world.specs.Hosts.{Hosts};
+    ghost use Rattle.world.specs.Hosts.{Hosts, network_of};
+    ghost use Rattle.world.specs.Scheduling.{AreFewest};
 
     ghost Value = { Hosts A };
 
-    ghost view = { λ h. record { hosts = h.hosts.items; sent = h.sent } };
-}
+    ghost view = { λ h. h.nodes };
 
-/// Where a node stands among the nodes.
-fn place_of(node: NodeId) -> usize
-    ensures { result + 1 ≡ node }
-{
-    usize::from(node.get()) - 1
+    ghost invariant = { λ h. AreFewest (network_of h.nodes) h.index.items };
 }
 
 impl<A: Allocator + Copy> Hosts<A> {
@@ -45,8 +45,8 @@ impl<A: Allocator + Copy> Hosts<A> {
         ensures { result ≡ record { hosts = hosts.items; sent = [] } }
     {
         Hosts {
-            hosts,
-            sent: SentMessages::new(alloc),
+            nodes: Nodes::new(alloc, hosts),
+            index: Vec::new(alloc),
         }
     }
 
@@ -54,17 +54,14 @@ impl<A: Allocator + Copy> Hosts<A> {
     pub(crate) fn sent(&self) -> &[Sent<A>]
         ensures { result.now ≡ self.now.sent }
     {
-        self.sent.get()
+        self.nodes.sent()
     }
 
     /// Whether there is such a node, and it takes inputs.
     pub(crate) fn is_up(&self, node: NodeId) -> bool
         ensures { result ≡ is_up (log_of node (network_of self.now).logs) }
     {
-        match self.hosts.get(place_of(node)) {
-            Some(host) => host.is_up(),
-            None => false,
-        }
+        self.nodes.is_up(node)
     }
 
     /// A node takes an input, and what that brings is sent. Gives the ticket of a `Submit`. Where the node isn't there,
@@ -75,10 +72,13 @@ impl<A: Allocator + Copy> Hosts<A> {
         ensures err { OnErr result (network_of self.new ≡ takes (network_of self.old) node Crash) }
         ensures answers { (n : ℕ) (id : CommandId) → HasAnswerAt n id self.old → HasAnswerAt n id self.new }
     {
-        let Some(host) = self.hosts.get_mut(place_of(node)) else {
-            return Ok(None);
-        };
-        host.take_if_up(&mut self.sent, input)
+        let was_up = self.nodes.is_up(node);
+        let taken = self.nodes.take(node, input);
+        take_in(&self.nodes, &mut self.index);
+        if was_up && !self.nodes.is_up(node) {
+            pass_over(&self.nodes, &mut self.index);
+        }
+        taken
     }
 
     /// A node stops, for good. Where it isn't there, or isn't up, nothing happens.
@@ -96,42 +96,79 @@ impl<A: Allocator + Copy> Hosts<A> {
         ensures err { OnErr result (IsArrivalCut (network_of self.old) (network_of self.new) (slice_get self.old.sent which)) }
         ensures answers { (n : ℕ) (id : CommandId) → HasAnswerAt n id self.old → HasAnswerAt n id self.new }
     {
-        let Some(message) = self.sent.message(which) else {
-            return Ok(());
-        };
-        let to = message.envelope.to;
-        if !self.is_up(to) {
-            return Ok(());
+        let arrived = self.nodes.arrive(which);
+        refresh(&self.nodes, &mut self.index, which);
+        take_in(&self.nodes, &mut self.index);
+        if arrived.is_err() {
+            pass_over(&self.nodes, &mut self.index);
         }
-        match arriving(message) {
-            Ok(envelope) => self.receive(which, to, Input::Arrive(envelope)),
-            Err(error) => {
-                self.crash(to);
-                Err(error)
-            }
+        arrived
+    }
+
+    /// Whether the message at this place has arrived fewer times than this, and its addressee is up.
+    fn may_arrive(&self, place: usize, copies: u64) -> bool
+        requires { place < length self.now.sent }
+        ensures { (s : Sent A) → slice_get self.now.sent place ≡ Some s → result ≡ can_arrive (network_of self.now) copies s }
+    {
+        let message = &self.nodes.sent()[place];
+        message.arrived < copies && self.nodes.is_up(message.envelope.to)
+    }
+
+    /// Whether the index says that no message of the block of this place can arrive.
+    fn is_quiet(&self, place: usize, copies: u64) -> bool
+        ensures place { result ≡ true → place < 2 ^ 63 }
+        ensures quiet { result ≡ true → (from to : ℕ) → place ≤ from + reach place → to ≤ place + reach place + 1 → IsQuiet (network_of self.now) copies from to }
+    {
+        match self.index.get(place) {
+            Some(fewest) => copies <= *fewest,
+            None => false,
         }
     }
 
-    /// A message that arrives is an input of its addressee, and is counted. After `Memory` the addressee has crashed.
-    fn receive(&mut self, which: usize, to: NodeId, input: Input<A>) -> Result<(), Memory>
-        requires { (s : Sent A) × (slice_get self.old.sent which ≡ Some s) × (can_count s ≡ true) }
-        ensures ok { OnOk result (network_of self.new ≡ takes (counted which (network_of self.old)) to input) }
-        ensures err { OnErr result (network_of self.new ≡ takes (network_of self.old) to Crash) }
-        ensures answers { (n : ℕ) (id : CommandId) → HasAnswerAt n id self.old → HasAnswerAt n id self.new }
+    /// The first place from this one on at which a message stands that has arrived fewer times than this, and whose
+    /// addressee is up.
+    pub(crate) fn first_to_arrive(&self, from: usize, copies: u64) -> Option<usize>
+        ensures value { result ≡ option_map (λ k. from + k) (position (can_arrive (network_of self.now) copies) (drop from self.now.sent)) }
+        ensures possible { IfSome result (λ which. (s : Sent A) × (slice_get self.now.sent which ≡ Some s) × (is_up (log_of s.envelope.to (network_of self.now).logs) ≡ true)) }
     {
-        let _ = self.take(to, input)?;
-        self.sent.count_arrival(which);
-        Ok(())
+        let mut place = from;
+        while place < self.nodes.sent().len() {
+            if self.is_quiet(place, copies) {
+                place = block_end(place);
+            } else if self.may_arrive(place, copies) {
+                return Some(place);
+            } else {
+                place += 1;
+            }
+        }
+        None
+    }
+
+    /// The last place from this one on at which a message stands that has arrived fewer times than this, and whose
+    /// addressee is up.
+    pub(crate) fn last_to_arrive(&self, from: usize, copies: u64) -> Option<usize>
+        ensures value { result ≡ option_map (λ k. from + k) (last_position (can_arrive (network_of self.now) copies) (drop from self.now.sent)) }
+        ensures possible { IfSome result (λ which. (s : Sent A) × (slice_get self.now.sent which ≡ Some s) × (is_up (log_of s.envelope.to (network_of self.now).logs) ≡ true)) }
+    {
+        let mut end = self.nodes.sent().len();
+        while from < end {
+            let place = end - 1;
+            if self.is_quiet(place, copies) {
+                end = block_start(place);
+            } else if self.may_arrive(place, copies) {
+                return Some(place);
+            } else {
+                end = place;
+            }
+        }
+        None
     }
 
     /// Whether the answer to a command is there, at a node that is up.
     pub(crate) fn has_answer(&self, node: NodeId, id: CommandId) -> bool
         ensures { HasAnswerAt node id self.now → result ≡ is_some (answer_at (log_of node (network_of self.now).logs) id) }
     {
-        match self.hosts.get(place_of(node)) {
-            Some(host) => host.has_answer(id),
-            None => false,
-        }
+        self.nodes.has_answer(node, id)
     }
 
     /// The answer to a command, if it is there, at a node that is up. It is given once. Takes no memory.
@@ -140,10 +177,7 @@ impl<A: Allocator + Copy> Hosts<A> {
         ensures network { network_of self.new ≡ network_of self.old }
         ensures others { (n : ℕ) (other : CommandId) → is_eq (compare_ids id other) ≡ false → HasAnswerAt n other self.old → HasAnswerAt n other self.new }
     {
-        let Some(host) = self.hosts.get_mut(place_of(node)) else {
-            return None;
-        };
-        host.take_answer(id)
+        self.nodes.take_answer(node, id)
     }
 
     /// What a node has performed: each command once, with its slot. None where there is no such node, or it has stopped
@@ -152,9 +186,6 @@ impl<A: Allocator + Copy> Hosts<A> {
         ensures value { IfSome result (λ performed. performed_in (log_of node (network_of self.now).logs) ≡ Some performed.now) }
         ensures up { is_up (log_of node (network_of self.now).logs) ≡ true → is_some result ≡ true }
     {
-        match self.hosts.get(place_of(node)) {
-            Some(host) => host.performed(),
-            None => None,
-        }
+        self.nodes.performed(node)
     }
 }

@@ -1,7 +1,7 @@
 use Rattle.std.proofs.Common.{◌∙◌, ap}
 use Rattle.world.specs.Hosts.{Hosts, network_of, logs_of, counted}
 use Rattle.world.proofs.HostList.{the_network, still_counts, takes_counted}
-use Rattle.world.proofs.hosts.Hosts.receive.Goals as goal
+use Rattle.world.proofs.nodes.Nodes.receive.Goals as goal
 
 pub count_arrival-requires : goal.count_arrival-requires
 count_arrival-requires g c =

@@ -1,5 +1,5 @@
 use Rattle.world.proofs.HostList.{got, got_none, found_log, no_log, performed_at}
-use Rattle.world.proofs.hosts.Hosts.performed.Goals as goal
+use Rattle.world.proofs.nodes.Nodes.performed.Goals as goal
 
 pub returns-in-Some-clause-value : goal.returns-in-Some-clause-value
 returns-in-Some-clause-value g c =

@@ -1,7 +1,7 @@
 use Rattle.std.proofs.Common.{◌∙◌, ap, sym}
 use Rattle.world.specs.Messages.{is_up}
 use Rattle.world.proofs.HostList.{got, got_none, found_log, no_log}
-use Rattle.world.proofs.hosts.Hosts.is_up.Goals as goal
+use Rattle.world.proofs.nodes.Nodes.is_up.Goals as goal
 
 pub returns-in-Some : goal.returns-in-Some
 returns-in-Some g c =

@@ -1,0 +1,5 @@
+use Rattle.world.specs.Scheduling.{NoneAnswered}
+use Rattle.world.proofs.next.next_answer.Given as goal
+
+abbrev pub invariant-loop-place : goal.invariant-loop-place
+invariant-loop-place g l = NoneAnswered l.hosts l.connections.entries l.place
