@@ -18,7 +18,7 @@ use Rattle.world.specs.Messages.{log_of}
 use Rattle.world.specs.Projection.{own_commands, alone_bytes}
 use Rattle.world.specs.Refusals.{refusal_of, step_refusal}
 use Rattle.world.specs.Services.{Happening, Occurs, Lost, Service, run_of}
-use Rattle.world.specs.Worlds.{World, new_world, stepped, outcome_left, without_outcome, last_ticket, next_oldest, next_newest, settled}
+use Rattle.world.specs.Worlds.{World, new_world, stepped, outcome_at, outcome_left, without_outcome, last_ticket, next_oldest, next_newest, settled}
 use Rattle.world.specs.declared.config.Config.{Config}
 use Rattle.world.specs.declared.event.Event.{Event}
 use Rattle.world.specs.declared.event.Event.TheVariants.{Connect, Line, Hangup, Collect, Mail, Break, Arrive, Tick, Campaign, Crash}
@@ -131,6 +131,9 @@ module _ (A : Type 0) (limits : Limits) where
   connected_twice : refusal_of (run_of cfg connected) connects ≡ Some SessionExists
   connected_twice = refl
 
+  connect_at_a_crashed_node : refusal_of (run_of cfg (Occurs (Crash 1) ∷ [])) connects ≡ Some Down
+  connect_at_a_crashed_node = refl
+
   unknown_session : refusal_of (run_of cfg connected) (Line 9 (Whole (codes "NOOP"))) ≡ Some NoSession
   unknown_session = refl
 
@@ -186,6 +189,12 @@ module _ (A : Type 0) (limits : Limits) where
 
   taken_once : outcome_left (without_outcome broken of_break) of_break ≡ None
   taken_once = refl
+
+  taken_at_its_node : outcome_at broken 1 of_break ≡ Some Done
+  taken_at_its_node = refl
+
+  nothing_at_another : outcome_at broken 2 of_break ≡ None
+  nothing_at_another = refl
 
   break_pending : outcome_left (stepped_by (Break 1 alice ∷ [])) of_break ≡ None
   break_pending = refl

@@ -5,7 +5,8 @@ use Rattle.ballot.specs.declared.message.Envelope.{Envelope}
 use Rattle.maildrop.specs.declared.command.Command.{Command}
 use Rattle.maildrop.specs.declared.op.Op.{Op}
 use Rattle.maildrop.specs.Same.{identity_of}
-use Rattle.node.specs.Replay.{sends_of, is_crash}
+use Rattle.maildrop.specs.Ticket.{Ticket}
+use Rattle.node.specs.Replay.{sends_of, is_crash, last_ticket}
 use Rattle.node.specs.Nodes.{logged}
 use Rattle.node.specs.Submits.{IsSubmitted}
 use Rattle.node.specs.declared.input.Input.{Input}
@@ -29,6 +30,10 @@ pub data NodeEvent (A : Type 0) : Type 0 where
   Crashes : (node : ℕ) → NodeEvent A
 
 module _ {A : Type 0} where
+  -- the ticket that a node with this log gave last to the user
+  abbrev pub last_ticket_of : NodeLog A → List ℕ → Option Ticket
+  last_ticket_of log user = last_ticket log.opening.me user log.inputs
+
   -- the log of the node, if there is such a node
   abbrev pub log_of : ℕ → List (NodeLog A) → Option (NodeLog A)
   log_of zero logs = None

@@ -8,10 +8,10 @@ use Rattle.maildrop.specs.Ticket.{Ticket}
 use Rattle.maildrop.specs.declared.command.Command.{Command}
 use Rattle.maildrop.specs.declared.outcome.Outcome.{Outcome}
 use Rattle.node.specs.Nodes.{answered}
-use Rattle.node.specs.Replay.{replayed, submits_of}
+use Rattle.node.specs.Replay.{replayed}
 use Rattle.node.specs.declared.log.NodeLog.{NodeLog}
 use Rattle.world.specs.Clients.{Standing, Waits, Client}
-use Rattle.world.specs.Messages.{log_of, is_up}
+use Rattle.world.specs.Messages.{log_of, is_up, last_ticket_of}
 use Rattle.world.specs.Services.{Service, Happening, next_id, new_service, occurs, run_of}
 use Rattle.world.specs.declared.config.Config.{Config}
 use Rattle.world.specs.declared.event.Event.{Event}
@@ -91,12 +91,9 @@ module _ {A : Type 0} where
   abbrev pub performed_by : Service A → ℕ → Option (List (ℕ × Command A))
   performed_by w node = performed_in (log_of node w.network.logs)
 
-  abbrev pub ticket_after : NodeLog A → List ℕ → ℕ → Option Ticket
-  ticket_after log user count = if count == 0 then None else Some (record { node = log.opening.me; seq = count })
-
   abbrev pub last_ticket_in : Option (NodeLog A) → List ℕ → Option Ticket
   last_ticket_in None user = None
-  last_ticket_in (Some log) user = ticket_after log user (submits_of user log.inputs)
+  last_ticket_in (Some log) user = last_ticket_of log user
 
   -- the ticket that a node gave last to the user
   abbrev pub last_ticket : Service A → ℕ → List ℕ → Option Ticket

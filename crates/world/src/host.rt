@@ -6,12 +6,12 @@ ghost use Rattle.node.specs.Nodes.{logged};
 ghost use Rattle.node.specs.Replay.{replayed, sends_of, ticket_of};
 ghost use Rattle.node.specs.declared.input.Input.TheVariants.{Crash};
 ghost use Rattle.world.specs.Hosts.{HasAnswer, log_after, sent_after, ticket_at};
-ghost use Rattle.world.specs.Messages.{is_up, newly_sent};
+ghost use Rattle.world.specs.Messages.{is_up, newly_sent, last_ticket_of};
 ghost use Rattle.world.specs.Worlds.{answer_at};
 
 use crate::sent_messages::SentMessages;
 use ballot::{Memory, Slot};
-use maildrop::{Command, CommandId, Outcome, Ticket};
+use maildrop::{Command, CommandId, Name, Outcome, Ticket};
 use node::{Input, Node, Stopped};
 use std::alloc::{Allocator, Global};
 use std::marker::Model;
@@ -133,6 +133,22 @@ impl<A: Allocator + Copy> Host<A> {
         match self.node.stopped() {
             None => Some(self.node.performed()),
             Some(Stopped::Crashed) => Some(self.node.performed()),
+            Some(_) => None,
+        }
+    }
+
+    /// The ticket that it gave last to the user, if it has given one. None where it has stopped for want of
+    /// memory or tickets.
+    pub(crate) fn last_ticket(&self, user: Name) -> Option<Ticket>
+        ensures value { IfSome result (λ ticket. last_ticket_of self.now.log user ≡ Some ticket) }
+        ensures up { is_up (Some self.now.log) ≡ true → result ≡ last_ticket_of self.now.log user }
+    {
+        if self.unsent {
+            return None;
+        }
+        match self.node.stopped() {
+            None => self.node.last_ticket(user),
+            Some(Stopped::Crashed) => self.node.last_ticket(user),
             Some(_) => None,
         }
     }

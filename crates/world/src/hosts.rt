@@ -8,7 +8,7 @@ ghost use Rattle.node.specs.declared.input.Input.TheVariants.{Crash};
 ghost use Rattle.world.specs.Hosts.{network_of, HasAnswerAt, IsArrivalCut, ticket_at};
 ghost use Rattle.world.specs.Messages.{is_up, log_of, takes, arrives};
 ghost use Rattle.world.specs.Scheduling.{reach, can_arrive, IsQuiet};
-ghost use Rattle.world.specs.Worlds.{answer_at, last_position, performed_in};
+ghost use Rattle.world.specs.Worlds.{answer_at, last_position, last_ticket_in, performed_in};
 ghost use Rattle.world.specs.declared.sent.Sent.{Sent};
 
 use crate::host::Host;
@@ -16,7 +16,7 @@ use crate::index::{Index, block_end, block_start, pass_over, refresh, take_in};
 use crate::nodes::Nodes;
 use crate::sent::Sent;
 use ballot::{Memory, NodeId, Slot};
-use maildrop::{Command, CommandId, Outcome, Ticket};
+use maildrop::{Command, CommandId, Name, Outcome, Ticket};
 use node::Input;
 use std::alloc::{Allocator, Global};
 use std::marker::Model;
@@ -187,5 +187,14 @@ impl<A: Allocator + Copy> Hosts<A> {
         ensures up { is_up (log_of node (network_of self.now).logs) ≡ true → is_some result ≡ true }
     {
         self.nodes.performed(node)
+    }
+
+    /// The ticket that a node gave last to the user, if it has given one. None where there is no such node, or it has
+    /// stopped for want of memory.
+    pub(crate) fn last_ticket(&self, node: NodeId, user: Name) -> Option<Ticket>
+        ensures value { IfSome result (λ ticket. last_ticket_in (log_of node (network_of self.now).logs) user ≡ Some ticket) }
+        ensures up { is_up (log_of node (network_of self.now).logs) ≡ true → result ≡ last_ticket_in (log_of node (network_of self.now).logs) user }
+    {
+        self.nodes.last_ticket(node, user)
     }
 }

@@ -5,14 +5,14 @@ ghost use Rattle.maildrop.specs.CommandId.{CommandId, compare_ids};
 ghost use Rattle.node.specs.declared.input.Input.TheVariants.{Crash};
 ghost use Rattle.world.specs.Hosts.{network_of, HasAnswerAt, IsArrivalCut, ticket_at, can_count, counted};
 ghost use Rattle.world.specs.Messages.{is_up, log_of, takes, arrives};
-ghost use Rattle.world.specs.Worlds.{answer_at, performed_in};
+ghost use Rattle.world.specs.Worlds.{answer_at, last_ticket_in, performed_in};
 ghost use Rattle.world.specs.declared.sent.Sent.{Sent};
 
 use crate::host::Host;
 use crate::sent::Sent;
 use crate::sent_messages::{SentMessages, arriving};
 use ballot::{Memory, NodeId, Slot};
-use maildrop::{Command, CommandId, Outcome, Ticket};
+use maildrop::{Command, CommandId, Name, Outcome, Ticket};
 use node::Input;
 use std::alloc::{Allocator, Global};
 use std::marker::Model;
@@ -154,6 +154,18 @@ impl<A: Allocator + Copy> Nodes<A> {
     {
         match self.hosts.get(place_of(node)) {
             Some(host) => host.performed(),
+            None => None,
+        }
+    }
+
+    /// The ticket that a node gave last to the user, if it has given one. None where there is no such node, or it has
+    /// stopped for want of memory.
+    pub(crate) fn last_ticket(&self, node: NodeId, user: Name) -> Option<Ticket>
+        ensures value { IfSome result (λ ticket. last_ticket_in (log_of node (network_of self.now).logs) user ≡ Some ticket) }
+        ensures up { is_up (log_of node (network_of self.now).logs) ≡ true → result ≡ last_ticket_in (log_of node (network_of self.now).logs) user }
+    {
+        match self.hosts.get(place_of(node)) {
+            Some(host) => host.last_ticket(user),
             None => None,
         }
     }

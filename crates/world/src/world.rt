@@ -138,6 +138,15 @@ impl<A: Allocator + Copy> World<A> {
     {
         self.hosts.performed(node)
     }
+
+    /// The ticket that a node gave last to the user, if it has given one. None where there is no such node, or it has
+    /// stopped for want of memory. Takes no memory.
+    pub fn last_ticket(&self, node: NodeId, user: Name) -> Option<Ticket>
+        ensures value { IfSome result (λ ticket. spec.last_ticket self.now.service node user ≡ Some ticket) }
+        ensures up { is_up (log_of node self.now.service.network.logs) ≡ true → result ≡ spec.last_ticket self.now.service node user }
+    {
+        self.hosts.last_ticket(node, user)
+    }
 }
 
 /// The nodes as they begin, in the order of their numbers.
