@@ -6,16 +6,17 @@ ghost use Rattle.node.specs.Nodes.{opened};
 ghost use Rattle.cluster.specs.Members.{opening_of, IsLogOf, IsStatusOf};
 
 use crate::desk::NodeDesk;
-use crate::handle::{BATCH, NodeHandle};
+use crate::handle::NodeHandle;
 use crate::hub::{Hub, Inbox};
 use crate::link::{InboxLink, Link};
 use crate::member::Member;
+use crate::outbox::Outbox;
 use crate::setup::{Deployment, Setup};
 use crate::start_error::StartError;
 use crate::status::Status;
 use ballot::{Envelope, Memory, NodeId};
 use maildrop::Command;
-use node::{Envelopes, Input, Node, NodeLog};
+use node::{Input, Node, NodeLog};
 use std::alloc::Global;
 use std::sync::{Arc, Wait};
 use std::thread;
@@ -40,7 +41,7 @@ fn run_node<D: Deployment, R: Wait, L: Link>(
     rt: &R,
     node: &NodeHandle<D, L>,
     inbox: &Inbox,
-    mut sends: Vec<Envelopes>,
+    mut sends: Outbox,
 ) {
     for _ in rt.forever() {
         let Ok(envelope) = inbox.recv(rt) else {
@@ -155,7 +156,7 @@ impl<
         let node = NodeHandle::new(self.alloc, me, member, link)?;
         let theirs = node.share()?;
         let inbox = self.hub.open(&self.rt, self.alloc, me)?;
-        let sends = Vec::with_capacity(self.alloc, BATCH)?;
+        let sends = node.new_outbox();
         self.threads.reserve(1)?;
         self.logs.reserve(self.nodes.len() + 1)?;
         self.nodes.push(node)?;

@@ -5,24 +5,27 @@ ghost use Rattle.cluster.specs.Members.{IsAnswered, IsLogOf, IsStatusOf};
 use crate::hub::Inbox;
 use crate::link::Link;
 use crate::member::Member;
+use crate::outbox::Outbox;
 use crate::setup::Deployment;
 use crate::status::Status;
+use crate::waiters::{Groups, Waiters};
 use ballot::{Envelope, Memory, NodeId};
 use maildrop::{Command, Name, Op, Outcome, Ticket};
-use node::{Envelopes, Input, NodeLog, Outputs};
+use node::{Input, NodeLog, Outputs};
 use std::alloc::Global;
-use std::sync::{Arc, Condvar, Mutex, Wait};
+use std::sync::{Arc, Mutex, Wait};
 
 /// How many envelopes a node hears at most under one lock, so that others get it in between.
-pub(crate) const BATCH: usize = 32;
+const BATCH: usize = 32;
 
 /// A node under its lock, who waits for its answers, and the link that it sends by. Once the cluster has ended there is
 /// no node any more.
 #[derive(Drop)]
 struct Shared<D: Deployment, L: Link> {
     member: Mutex<Option<Member<D>>>,
-    answered: Condvar,
+    waiters: Waiters,
     link: L,
+    alloc: Global,
 }
 
 /// A node's number, with what its threads share. Each of its calls is one step under the lock, or a look; what the step
@@ -36,10 +39,11 @@ pub(crate) struct NodeHandle<D: Deployment, L: Link> {
 /// What steps under the lock gave.
 #[derive(Drop)]
 struct Stepped {
-    /// What the last one gave; nothing where the node has stopped, or is no more.
-    outputs: Option<Outputs>,
-    /// Whether they may have brought what someone waits for: an answer, or the end of the node.
-    wakes: bool,
+    /// The ticket of the command that the first one submits, if it does.
+    ticket: Option<Ticket>,
+    sends: Outbox,
+    /// Those for whom they may have brought what they wait for: an answer, or the end of the node.
+    wakes: Groups,
 }
 
 impl<D: Deployment, L: Link + Drop> NodeHandle<D, L> {
@@ -48,8 +52,9 @@ impl<D: Deployment, L: Link + Drop> NodeHandle<D, L> {
     {
         let shared = Shared {
             member: Mutex::new(Some(member)),
-            answered: Condvar::new(),
+            waiters: Waiters::new(),
             link,
+            alloc,
         };
         let shared = Arc::new(alloc, shared)?;
         Ok(NodeHandle { me, shared })
@@ -86,58 +91,56 @@ impl<D: Deployment, L: Link> NodeHandle<D, L> {
     pub(crate) fn step<R: Wait>(&self, rt: &R, input: Input) -> Option<Ticket>
         ensures { IfSome result (λ ticket. ticket.node ≡ self.now.me) }
     {
-        let stepped = self.step_locked(rt, input);
-        if stepped.wakes {
-            self.shared.answered.notify_all();
-        }
-        let outputs = stepped.outputs?;
-        self.send(outputs.sends);
-        outputs.ticket
+        let Stepped {
+            ticket,
+            mut sends,
+            wakes,
+        } = self.step_locked(rt, input);
+        self.shared.waiters.wake(wakes);
+        sends.send(&self.shared.link);
+        ticket
     }
 
-    #[tactic(auto, using(crate::proofs::Tickets::ticket_of_its_node))]
     fn step_locked<R: Wait>(&self, rt: &R, input: Input) -> Stepped
-        ensures { IfSome result.outputs (λ outputs. IfSome outputs.ticket (λ ticket. ticket.node ≡ self.now.me)) }
+        ensures { IfSome result.ticket (λ ticket. ticket.node ≡ self.now.me) }
     {
+        let mut sends = self.new_outbox();
         let mut guard = self.shared.member.lock(rt);
         match &mut *guard {
             Some(member) if member.me() == self.me => {
                 let performed = member.performed();
-                let outputs = member.step(input).ok();
+                let ticket = step_one(member, input, &mut sends);
                 Stepped {
-                    outputs,
-                    wakes: !member.is_up() || member.has_performed_own(performed),
+                    ticket,
+                    sends,
+                    wakes: woken_by(member, performed),
                 }
             }
             _ => Stepped {
-                outputs: None,
-                wakes: false,
+                ticket: None,
+                sends,
+                wakes: Groups::NONE,
             },
         }
     }
 
-    fn send(&self, sends: Envelopes) {
-        for envelope in sends.into_vec() {
-            self.shared.link.send(envelope);
-        }
+    /// An outbox for what the node sends.
+    pub(crate) fn new_outbox(&self) -> Outbox {
+        Outbox::new(self.shared.alloc, self.shared.link.carries_own())
     }
 
     /// Hears an envelope, and those that are in the inbox behind it, in one step each. Gives whether the node is still
-    /// up. The list is empty, and is empty again afterwards.
+    /// up. The outbox is empty, and is empty again afterwards.
     pub(crate) fn hear<R: Wait>(
         &self,
         rt: &R,
         first: Envelope<Command>,
         inbox: &Inbox,
-        sends: &mut Vec<Envelopes>,
+        sends: &mut Outbox,
     ) -> bool {
         let (is_up, wakes) = self.hear_locked(rt, first, inbox, sends);
-        if wakes {
-            self.shared.answered.notify_all();
-        }
-        for envelopes in sends.drain(..) {
-            self.send(envelopes);
-        }
+        self.shared.waiters.wake(wakes);
+        sends.send(&self.shared.link);
         is_up
     }
 
@@ -146,23 +149,23 @@ impl<D: Deployment, L: Link> NodeHandle<D, L> {
         rt: &R,
         first: Envelope<Command>,
         inbox: &Inbox,
-        sends: &mut Vec<Envelopes>,
-    ) -> (bool, bool) {
+        sends: &mut Outbox,
+    ) -> (bool, Groups) {
         let mut guard = self.shared.member.lock(rt);
         let Some(member) = &mut *guard else {
-            return (false, false);
+            return (false, Groups::NONE);
         };
         let performed = member.performed();
         let mut next = first;
         for _ in 1..BATCH {
-            hear_one(member, next, sends);
+            let _none = step_one(member, Input::Arrive(next), sends);
             match inbox.try_recv(rt) {
                 Ok(envelope) => next = envelope,
-                Err(_) => return heard(member, performed),
+                Err(_) => return (member.is_up(), woken_by(member, performed)),
             }
         }
-        hear_one(member, next, sends);
-        heard(member, performed)
+        let _none = step_one(member, Input::Arrive(next), sends);
+        (member.is_up(), woken_by(member, performed))
     }
 
     /// Waits until the answer to a command is there. Gives nothing where the node has stopped.
@@ -180,7 +183,7 @@ impl<D: Deployment, L: Link> NodeHandle<D, L> {
             if let Some(outcome) = member.take_answer(user, ticket) {
                 return Some(outcome);
             }
-            guard = self.shared.answered.wait(rt, guard);
+            guard = self.shared.waiters.wait(rt, &user, guard);
         }
         unreachable!()
     }
@@ -191,7 +194,7 @@ impl<D: Deployment, L: Link> NodeHandle<D, L> {
             Some(member) => member.crash(),
             None => false,
         };
-        self.shared.answered.notify_all();
+        self.shared.waiters.wake(Groups::ALL);
         was_up
     }
 
@@ -210,25 +213,51 @@ impl<D: Deployment, L: Link> NodeHandle<D, L> {
         ensures { IfSome result (λ log. IsLogOf D.setup log.opening.me log) }
     {
         let member = self.shared.member.lock(rt).take();
-        self.shared.answered.notify_all();
-        Some(member?.into_log())
+        self.shared.waiters.wake(Groups::ALL);
+        match member {
+            Some(member) if member.me() == self.me => Some(member.into_log()),
+            _ => None,
+        }
     }
 }
 
-/// The node hears one envelope. A send for which there is no room is lost.
-fn hear_one<D: Deployment>(
+/// One step of a node, and then one for each envelope that it hears of its own. Gives the ticket of the command that the
+/// first one submits, if it does.
+#[tactic(auto, using(crate::proofs::Tickets::ticket_of_its_node))]
+fn step_one<D: Deployment>(
     member: &mut Member<D>,
-    envelope: Envelope<Command>,
-    sends: &mut Vec<Envelopes>,
-) {
-    if let Ok(outputs) = member.step(Input::Arrive(envelope)) {
-        let _lost = sends.push(outputs.sends);
+    input: Input,
+    sends: &mut Outbox,
+) -> Option<Ticket>
+    ensures { IfSome result (λ ticket. ticket.node ≡ member.old.log.opening.me) }
+{
+    let Outputs {
+        sends: sent,
+        ticket,
+    } = member.step(input).ok()?;
+    sends.put(sent);
+    hear_own(member, sends);
+    ticket
+}
+
+/// Steps for the envelopes that a node hears of its own, as long as there are any.
+fn hear_own<D: Deployment>(member: &mut Member<D>, sends: &mut Outbox) {
+    for _ in 0..u64::MAX {
+        let Some(envelope) = sends.next_own() else {
+            return;
+        };
+        if let Ok(heard) = member.step(Input::Arrive(envelope)) {
+            sends.put(heard.sends);
+        }
     }
 }
 
-/// Whether the node is up, and whether what it heard may have brought what someone waits for, behind so many performed
-/// commands.
-fn heard<D: Deployment>(member: &Member<D>, performed: usize) -> (bool, bool) {
-    let is_up = member.is_up();
-    (is_up, !is_up || member.has_performed_own(performed))
+/// Those for whom a node's last steps may have brought what they wait for, behind so many performed commands: an answer, or
+/// the end of the node.
+fn woken_by<D: Deployment>(member: &Member<D>, performed: usize) -> Groups {
+    if member.is_up() {
+        member.answered(performed)
+    } else {
+        Groups::ALL
+    }
 }

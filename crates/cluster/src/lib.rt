@@ -10,11 +10,13 @@ mod laws;
 mod link;
 mod member;
 mod op_kind;
+mod outbox;
 mod patience;
 mod sessions;
 mod setup;
 mod start_error;
 mod status;
+mod waiters;
 
 pub use cluster::Cluster;
 pub use desk::NodeDesk;

@@ -9,6 +9,11 @@ use std::sync::{Arc, Wait};
 /// several threads, none of which then has a node's lock.
 pub trait Link {
     fn send(&self, envelope: Envelope<Command>);
+
+    /// Whether it carries what a node sends to itself. Else the node hears that at once, while it has the lock.
+    fn carries_own(&self) -> bool {
+        true
+    }
 }
 
 /// A link to the inboxes of one cluster.
@@ -29,5 +34,9 @@ impl<R: Wait> Link for InboxLink<R> {
     /// memory.
     fn send(&self, envelope: Envelope<Command>) {
         let _lost = self.hub.deliver(&self.rt, envelope);
+    }
+
+    fn carries_own(&self) -> bool {
+        false
     }
 }

@@ -8,6 +8,7 @@ ghost use Rattle.cluster.specs.Members.{IsLogOf, IsAnswered, IsStatusOf, status_
 
 use crate::setup::Deployment;
 use crate::status::Status;
+use crate::waiters::Groups;
 use ballot::NodeId;
 use maildrop::{Name, Outcome, Ticket};
 use node::{Input, Node, NodeLog, Outputs, Stopped};
@@ -102,11 +103,16 @@ impl<D: Deployment> Member<D> {
         self.node.performed().len()
     }
 
-    /// Whether it has performed a command of its own users, which wait for it here, behind as many others.
-    pub(crate) fn has_performed_own(&self, behind: usize) -> bool {
+    /// Who waits here for the commands that it has performed, behind as many others.
+    pub(crate) fn answered(&self, behind: usize) -> Groups {
         let me = self.node.me();
-        let mut news = self.node.performed().iter().skip(behind);
-        news.any(|(_, command)| command.ticket.get().0 == me)
+        let mut groups = Groups::NONE;
+        for (_, command) in self.node.performed().get(behind..).unwrap_or_default() {
+            if command.ticket.get().0 == me {
+                groups = groups.with(&command.user);
+            }
+        }
+        groups
     }
 
     /// How the node stands.
