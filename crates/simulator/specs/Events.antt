@@ -1,0 +1,20 @@
+-- The commands of a script that are events of the service.
+use Rattle.std.specs.Prelude.{ℕ, List, Option, Some, None}
+use Rattle.script.specs.Written.{lines_of}
+use Rattle.script.specs.declared.command.Command.{Command}
+use Rattle.script.specs.declared.command.Command.TheVariants as command
+use Rattle.world.specs.declared.event.Event.{Event}
+use Rattle.world.specs.declared.event.Event.TheVariants as event
+
+module _ {A : Type 0} where
+  -- the event that a command names whole, where the greetings have this host
+  abbrev pub event_of : List ℕ → Command → Option (Event A)
+  event_of host (command.Mail node user key written) = Some (event.Mail node user (lines_of written) key)
+  event_of host (command.Break node user) = Some (event.Break node user)
+  event_of host (command.Connect session node nonce) = Some (event.Connect session node (record { nonce = nonce; host = host }))
+  event_of host (command.Line session line) = Some (event.Line session line)
+  event_of host (command.Hangup session) = Some (event.Hangup session)
+  event_of host (command.Tick node) = Some (event.Tick node)
+  event_of host (command.Campaign node) = Some (event.Campaign node)
+  event_of host (command.Crash node) = Some (event.Crash node)
+  event_of host command = None

@@ -1,0 +1,28 @@
+-- Lines that are read from a reader whose bytes are known. Only private contracts cite this.
+use Rattle.std.specs.Prelude.{◌≡◌, ℕ, ◌+◌, ◌<◌, List, length, nat_lt, Bool, Option, Some}
+use Rattle.std.specs.Io.BufRead.{take_through, drop_through}
+use Rattle.std.specs.Str.Lines.{lines}
+use Rattle.script.specs.Scripts.{Script}
+use Rattle.simulator.specs.Statuses.{fault_from}
+use Rattle.simulator.specs.declared.fault.Fault.{Fault}
+use Rattle.simulator.specs.declared.fault.Fault.TheVariants.{Line}
+
+-- the first line of the bytes was read, with its line feed, unless no byte was left
+pub record IsRead (bytes line : List ℕ) (now : Option (List ℕ)) (there : Bool) : Type 0 where
+  pub first : line ≡ take_through 10 bytes
+  pub rest : now ≡ Some (drop_through 10 bytes)
+  pub more : there ≡ nat_lt 0 (length line)
+
+-- as far as the first fault goes, these bytes, from a line and a script on, are the same as those
+pub record IsPlayed (bytes : List ℕ) (number : ℕ) (script : Script) (now : Option (List ℕ)) (later : ℕ) (script_now : Script) : Type 0 where
+  pub rest : List ℕ
+  pub known : now ≡ Some rest
+  pub same : fault_from (lines bytes) number script ≡ fault_from (lines rest) later script_now
+
+-- where this is the first line of bytes, it has no fault
+pub record IsPlayedLine (line : List ℕ) (number : ℕ) (script later : Script) : Type 0 where
+  pub same : (bytes : List ℕ) → line ≡ take_through 10 bytes → 0 < length line → fault_from (lines bytes) number script ≡ fault_from (lines (drop_through 10 bytes)) (number + 1) later
+
+-- where this is the first line of bytes, the fault is in it
+pub record IsStopAt (line : List ℕ) (number : ℕ) (script : Script) (fault : Fault) : Type 0 where
+  pub here : (bytes : List ℕ) (told : ℕ) → line ≡ take_through 10 bytes → 0 < length line → fault ≡ Line told → fault_from (lines bytes) number script ≡ Some told

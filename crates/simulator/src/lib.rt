@@ -1,0 +1,15 @@
+//! `maildropd sim`: plays a script against a whole service, and writes what comes of each line.
+#![tactic(auto)]
+
+mod events;
+mod fault;
+mod operations;
+mod play;
+mod refusal;
+mod report;
+mod run;
+mod sessions;
+mod sim;
+mod undelivered;
+
+pub use sim::sim_run;

@@ -1,0 +1,142 @@
+//! Plays a script, from a reader to a writer.
+ghost use Rattle.std.specs.Prelude.{◌≡◌, ◌≤◌, ◌⊎◌, ℕ, List, [], None, Some, OnOk, IfOk, IfErr, IfSome, is_some, true};
+ghost use Rattle.std.specs.Io.Buffered.{reader_remaining};
+ghost use Rattle.std.specs.Io.KnownBytes.{Appends};
+ghost use Rattle.std.specs.Str.Lines.{lines};
+ghost use Rattle.simulator.specs.Reading.{IsRead, IsPlayedLine, IsStopAt};
+ghost use Rattle.simulator.specs.Statuses as spec;
+
+use crate::fault::Fault;
+use crate::report::Report;
+use crate::run::Run;
+use maildrop::next_line;
+use script::ScriptFault;
+use std::alloc::Global;
+use std::io::{BufRead, BufReader, ErrorKind, Read, Write};
+
+/// From so many bytes on output is written, also where the next line is there already.
+const GATHERED: usize = 65_536;
+
+/// Writes what is still to be written. Where that fails it stays.
+fn write_out<W: Write>(writer: &mut W, report: &mut Report) -> Result<(), Fault>
+    ensures written { OnOk result (Appends (W.contents writer.old) (W.contents writer.new) report.old × (report.new ≡ [])) }
+    ensures fault { IfErr result (λ fault. fault ≡ Fault.Write) }
+{
+    if report.get().is_empty() {
+        return Ok(());
+    }
+    match writer.write_all(report.get()) {
+        Ok(()) => {
+            report.clear();
+            Ok(())
+        }
+        Err(_) => Err(Fault::Write),
+    }
+}
+
+/// Writes what is still to be written, before more input is awaited or where it is much.
+fn write_due<W: Write>(writer: &mut W, report: &mut Report, is_awaited: bool) -> Result<(), Fault>
+    ensures { IfErr result (λ fault. fault ≡ Fault.Write) }
+{
+    if is_awaited || report.get().len() >= GATHERED {
+        write_out(writer, report)
+    } else {
+        Ok(())
+    }
+}
+
+fn fault_at(number: u64, fault: ScriptFault) -> Fault
+    ensures { result ≡ spec.fault_at number fault }
+{
+    match fault {
+        ScriptFault::Memory => Fault::Memory,
+        _ => Fault::Line(number),
+    }
+}
+
+/// Reads the next line into `line`, with its line feed. Gives whether there was one.
+fn read_line<B: BufRead>(reader: &mut B, line: &mut Vec<u8>) -> Result<bool, Fault>
+    ensures known { (bytes : List ℕ) → B.remaining reader.old ≡ Some bytes → IfOk result (λ more. IsRead bytes line.new.items (B.remaining reader.new) more) }
+    ensures fault { IfErr result (λ fault. (fault ≡ Fault.Memory) ⊎ (fault ≡ Fault.Read)) }
+{
+    line.clear();
+    match reader.read_until(b'\n', line) {
+        Ok(count) => Ok(count > 0),
+        Err(error) if error.kind() == ErrorKind::OutOfMemory => Err(Fault::Memory),
+        Err(_) => Err(Fault::Read),
+    }
+}
+
+/// Plays a line of this number, which has its line feed unless it is the last.
+fn play_line(alloc: Global, run: &mut Run, number: u64, line: &[u8]) -> Result<(), Fault>
+    ensures goes_on { OnOk result (IsPlayedLine line.now number run.old.script run.new.script) }
+    ensures stops { IfErr result (λ fault. IsStopAt line.now number run.old.script fault) }
+{
+    let Some((content, _)) = next_line(line) else {
+        return Ok(());
+    };
+    match run.take_line(alloc, content) {
+        Ok(()) => Ok(()),
+        Err(fault) => Err(fault_at(number, fault)),
+    }
+}
+
+/// Plays the lines of a script. What came of them is written before more input is awaited.
+fn play_lines<R: Read, W: Write>(
+    alloc: Global,
+    run: &mut Run,
+    reader: &mut BufReader<R>,
+    writer: &mut W,
+) -> Result<(), Fault>
+    ensures sound { OnOk result ((bytes : List ℕ) → reader_remaining R.remaining reader.old ≡ Some bytes → spec.fault_from (lines bytes) 1 run.old.script ≡ None) }
+    ensures line { IfErr result (λ fault. (bytes : List ℕ) (number : ℕ) → reader_remaining R.remaining reader.old ≡ Some bytes → fault ≡ Fault.Line number → spec.fault_from (lines bytes) 1 run.old.script ≡ Some number) }
+{
+    let mut line = Vec::new(alloc);
+    for number in 1..u64::MAX {
+        write_due(writer, &mut run.report, reader.buffer().is_empty())?;
+        if !read_line(reader, &mut line)? {
+            return Ok(());
+        }
+        if let Err(fault) = play_line(alloc, run, number, line.as_slice()) {
+            return Err(fault);
+        }
+    }
+    Err(Fault::Read)
+}
+
+/// Plays a script, and writes also what came of it before a fault.
+fn run<R: Read, W: Write>(alloc: Global, reader: &mut R, writer: &mut W) -> Result<(), Fault>
+    ensures sound { OnOk result (IfSome (R.remaining reader.old) (λ input. spec.first_fault input ≡ None)) }
+    ensures line { IfErr result (λ fault. (number : ℕ) → fault ≡ Fault.Line number → IfSome (R.remaining reader.old) (λ input. spec.first_fault input ≡ Some number)) }
+{
+    let Ok(mut lines) = BufReader::new(alloc, reader) else {
+        return Err(Fault::Memory);
+    };
+    let mut run = Run::new(alloc);
+    let played = play_lines(alloc, &mut run, &mut lines, writer);
+    write_out(writer, &mut run.report)?;
+    played
+}
+
+/// Plays a script of events, from a reader, against a whole service of one to nine nodes, and writes what its sessions
+/// are told, what its Mails and Breaks are answered, which commands are refused, and what nodes have performed, to a
+/// writer. What comes of a line is written before more input is awaited. Gives the exit status: 0 at the end of the
+/// input, 1 after a fault of memory, reading or writing, 2 at a line that is none of the language, or stands where it may
+/// not. A fault is told on standard error, behind the output of what ran before.
+pub fn sim_run<H: AllocGlobal + Eprint, R: Read, W: Write>(
+    rt: &H,
+    reader: &mut R,
+    writer: &mut W,
+) -> u8
+    ensures played { result ≡ 0 → IfSome (R.remaining reader.old) (λ input. spec.first_fault input ≡ None) }
+    ensures refused { result ≡ 2 → IfSome (R.remaining reader.old) (λ input. is_some (spec.first_fault input) ≡ true) }
+    ensures statuses { result ≤ 2 }
+{
+    match run(rt.alloc(), reader, writer) {
+        Ok(()) => 0,
+        Err(fault) => {
+            let _ = eprintln!(rt; "maildropd: {fault}");
+            fault.status()
+        }
+    }
+}
