@@ -1,14 +1,16 @@
-//! The program `maildropd`: its command line, over the libraries `server` and `service`.
+//! The program `maildropd`: its command line, over the libraries `server`, `simulator` and `service`.
 #![tactic(auto)]
 
 mod arguments;
 mod ctl;
 mod lone;
 mod serve;
+mod sim;
 
 use crate::ctl::{ctl, run_ctl};
 use crate::lone::{lone, run_lone};
 use crate::serve::{run_serve, serve};
+use crate::sim::{run_sim, sim};
 use clap::error::ErrorKind;
 use clap::{Command, Error};
 use std::alloc::Global;
@@ -29,6 +31,7 @@ fn command<'a>(alloc: Global) -> Result<Command<'a>, Error> {
         .version(VERSION)
         .subcommand_required(true)
         .subcommand(lone(alloc)?)?
+        .subcommand(sim(alloc)?)?
         .subcommand(serve(alloc)?)?
         .subcommand(ctl(alloc)?)?;
     Ok(maildropd)
@@ -53,6 +56,7 @@ fn run<
     let matches = command(rt.alloc())?.try_get_matches_from(words)?;
     match matches.subcommand() {
         Some(("lone", inner)) => Ok(run_lone(rt, inner)),
+        Some(("sim", _)) => Ok(run_sim(rt)),
         Some(("serve", inner)) => Ok(run_serve(rt, inner)),
         Some(("ctl", inner)) => Ok(run_ctl(rt, inner)),
         _ => Ok(2),
