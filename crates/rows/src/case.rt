@@ -1,4 +1,4 @@
-//! A case: the options of a session, what the client sends, and what it is to get.
+//! A case: the options of a session, what the client sends, and what it is to get; or a script, and what it is to write.
 
 use maildrop::Op;
 use server::LoneOptions;
@@ -31,12 +31,16 @@ pub struct Settings {
 pub struct Case {
     pub name: String,
     pub settings: Settings,
+    /// Whether what is sent is a script, and not what the client of a lone session says.
+    pub is_script: bool,
     /// What the client sends.
     pub sent: Vec<u8>,
     /// Where it waits, in order.
     pub turns: Vec<Turn>,
     /// What it is to get.
     pub wanted: Vec<u8>,
+    /// With what the lines begin that count, where not all do.
+    pub only: Option<Vec<u8>>,
     /// The exit status that is wanted.
     pub status: u8,
     /// What is to be told on standard error.
@@ -79,9 +83,11 @@ impl Case {
         Ok(Case {
             name: name.to_string(alloc)?,
             settings: Settings::new(alloc)?,
+            is_script: false,
             sent: Vec::new(alloc),
             turns: Vec::new(alloc),
             wanted: Vec::new(alloc),
+            only: None,
             status: 0,
             told: Vec::new(alloc),
             left: None,

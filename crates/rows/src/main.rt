@@ -1,4 +1,5 @@
-//! Plays cases: POP3 sessions as text, with the replies that are wanted. Its arguments name the files of cases.
+//! Plays cases: POP3 sessions and scripts as text, with what they are to get and to write. Its arguments name the files of
+//! cases.
 #![tactic(auto)]
 
 mod case;

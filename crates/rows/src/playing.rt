@@ -1,9 +1,9 @@
-//! Plays a case by `lone_run`: with a client that awaits each reply, with one that doesn't, in pieces, and with faults of
-//! its reader and writer.
+//! Plays a case by `lone_run` or `sim_run`: with a client that awaits each reply, with one that doesn't, in pieces, and
+//! with faults of its reader and writer.
 
 use crate::case::Case;
 use crate::client::{Hasty, Patient};
-use crate::run::{AT_ONCE, BYTE_BY_BYTE, Run, Taking, Wanted, serve_lone};
+use crate::run::{AT_ONCE, BYTE_BY_BYTE, Run, Taking, Wanted, run_case};
 use std::alloc::{AllocError, Global};
 use std::cell::RefCell;
 use std::io::Read;
@@ -30,6 +30,10 @@ fn wanted_of(case: &Case) -> Wanted<'_> {
         told: case.told.as_slice(),
         replies: case.wanted.as_slice(),
         is_front: false,
+        only: match &case.only {
+            None => None,
+            Some(only) => Some(only.as_slice()),
+        },
     }
 }
 
@@ -52,7 +56,7 @@ fn played<R: Read>(
     wanted: &Wanted<'_>,
 ) -> Result<Option<String>, AllocError> {
     let taken = RefCell::new(Vec::new(alloc));
-    let run: Run<'_> = serve_lone(alloc, case, reader, &taken, taking);
+    let run: Run<'_> = run_case(alloc, case, reader, &taken, taking);
     match run.difference(alloc, wanted)? {
         None => Ok(None),
         Some(difference) => Ok(Some(format!(in alloc; "{how}: {difference}")?)),
@@ -68,7 +72,7 @@ fn patiently(alloc: Global, case: &Case) -> Result<Option<String>, AllocError> {
         taken: &taken,
         desk: None,
     };
-    let run = serve_lone(alloc, case, &mut reader, &taken, AT_ONCE);
+    let run = run_case(alloc, case, &mut reader, &taken, AT_ONCE);
     match run.difference(alloc, &wanted_of(case))? {
         None => Ok(None),
         Some(difference) => Ok(Some(format!(in alloc;
@@ -107,9 +111,10 @@ fn cut(alloc: Global, case: &Case, at: usize) -> Result<Option<String>, AllocErr
         told: b"maildropd: read failed\n",
         replies: case.wanted.as_slice(),
         is_front: true,
+        only: None,
     };
     let taken = RefCell::new(Vec::new(alloc));
-    let run = serve_lone(alloc, case, &mut reader, &taken, BYTE_BY_BYTE);
+    let run = run_case(alloc, case, &mut reader, &taken, BYTE_BY_BYTE);
     // A session that has closed reads no further.
     let is_closed = run.status == 0;
     let found = run.difference(alloc, if is_closed { &whole } else { &broken })?;
@@ -132,6 +137,7 @@ fn cramped(alloc: Global, case: &Case, room: usize) -> Result<Option<String>, Al
         told: b"maildropd: write failed\n",
         replies: front,
         is_front: false,
+        only: None,
     };
     for fails in [false, true] {
         let taking = Taking {
@@ -170,7 +176,7 @@ pub fn difference(alloc: Global, case: &Case) -> Result<Option<String>, AllocErr
     if let Some(found) = played(alloc, "whole", case, whole, AT_ONCE, &wanted)? {
         return Ok(Some(found));
     }
-    if case.status != 0 {
+    if case.status != 0 || case.only.is_some() {
         return Ok(None);
     }
     if let Some(found) = patiently(alloc, case)? {

@@ -11,9 +11,12 @@
 //! | `status`, `told` | the exit status, if it isn't 0, and a line on standard error |
 //! | `meanwhile` | what others do to the maildrop at this place: `mail LINES`, `take` or `break` |
 //! | `left` | the unique ids that the next session gets, or `locked` |
+//! | `in` | a line of a script, before which all that the lines before it write is awaited |
+//! | `out` | a line that the script writes |
+//! | `only` | what the lines begin with that count; the others may be any |
 //!
-//! `mbox`, `C`, `raw`, `S` and `told` may say how often their value stands there, as in `C x 3: NOOP`. A case with
-//! `meanwhile` or `left` is one session over a desk, with the limits of nine messages and 1,000 octets.
+//! `mbox`, `C`, `raw`, `S`, `in`, `out` and `told` may say how often their value stands there, as in `C x 3: NOOP`. A case
+//! with `meanwhile` or `left` is one session over a desk, with the limits of nine messages and 1,000 octets.
 
 use crate::case::{Case, Turn};
 use crate::escapes::bytes_of;
@@ -57,7 +60,13 @@ fn add_bytes(case: &mut Case, key: &str, count: u32, bytes: &[u8]) -> Result<boo
             wait(case, None)?;
             extend(&mut case.sent, count, bytes, b"\r\n")?;
         }
+        "in" => {
+            case.is_script = true;
+            wait(case, None)?;
+            extend(&mut case.sent, count, bytes, b"\n")?;
+        }
         "raw" => extend(&mut case.sent, count, bytes, b"")?,
+        "out" => extend(&mut case.wanted, count, bytes, b"\n")?,
         "S" => extend(&mut case.wanted, count, bytes, b"\r\n")?,
         "told" => extend(&mut case.told, count, bytes, b"\n")?,
         _ => return Ok(false),
@@ -81,6 +90,7 @@ fn set(case: &mut Case, key: &str, bytes: Vec<u8>) -> bool {
         "secret" => case.settings.secret = bytes,
         "nonce" => case.settings.nonce = bytes,
         "host" => case.settings.host = bytes,
+        "only" => case.only = Some(bytes),
         _ => return false,
     }
     true

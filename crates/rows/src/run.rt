@@ -1,9 +1,10 @@
-//! One run of a session, and how it differs from what is wanted.
+//! One run of a session or a script, and how it differs from what is wanted.
 
 use crate::case::Case;
 use crate::console::Console;
 use crate::output::Output;
 use server::lone_run;
+use simulator::sim_run;
 use std::alloc::{AllocError, Global};
 use std::cell::RefCell;
 use std::io::Read;
@@ -44,10 +45,12 @@ pub struct Wanted<'a> {
     pub replies: &'a [u8],
     /// Whether a front of the replies is as good as all of them.
     pub is_front: bool,
+    /// With what the lines begin that count, where not all do.
+    pub only: Option<&'a [u8]>,
 }
 
-/// Serves the lone session of a case to this reader.
-pub fn serve_lone<'a, R: Read>(
+/// Serves the lone session of a case to this reader, or plays the script that it gives.
+pub fn run_case<'a, R: Read>(
     alloc: Global,
     case: &Case,
     reader: &mut R,
@@ -63,7 +66,11 @@ pub fn serve_lone<'a, R: Read>(
         fails: taking.fails,
     };
     let rt = (console, alloc);
-    let status = lone_run(&rt, reader, &mut output, &case.settings.options());
+    let status = if case.is_script {
+        sim_run(&rt, reader, &mut output)
+    } else {
+        lone_run(&rt, reader, &mut output, &case.settings.options())
+    };
     drop(rt);
     Run {
         status,
@@ -91,6 +98,24 @@ pub fn difference_of_bytes(
     Ok(Some(format!(in alloc; "{what} differs at byte {at}: {text:?}")?))
 }
 
+/// The lines that begin so, or all.
+fn counting_lines(
+    alloc: Global,
+    only: Option<&[u8]>,
+    written: &[u8],
+) -> Result<Vec<u8>, AllocError> {
+    let Some(front) = only else {
+        return written.to_vec(alloc);
+    };
+    let mut counting = Vec::new(alloc);
+    for line in written.split_inclusive(|byte| *byte == b'\n') {
+        if line.starts_with(front) {
+            counting.extend_from_slice(line)?;
+        }
+    }
+    Ok(counting)
+}
+
 impl Run<'_> {
     fn difference_of_replies(
         &self,
@@ -100,7 +125,8 @@ impl Run<'_> {
         let Ok(taken) = self.taken.try_borrow() else {
             return Ok(Some("the writer is still held".to_string(alloc)?));
         };
-        let written = taken.as_slice();
+        let counting = counting_lines(alloc, wanted.only, taken.as_slice())?;
+        let written = counting.as_slice();
         if wanted.is_front && wanted.replies.starts_with(written) {
             return Ok(None);
         }
