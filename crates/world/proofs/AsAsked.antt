@@ -15,7 +15,7 @@ use Rattle.maildrop.specs.CommandId.{CommandId}
 use Rattle.maildrop.specs.Same.{identity_of}
 use Rattle.node.proofs.Submitting.{one_submit}
 use Rattle.world.proofs.Logs.{some_same}
-use Rattle.world.proofs.Runs.{every_run}
+use Rattle.world.proofs.NodeRuns.{every_run}
 use Rattle.world.proofs.Theorems.{order_chosen, chosen_submitted}
 
 module _ {A : Type 0} where

@@ -35,7 +35,7 @@ use Rattle.world.specs.declared.event.Event.TheVariants as event
 use Rattle.world.specs.declared.refused.Refused.TheVariants.{Down, Busy}
 use Rattle.world.proofs.Later.{at_inserted}
 use Rattle.world.proofs.Logs.{some_same}
-use Rattle.world.proofs.Runs.{every_run}
+use Rattle.world.proofs.NodeRuns.{every_run}
 use Rattle.world.proofs.ServiceRuns.{AreOfRun, next_of_run, happens_follows}
 use Rattle.world.proofs.Serving.{Logs, happens_logs, submitted_log, at_without}
 

@@ -14,7 +14,7 @@ pub mod Valid
 pub mod Plain
 pub mod NodeSteps
 pub mod Logs
-pub mod Runs
+pub mod NodeRuns
 pub mod Theorems
 pub mod Outcomes
 pub mod Prefixes
@@ -35,6 +35,7 @@ pub mod Blocks
 pub mod Searching
 pub mod Nexts
 pub mod Settled
+pub mod WholeRuns
 pub mod AnswersStay
 pub mod Hosting
 pub mod HostList

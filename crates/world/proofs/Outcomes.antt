@@ -12,7 +12,7 @@ use Rattle.node.proofs.OwnOutcomes.{answered_outcome}
 use Rattle.session.specs.Prefix.{IsPrefix}
 use Rattle.world.specs.Messages.{NodeEvent, log_of, network_of}
 use Rattle.world.specs.Runs.{order_of}
-use Rattle.world.proofs.Runs.{every_run}
+use Rattle.world.proofs.NodeRuns.{every_run}
 use Rattle.world.proofs.Theorems.{performed_prefix}
 
 module _ {A : Type 0} where

@@ -26,7 +26,7 @@ use Rattle.world.proofs.Agree.{agree}
 use Rattle.world.proofs.DecidedOrder.{listed_chosen, performed_first, order_grows}
 use Rattle.world.proofs.NodeSteps.{roles_of}
 use Rattle.world.proofs.Logs.{arrival_alike, envelopes_more}
-use Rattle.world.proofs.Runs.{node_of, nodes_of, every_run}
+use Rattle.world.proofs.NodeRuns.{node_of, nodes_of, every_run}
 
 -- what is in a list without repeated identities is in the list
 in_once : {C I R M : Type 0} (rules : Rules C I R M) (before ps : List (ℕ × C)) (p : ℕ × C) → IsIn p (once rules before ps) → IsIn p ps

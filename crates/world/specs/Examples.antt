@@ -17,6 +17,7 @@ use Rattle.world.specs.Clients.{new_client, client_of}
 use Rattle.world.specs.Messages.{log_of}
 use Rattle.world.specs.Projection.{own_commands, alone_bytes}
 use Rattle.world.specs.Refusals.{refusal_of, step_refusal}
+use Rattle.world.specs.Scheduling.{reach}
 use Rattle.world.specs.Services.{Happening, Occurs, Lost, Service, run_of}
 use Rattle.world.specs.Worlds.{World, new_world, stepped, outcome_at, outcome_left, without_outcome, last_ticket, next_oldest, next_newest, settled}
 use Rattle.world.specs.declared.config.Config.{Config}
@@ -204,3 +205,16 @@ module _ (A : Type 0) (limits : Limits) where
 
   none_of_bob : last_ticket broken.service 1 (codes "bob") ≡ None
   none_of_bob = refl
+
+-- the blocks of places: every other place is alone, and place 3 has all from 0 to 6
+alone_in_its_block : reach 4 ≡ 0
+unfolding reach
+alone_in_its_block = refl
+
+three_on_either_side : reach 3 ≡ 3
+unfolding reach
+three_on_either_side = refl
+
+one_on_either_side : reach 5 ≡ 1
+unfolding reach
+one_on_either_side = refl

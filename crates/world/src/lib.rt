@@ -23,6 +23,8 @@ mod sent;
 mod sent_messages;
 mod service_laws;
 mod session_id;
+mod settle;
+mod whole_run;
 mod world;
 
 pub use config::Config;
@@ -37,4 +39,5 @@ pub use service_laws::{
     tickets_of_sessions, two_runs, what_was_told_stays,
 };
 pub use session_id::SessionId;
+pub use whole_run::{Runs, run};
 pub use world::{WIDEST_WINDOW, World};

@@ -1,0 +1,6 @@
+use Rattle.std.proofs.Common.{◌≡◌}
+use Rattle.world.specs.Worlds.{settled}
+use Rattle.world.proofs.world.World.settle.Given as goal
+
+abbrev pub invariant-loop-events : goal.invariant-loop-events
+invariant-loop-events g l = settled l.events l.fn.self ≡ record { events = l.events; world = l.self }

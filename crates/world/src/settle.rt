@@ -1,0 +1,52 @@
+//! A service that goes on by itself: what comes next happens, and next again.
+ghost use Rattle.std.specs.Prelude.{◌≡◌, None, OnErr, IfOk, IfErr, IfSome};
+ghost use Rattle.world.specs.Refusals.{step_refusal};
+ghost use Rattle.world.specs.Settling.{IsSettleCut};
+ghost use Rattle.world.specs.Worlds as spec;
+ghost use Rattle.world.specs.declared.refused.Refused.TheVariants as refused;
+
+use crate::event::Event;
+use crate::next::{next_newest, next_oldest};
+use crate::refused::Refused;
+use crate::world::World;
+use std::alloc::Allocator;
+
+impl<A: Allocator + Copy> World<A> {
+    /// What comes next: the first session, in the order in which they connected, whose answer is there and whose node is up
+    /// takes it; or else the first message, from this place on, that never arrived and whose addressee is up. Takes no
+    /// memory.
+    pub fn next_oldest(&self, from: usize) -> Option<Event<A>>
+        ensures value { result ≡ spec.next_oldest self.now.service from }
+        ensures possible { IfSome result (λ event. step_refusal self.now.config self.now.service event ≡ None) }
+    {
+        next_oldest(&self.hosts, &self.connections, from)
+    }
+
+    /// As `next_oldest`, with the last message, from this place on, that arrived fewer times than `copies`. Takes no
+    /// memory.
+    pub fn next_newest(&self, from: usize, copies: u64) -> Option<Event<A>>
+        ensures value { result ≡ spec.next_newest self.now.service from copies }
+        ensures possible { IfSome result (λ event. step_refusal self.now.config self.now.service event ≡ None) }
+    {
+        next_newest(&self.hosts, &self.connections, from, copies)
+    }
+
+    /// What comes next, oldest first, happens, and next again, until nothing is left or this many events have happened.
+    /// Gives how many happened. After `Memory`, the only error, they happened up to one at which a node or a session found
+    /// no memory; that one is down.
+    pub fn settle(&mut self, limit: u64) -> Result<u64, Refused>
+        ensures settled { IfOk result (λ events. spec.settled limit self.old ≡ record { events = events; world = self.new }) }
+        ensures error { IfErr result (λ error. error ≡ refused.Memory) }
+        ensures cut { OnErr result (IsSettleCut limit self.old self.new) }
+    {
+        for events in 0..limit {
+            let Some(event) = self.next_oldest(0) else {
+                return Ok(events);
+            };
+            if let Err(error) = self.step(event) {
+                return Err(error);
+            }
+        }
+        Ok(limit)
+    }
+}

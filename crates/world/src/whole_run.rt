@@ -1,0 +1,132 @@
+//! Whole runs of a service.
+ghost use Rattle.std.specs.Prelude.{◌≡◌, ◌≤◌, ◌⊎◌, ℕ, length, Some, None, map, IfOk, IfErr, OnOk};
+ghost use Rattle.world.specs.Clients.{Client, client_of};
+ghost use Rattle.world.specs.Projection.{IsProjected};
+ghost use Rattle.world.specs.Settling.{ran, first_refusal, all_replies, all_performed};
+ghost use Rattle.world.specs.Worlds.{new_world};
+ghost use Rattle.world.specs.declared.refused.Refused.TheVariants as refused;
+
+use crate::config::Config;
+use crate::event::Event;
+use crate::refused::Refused;
+use crate::session_id::SessionId;
+use crate::world::World;
+use ballot::{Memory, NodeId, Payload, Slot};
+use maildrop::Command;
+use std::alloc::{Allocator, Global};
+
+/// What a run has brought.
+#[derive(Drop)]
+pub struct Runs<A: Allocator = Global> {
+    /// The bytes of each session's replies, in the order in which the sessions connected.
+    pub replies: Vec<(SessionId, Vec<u8, A>), A>,
+    /// What each node has performed, each command with its slot, in the order of the nodes' numbers.
+    pub performed: Vec<Vec<(Slot, Command<A>), A>, A>,
+}
+
+/// A service that begins so takes these events, one after another. The first that is refused is the answer, else what the
+/// run has brought. What each session was told is a prefix of what a POP3 server says that has the session's user's maildrop
+/// alone. `Memory` is the answer too where there is none for a node, a session or the result.
+pub fn run<A: Allocator + Copy>(
+    alloc: A,
+    config: Config<A>,
+    events: Vec<Event<A>, A>,
+) -> Result<Runs<A>, Refused>
+    requires window { (1 ≤ config.window) × (config.window ≤ 1000) }
+    ensures possible { OnOk result (first_refusal (new_world config) events.items ≡ None) }
+    ensures refused { IfErr result (λ error. (error ≡ refused.Memory) ⊎ (first_refusal (new_world config) events.items ≡ Some error)) }
+    ensures replies { IfOk result (λ runs. map (λ r. (r.0, r.1.items)) runs.replies.items ≡ all_replies (ran (new_world config) events.items).service) }
+    ensures performed { IfOk result (λ runs. map (λ p. p.items) runs.performed.items ≡ all_performed (ran (new_world config) events.items).service) }
+    ensures projected { OnOk result ((session : ℕ) (c : Client A) → client_of session (ran (new_world config) events.items).service.clients ≡ Some c
+        → IsProjected config (ran (new_world config) events.items).service c) }
+{
+    let nodes = config.cluster.get();
+    let world = after(World::new(alloc, config)?, events)?;
+    match world.brought(alloc, nodes) {
+        Ok(runs) => Ok(runs),
+        Err(_) => Err(Refused::Memory),
+    }
+}
+
+/// A service after these events, one after another. The first that is refused is the answer.
+fn after<A: Allocator + Copy>(
+    mut world: World<A>,
+    events: Vec<Event<A>, A>,
+) -> Result<World<A>, Refused>
+    ensures world { IfOk result (λ after. after ≡ ran world events.items) }
+    ensures possible { OnOk result (first_refusal world events.items ≡ None) }
+    ensures refused { IfErr result (λ error. (error ≡ refused.Memory) ⊎ (first_refusal world events.items ≡ Some error)) }
+{
+    for event in events {
+        if let Err(error) = world.step(event) {
+            return Err(error);
+        }
+    }
+    Ok(world)
+}
+
+impl<A: Allocator + Copy> World<A> {
+    /// What a run with this many nodes has brought.
+    fn brought(&self, alloc: A, nodes: u8) -> Result<Runs<A>, Memory>
+        requires { nodes ≡ length self.now.service.network.logs }
+        ensures replies { IfOk result (λ runs. map (λ r. (r.0, r.1.items)) runs.replies.items ≡ all_replies self.now.service) }
+        ensures performed { IfOk result (λ runs. map (λ p. p.items) runs.performed.items ≡ all_performed self.now.service) }
+    {
+        Ok(Runs {
+            replies: self.all_replies(alloc)?,
+            performed: self.all_performed(alloc, nodes)?,
+        })
+    }
+
+    /// The bytes of each session's replies, in the order in which the sessions connected.
+    fn all_replies(&self, alloc: A) -> Result<Vec<(SessionId, Vec<u8, A>), A>, Memory>
+        ensures { IfOk result (λ replies. map (λ r. (r.0, r.1.items)) replies.items ≡ all_replies self.now.service) }
+    {
+        let mut replies = Vec::new(alloc);
+        for place in 0..self.connections.len() {
+            let Some((session, connection)) = self.connections.get_index(place) else {
+                unreachable!();
+            };
+            let bytes = Vec::from_slice(alloc, connection.replies.get())?;
+            replies.push((*session, bytes))?;
+        }
+        Ok(replies)
+    }
+
+    /// What each node has performed, in the order of the nodes' numbers. `Memory` too where a node has stopped for want of it.
+    fn all_performed(
+        &self,
+        alloc: A,
+        nodes: u8,
+    ) -> Result<Vec<Vec<(Slot, Command<A>), A>, A>, Memory>
+        requires { nodes ≡ length self.now.service.network.logs }
+        ensures { IfOk result (λ performed. map (λ p. p.items) performed.items ≡ all_performed self.now.service) }
+    {
+        let mut all = Vec::new(alloc);
+        for place in 0..nodes {
+            let Some(node) = NodeId::new(place + 1) else {
+                return Err(Memory);
+            };
+            let Some(performed) = self.performed(node) else {
+                return Err(Memory);
+            };
+            all.push(copy_of(alloc, performed)?)?;
+        }
+        Ok(all)
+    }
+}
+
+/// A copy of what a node has performed.
+fn copy_of<A: Allocator + Copy>(
+    alloc: A,
+    performed: &[(Slot, Command<A>)],
+) -> Result<Vec<(Slot, Command<A>), A>, Memory>
+    ensures { IfOk result (λ copy. copy.items ≡ performed.now) }
+{
+    let mut copy = Vec::new(alloc);
+    for entry in performed {
+        let (slot, command) = entry;
+        copy.push((*slot, command.copy()?))?;
+    }
+    Ok(copy)
+}
