@@ -88,7 +88,7 @@ const GIVES_WAY: [Row; 6] = [
 const REPEATED: [Row; 5] = [
     (Call::Decision(2, 10), NONE, NOTHING, 1),
     (Call::Decision(2, 40), NONE, NOTHING, 0),
-    (Call::Decision(1, 10), NONE, &[(1, 10)], 5),
+    (Call::Decision(1, 10), NONE, &[(1, 10)], 6),
     (Call::Decision(1, 10), NONE, &[(1, 10)], 0),
     (Call::Tick, &[Short::Ask(3)], &[(1, 10)], 1),
 ];
