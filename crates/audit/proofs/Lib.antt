@@ -21,3 +21,4 @@ pub mod RunHappenings
 pub mod RunSteps
 pub mod RunOrders
 pub mod RunScripts
+pub mod RunFit

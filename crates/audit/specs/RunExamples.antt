@@ -13,6 +13,7 @@ use Rattle.maildrop.specs.declared.outcome.Outcome.{Outcome}
 use Rattle.maildrop.specs.declared.outcome.Outcome.TheVariants.{Taken, Done}
 use Rattle.pop3_wire.specs.Reply.{greeting}
 use Rattle.pop3_wire.specs.declared.line.Line.TheVariants.{Whole}
+use Rattle.node.specs.declared.log.NodeLog.{NodeLog}
 use Rattle.session.specs.Serve.{told}
 use Rattle.session.specs.declared.transcript.Asked.{Asked}
 use Rattle.session.specs.declared.transcript.End.TheVariants.{Closed, DeskStopped}
@@ -21,41 +22,43 @@ use Rattle.world.specs.Clients.{client_of}
 use Rattle.world.specs.Services.{Happening, Occurs, run_of}
 use Rattle.world.specs.declared.config.Config.{Config}
 use Rattle.world.specs.declared.event.Event.TheVariants as event
+use Rattle.audit.specs.Records.{RealCase, case_of}
 use Rattle.audit.specs.Runs.{line_tickets, AreItsLines}
+use Rattle.audit.specs.Wrong.{first_wrong}
 
 module _ (A : Type 0) (limits : Limits) where
-  abbrev alice : List ℕ
+  abbrev pub alice : List ℕ
   alice = codes "alice"
 
-  abbrev cfg : Config A
+  abbrev pub cfg : Config A
   cfg = record { accounts = record { name = alice; method = Pass; secret = codes "s" } ∷ []; limits = limits; cluster = 1; window = 5 }
 
-  abbrev stamp : Stamp
+  abbrev pub stamp : Stamp
   stamp = record { nonce = codes "1.1"; host = codes "localhost" }
 
-  abbrev says : List ℕ → Happening A
+  abbrev pub says : List ℕ → Happening A
   says bytes = Occurs (event.Line 1 (Whole bytes))
 
-  abbrev arrive : ℕ → Happening A
+  abbrev pub arrive : ℕ → Happening A
   arrive which = Occurs (event.Arrive which)
 
-  abbrev collects : Happening A
+  abbrev pub collects : Happening A
   collects = Occurs (event.Collect 1)
 
-  abbrev happenings : List (Happening A)
+  abbrev pub happenings : List (Happening A)
   happenings =
       Occurs (event.Connect 1 1 stamp) ∷ says (codes "USER alice") ∷ says (codes "PASS s") ∷ Occurs (event.Campaign 1)
       ∷ arrive 0 ∷ arrive 1 ∷ arrive 2 ∷ arrive 3 ∷ arrive 4 ∷ arrive 5 ∷ collects
       ∷ says (codes "STAT") ∷ says (codes "QUIT") ∷ arrive 6 ∷ arrive 7 ∷ arrive 8 ∷ arrive 9 ∷ collects ∷ []
 
-  abbrev ticket : ℕ → Ticket
+  abbrev pub ticket : ℕ → Ticket
   ticket number = record { node = 1; seq = number }
 
-  abbrev asks : ℕ → Op A → Option Ticket → Option (Outcome A) → Asked A
+  abbrev pub asks : ℕ → Op A → Option Ticket → Option (Outcome A) → Asked A
   asks line op ticket outcome = record { line = Some line; name = alice; op = op; ticket = ticket; outcome = outcome }
 
   -- what was kept of alice's session
-  abbrev transcript : Transcript A
+  abbrev pub transcript : Transcript A
   transcript = record {
     greeting = greeting stamp.nonce stamp.host;
     lines = Whole (codes "USER alice") ∷ Whole (codes "PASS s") ∷ Whole (codes "STAT") ∷ Whole (codes "QUIT") ∷ [];
@@ -79,8 +82,18 @@ module _ (A : Type 0) (limits : Limits) where
   unfolding digits
   all_counted = refl
 
+  -- of the run's logs and this transcript an audit finds no wrong answer
+  abbrev pub logs : List (NodeLog A)
+  logs = (run_of cfg happenings).network.logs
+
+  abbrev pub case : RealCase A
+  case = case_of logs (transcript ∷ [])
+
+  none_wrong : first_wrong case 0 [] case.scripts ≡ None
+  none_wrong = refl
+
   -- a line to a node that had stopped is none of the run
-  abbrev stopped : Transcript A
+  abbrev pub stopped : Transcript A
   stopped = record {
     greeting = greeting stamp.nonce stamp.host;
     lines = Whole (codes "USER alice") ∷ Whole (codes "PASS s") ∷ [];

@@ -34,6 +34,10 @@ module _ {A : Type 0} where
     pub openings : (n : ℕ) (log : NodeLog A) → slice_get logs n ≡ Some log → log.opening ≡ opening_at cfg log.opening.me
     pub served : (i : ℕ) (t : Transcript A) → slice_get transcripts i ≡ Some t → IsTranscript cfg.accounts (stamps i) t
 
+  -- the logs of nodes 1, 2 and so on
+  abbrev pub AreInOrder : List (NodeLog A) → Type 0
+  AreInOrder logs = (n : ℕ) (log : NodeLog A) → slice_get logs n ≡ Some log → log.opening.me ≡ suc n
+
   abbrev pub line_tickets : List (Asked A) → List Ticket
   line_tickets [] = []
   line_tickets (entry ∷ entries) = line_ticket entry.line entry.ticket ++ line_tickets entries

@@ -2,29 +2,27 @@
 //!
 //! A legal order of logs and transcripts is a run: what nodes logged and what sessions were told is what came of it. So
 //! what holds of every run holds of what was audited, to each byte that a session counted.
-ghost use Rattle.std.specs.Prelude.{◌≡◌, ℕ, suc, List, [], Some, slice_get};
+ghost use Rattle.std.specs.Prelude.{◌≡◌, ◌<◌, ◌≤◌, ℕ, suc, length, List, [], Some, true, slice_get};
 ghost use Rattle.apop.specs.Stamp.{Stamp};
 ghost use Rattle.node.specs.declared.log.NodeLog.{NodeLog};
 ghost use Rattle.session.specs.declared.transcript.Transcript.{Transcript};
 ghost use Rattle.world.specs.Clients.{Client, client_of};
-ghost use Rattle.world.specs.Services.{Happening, run_of};
+ghost use Rattle.world.specs.Services.{Happening, opening_of, run_of};
 ghost use Rattle.world.specs.declared.config.Config.{Config};
 ghost use Rattle.audit.specs.Order.{IsLegalOrder};
-ghost use Rattle.audit.specs.Records.{AreFit, case_of};
-ghost use Rattle.audit.specs.Runs.{AreOfService, IsRunOf, AreCounted, AreSaidAlone};
-ghost use Rattle.audit.specs.Turns.{Turns};
-ghost use Rattle.audit.specs.Wrong.{IsScript};
+ghost use Rattle.audit.specs.Records.{is_fit, AreFit, case_of};
+ghost use Rattle.audit.specs.Runs.{AreInOrder, AreOfService, IsRunOf, AreCounted, AreSaidAlone};
 ghost use Rattle.audit.specs.declared.event.Event.{Event};
 
 use std::alloc::Allocator;
 
-/// What audits ask of transcripts holds of those that `serve` gave: their entries ask for locks, or give them back, and no
-/// line stands behind an operation that wasn't answered.
-pub fn served_transcripts_are_scripts<A: Allocator>()
+/// Logs and transcripts of a service are what an audit is made for, where a node can begin as its nodes do, and the logs
+/// are those of some of its nodes, from the first on.
+pub fn a_service_is_fit<A: Allocator>()
     ensures { (config : Config A) (stamps : ℕ → Stamp) (logs : List (NodeLog A)) (transcripts : List (Transcript A)) →
-        AreOfService config stamps logs transcripts
-        → (session : ℕ) (turns : Turns A) → slice_get (case_of logs transcripts).scripts session ≡ Some (Some turns)
-        → IsScript (case_of logs transcripts) turns }
+        is_fit (opening_of config) ≡ true → 0 < length logs → length logs ≤ config.cluster → AreInOrder logs
+        → AreOfService config stamps logs transcripts
+        → AreFit logs transcripts }
 {}
 
 /// A legal order of logs and transcripts of a service is a run of that service: there is a run in which each node took
