@@ -5,7 +5,7 @@ use crate::samples::{accounts, greeting_stamp, limits, line};
 use crate::talk::Talk;
 use apop::Accounts;
 use ballot::Slot;
-use maildrop::{Command, Name, Office, Outcome, Ticket};
+use maildrop::{Command, Name, Office, Outcome, Ticket, are_different};
 use session::{Session, Step};
 use std::alloc::Global;
 use std::test::Fail;
@@ -93,9 +93,13 @@ fn replies(
     decided: &[(Slot, Command)],
     talk: &Talk,
 ) -> Result<Vec<u8>, Fail> {
+    let names = accounts.names();
+    if !are_different(names) {
+        Err("a name stands twice")?;
+    }
     let mut alone = Alone {
         session: Session::new(alloc, greeting_stamp()?),
-        office: Office::new(alloc, accounts.names(), limits()?)?,
+        office: Office::new(alloc, names, limits()?)?,
         decided,
         tickets: talk.tickets.as_slice(),
         said: Vec::new(alloc),
