@@ -16,11 +16,11 @@ use Rattle.audit.proofs.Once.{none_wrong}
 use Rattle.audit.proofs.RealLaws.{real_laws}
 use Rattle.audit.proofs.Sound.{legal}
 use Rattle.audit.proofs.Written.{written}
-use Rattle.audit.specs.Events.{Placement}
+use Rattle.audit.specs.declared.placement.Placement.{Placement}
 use Rattle.audit.specs.Written.{ArePlaced, written_order}
 
 -- a place of a list is behind its first, and something stands there
-from_place : {X : Type 0} (from n : ℕ) (xs : List X) → IsIn n (places_from from xs) → (k : ℕ) × (x : X) × (n ≡ from + k) × (slice_get xs k ≡ Some x)
+pub from_place : {X : Type 0} (from n : ℕ) (xs : List X) → IsIn n (places_from from xs) → (k : ℕ) × (x : X) × (n ≡ from + k) × (slice_get xs k ≡ Some x)
 from_place from n [] h = absurd h
 from_place from n (y ∷ ys) h =
     ⊎_elim

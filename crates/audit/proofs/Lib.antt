@@ -22,3 +22,7 @@ pub mod RunSteps
 pub mod RunOrders
 pub mod RunScripts
 pub mod RunFit
+pub mod Replaying
+pub mod Finding
+pub mod Naming
+pub mod Numbering

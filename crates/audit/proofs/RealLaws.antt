@@ -44,12 +44,12 @@ place_in (y ∷ ys) from (suc n) x e =
 
 module _ {A : Type 0} where
   -- how many operations for the user came so far
-  abbrev submitted : List ℕ → Replay A → ℕ
+  abbrev pub submitted : List ℕ → Replay A → ℕ
   submitted name None = 0
   submitted name (Some log) = submits_of name log.inputs
 
   -- the ticket that an input gets counts them
-  count_of : (s : Replay A) (x : Input A) (key : CommandId) → key_of s x ≡ Some key → (key.ticket.seq ≡ suc (submitted key.user s)) × (submitted key.user (after s x) ≡ suc (submitted key.user s))
+  pub count_of : (s : Replay A) (x : Input A) (key : CommandId) → key_of s x ≡ Some key → (key.ticket.seq ≡ suc (submitted key.user s)) × (submitted key.user (after s x) ≡ suc (submitted key.user s))
   count_of None x key h = none_some key h
   count_of (Some log) (Submit name op) key h =
       let same = same_some _ key h in

@@ -8,7 +8,11 @@ use Rattle.audit.specs.Case.{Turn, Plain, Asks, Case, next, after_next, sends_ne
 use Rattle.audit.specs.Placing.{put, is_answered, all_answered, message_there, turn_there, is_met, can_place, IsPlacing}
 use Rattle.audit.specs.declared.event.Event.{Event}
 use Rattle.audit.specs.declared.event.Event.TheVariants.{Line, Hangup, Collect, Given, Arrive}
-use Rattle.audit.specs.Events.{Kind, Talk, Source, Own, Last, Message, FromSession, Placement, kinds, said, unsaid, goes_on, gone_on, begs, behind, kind_of, asking as asks_on, asked_on, events_of, talks_after, events_from, all_go_on, all_gone_on}
+use Rattle.audit.specs.declared.kind.Kind.{Kind}
+use Rattle.audit.specs.declared.placement.Placement.{Placement}
+use Rattle.audit.specs.declared.placement.Source.{Source}
+use Rattle.audit.specs.declared.placement.Source.TheVariants.{Own, Last, Message, FromSession}
+use Rattle.audit.specs.Events.{Talk, kinds, said, unsaid, goes_on, gone_on, begs, behind, kind_of, asking as asks_on, asked_on, events_of, talks_after, events_from, all_go_on, all_gone_on}
 use Rattle.audit.specs.Order.{Awaited, Session, World, Runs, Submits, Agrees, Happens, Leads, Ends, NothingAwaited, SessionEnds, IsNamedOnce, IsLegalOrder}
 use Rattle.audit.specs.Laws.{Laws, AllBegin}
 use Rattle.audit.specs.Right.{IsRight, HasNoLine, AreRight, NoneWrong}

@@ -4,12 +4,11 @@ use Rattle.audit.specs.Case.{Turn, Plain, Asks}
 use Rattle.audit.specs.Placing.{put}
 use Rattle.audit.specs.declared.event.Event.{Event}
 use Rattle.audit.specs.declared.event.Event.TheVariants as event
-
--- a turn: a line that asks nothing, a line that asks, or a hangup
-pub data Kind : Type 0 where
-  Says : Kind
-  Begs : Kind
-  Leaves : Kind
+use Rattle.audit.specs.declared.kind.Kind.{Kind}
+use Rattle.audit.specs.declared.kind.Kind.TheVariants.{Says, Begs, Leaves}
+use Rattle.audit.specs.declared.placement.Placement.{Placement}
+use Rattle.audit.specs.declared.placement.Source.{Source}
+use Rattle.audit.specs.declared.placement.Source.TheVariants.{Own, Last, Message, FromSession}
 
 module _ {I K O L : Type 0} where
   abbrev pub kind_of : Turn I K O L → Kind
@@ -73,18 +72,6 @@ all_go_on test answered talks (suc m) = all_go_on test answered talks m ++ (if t
 
 abbrev pub all_gone_on : (ℕ → Bool) → (ℕ → Bool) → (ℕ → Talk) → ℕ → Talk
 all_gone_on test answered talks i = if test i then gone_on (answered i) (talks i) else talks i
-
--- what brings an input: nothing, and it is the node's last or not, the message that was sent as this number, or a session
-pub data Source : Type 0 where
-  Own : Source
-  Last : Source
-  Message : (which : ℕ) → Source
-  FromSession : (which : ℕ) → Source
-
--- an input of the log at a place
-pub record Placement : Type 0 where
-  pub node : ℕ
-  pub source : Source
 
 module _ (number at : ℕ → ℕ) (answered : ℕ → Bool) (sessions : ℕ) where
   abbrev pub events_of : (ℕ → Talk) → ℕ → Source → List Event

@@ -20,7 +20,7 @@ use Rattle.audit.specs.Placing.{put, can_place, is_stuck}
 use Rattle.audit.specs.Records.{case_of}
 use Rattle.audit.specs.Turns.{turns_from}
 use Rattle.audit.specs.Wrong.{first_wrong, seat}
-use Rattle.audit.specs.Events.{Own, Last}
+use Rattle.audit.specs.declared.placement.Source.TheVariants.{Own, Last}
 use Rattle.audit.specs.Written.{written_order}
 use Rattle.audit.specs.declared.event.Event.TheVariants.{Connect, Line, Given}
 

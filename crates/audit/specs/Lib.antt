@@ -13,3 +13,11 @@ pub mod Events
 pub mod Written
 pub mod Runs
 pub mod RunExamples
+pub mod Audits
+pub mod Nodes
+pub mod Sends
+pub mod Names
+pub mod Numbers
+pub mod Placed
+pub mod Knowing
+pub mod Left

@@ -2,10 +2,13 @@
 use Rattle.std.specs.Prelude.{◌≡◌, ℕ, zero, suc, length, List, [], ◌∷◌, ◌++◌, Bool, true, false, Option, Some, None, slice_get}
 use Rattle.ballot.specs.Lists.{IsIn}
 use Rattle.audit.specs.Case.{Turn, Case, next, state_at, asked, key_in}
-use Rattle.audit.specs.Events.{Talk, Source, Own, Last, Message, FromSession, Placement, kinds, events_from}
+use Rattle.audit.specs.Events.{Talk, kinds, events_from}
 use Rattle.audit.specs.Placing.{put, is_answered, can_place}
 use Rattle.audit.specs.declared.event.Event.{Event}
 use Rattle.audit.specs.declared.event.Event.TheVariants.{Connect}
+use Rattle.audit.specs.declared.placement.Placement.{Placement}
+use Rattle.audit.specs.declared.placement.Source.{Source}
+use Rattle.audit.specs.declared.placement.Source.TheVariants.{Own, Last, Message, FromSession}
 
 abbrev pub last_of : {X : Type 0} → List X → Option X
 last_of [] = None

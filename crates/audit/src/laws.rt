@@ -10,7 +10,7 @@ ghost use Rattle.session.specs.declared.transcript.Transcript.{Transcript};
 ghost use Rattle.audit.specs.Order.{IsLegalOrder};
 ghost use Rattle.audit.specs.Placing.{IsPlacing, can_place, is_stuck, put};
 ghost use Rattle.audit.specs.Records.{AreFit, case_of};
-ghost use Rattle.audit.specs.Events.{Placement};
+ghost use Rattle.audit.specs.declared.placement.Placement.{Placement};
 ghost use Rattle.audit.specs.Written.{ArePlaced, written_order};
 ghost use Rattle.audit.specs.Wrong.{first_wrong, seat};
 ghost use Rattle.audit.specs.declared.event.Event.{Event};

@@ -1,11 +1,21 @@
 //! An audit of a service that ran: was what its nodes and its sessions did legal? Here are the definition of a legal order
-//! of logs and transcripts, and its laws: when there is such an order, and when there is none.
+//! of logs and transcripts, its laws, and the parts by which logs are replayed and messages and commands found.
 #![tactic(auto)]
 
+mod audit_error;
+mod envelope;
 mod event;
+mod kind;
 mod laws;
+mod names;
+mod numbers;
+mod outcomes;
+mod placement;
+mod replay;
 mod run_laws;
+mod sent;
 
+pub use audit_error::AuditError;
 pub use event::Event;
 pub use laws::{
     a_placing_ends, a_stuck_placing_has_no_order, a_whole_placing_has_an_order,
