@@ -11,6 +11,4 @@ mod leader_tests;
 #[cfg(test)]
 mod message_tests;
 #[cfg(test)]
-mod replica_tests;
-#[cfg(test)]
 mod scout_tests;
