@@ -18,6 +18,3 @@ pub mod Nodes
 pub mod Sends
 pub mod Names
 pub mod Numbers
-pub mod Placed
-pub mod Knowing
-pub mod Left
