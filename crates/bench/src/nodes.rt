@@ -1,7 +1,7 @@
 //! Runs of three nodes that hand one another their messages in one thread.
 
 use ballot::{Cluster, Envelope, NodeId};
-use maildrop::{Command, Limits, Name, Op, Ticket};
+use maildrop::{Limits, Name, Op, Shared, SharedCommand, Ticket};
 use node::{Envelopes, Input, Node, Stopped};
 use std::alloc::Global;
 use std::collections::VecDeque;
@@ -16,7 +16,7 @@ const MOST_MESSAGES: u32 = 100;
 #[derive(Drop)]
 struct Three {
     nodes: Vec<Node>,
-    waiting: VecDeque<Envelope<Command>>,
+    waiting: VecDeque<Envelope<SharedCommand>>,
 }
 
 impl Three {
@@ -73,6 +73,7 @@ impl Three {
 
     /// Has the first node's command decided and performed, and takes its answer.
     fn perform(&mut self, user: Name, op: Op) -> Result<Option<Ticket>, Stopped> {
+        let op = Shared::new(*self.nodes.allocator(), op)?;
         let ticket = self.take(0, Input::Submit(user, op))?;
         self.hand_on()?;
         let Some(ticket) = ticket else {

@@ -15,7 +15,7 @@ use crate::setup::{Deployment, Setup};
 use crate::start_error::StartError;
 use crate::status::Status;
 use ballot::{Envelope, Memory, NodeId};
-use maildrop::Command;
+use maildrop::SharedCommand;
 use node::{Input, Node, NodeLog};
 use std::alloc::Global;
 use std::sync::{Arc, Wait};
@@ -172,7 +172,7 @@ impl<
 
     /// Puts an envelope into its addressee's inbox. Gives whether it is in there: not where that node doesn't run here,
     /// where it has stopped, or without memory.
-    pub fn arrive(&self, envelope: Envelope<Command>) -> bool {
+    pub fn arrive(&self, envelope: Envelope<SharedCommand>) -> bool {
         self.hub.deliver(&self.rt, envelope)
     }
 

@@ -10,7 +10,7 @@ use crate::op_kind::OpKind;
 use crate::setup::Deployment;
 use crate::status::Status;
 use ballot::{Envelope, Memory, NodeId};
-use maildrop::{Command, Name, Op, Outcome, Ticket};
+use maildrop::{Name, Op, Outcome, SharedCommand, Ticket};
 use node::Input;
 use session::{Desk, DeskStopped};
 use std::marker::Model;
@@ -71,7 +71,7 @@ impl<D: Deployment, R: Wait, L: Link> NodeDesk<D, R, L> {
 
     /// Puts an envelope into the node's inbox. Gives whether it is in there: not where the envelope is to another node,
     /// where the node has stopped, or without memory.
-    pub fn arrive(&self, envelope: Envelope<Command>) -> bool {
+    pub fn arrive(&self, envelope: Envelope<SharedCommand>) -> bool {
         envelope.to == self.node.me() && self.hub.deliver(&self.rt, envelope)
     }
 }

@@ -10,8 +10,8 @@ use crate::setup::Deployment;
 use crate::status::Status;
 use crate::waiters::{Groups, Waiters};
 use ballot::{Envelope, Memory, NodeId};
-use maildrop::{Command, Name, Op, Outcome, Ticket};
-use node::{Input, NodeLog, Outputs};
+use maildrop::{Name, Op, Outcome, SharedCommand, Ticket};
+use node::{Input, NodeLog, Outputs, SharedOp};
 use std::alloc::Global;
 use std::sync::{Arc, Mutex, Wait};
 
@@ -80,10 +80,15 @@ impl<D: Deployment, L: Link> NodeHandle<D, L> {
         self.me
     }
 
-    /// An operation for a user is submitted. Gives the ticket of its command, or nothing where the node has stopped.
+    /// An operation for a user is submitted. Gives the ticket of its command, or nothing where the node has stopped: it
+    /// stops too where there is no memory for the operation.
     pub(crate) fn submit<R: Wait>(&self, rt: &R, user: Name, op: Op) -> Option<Ticket>
         ensures { IfSome result (λ ticket. ticket.node ≡ self.now.me) }
     {
+        let Ok(op) = SharedOp::new(self.shared.alloc, op) else {
+            let _was_up = self.crash(rt);
+            return None;
+        };
         self.step(rt, Input::Submit(user, op))
     }
 
@@ -134,7 +139,7 @@ impl<D: Deployment, L: Link> NodeHandle<D, L> {
     pub(crate) fn hear<R: Wait>(
         &self,
         rt: &R,
-        first: Envelope<Command>,
+        first: Envelope<SharedCommand>,
         inbox: &Inbox,
         sends: &mut Outbox,
     ) -> bool {
@@ -147,7 +152,7 @@ impl<D: Deployment, L: Link> NodeHandle<D, L> {
     fn hear_locked<R: Wait>(
         &self,
         rt: &R,
-        first: Envelope<Command>,
+        first: Envelope<SharedCommand>,
         inbox: &Inbox,
         sends: &mut Outbox,
     ) -> (bool, Groups) {

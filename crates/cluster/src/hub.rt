@@ -2,18 +2,18 @@
 
 use ballot::{Envelope, Memory, NodeId};
 use crossbeam_channel::{Receiver, Sender, unbounded};
-use maildrop::Command;
+use maildrop::SharedCommand;
 use std::alloc::{AllocError, Global};
 use std::sync::{Arc, RwLock, Wait};
 
 /// Where the thread of a node takes its envelopes from.
-pub(crate) type Inbox = Receiver<Envelope<Command>>;
+pub(crate) type Inbox = Receiver<Envelope<SharedCommand>>;
 
 /// The end of an inbox that envelopes are put into.
 #[derive(Drop)]
 struct Slit {
     node: NodeId,
-    sender: Sender<Envelope<Command>>,
+    sender: Sender<Envelope<SharedCommand>>,
 }
 
 /// The inboxes of all nodes that run here. No other place has a sender of them, so that closing the hub ends each
@@ -44,7 +44,7 @@ impl Hub {
 
     /// Puts an envelope into its addressee's inbox. Gives whether it is in there: not where that node doesn't run here,
     /// nor without memory.
-    pub(crate) fn deliver<R: Wait>(&self, rt: &R, envelope: Envelope<Command>) -> bool {
+    pub(crate) fn deliver<R: Wait>(&self, rt: &R, envelope: Envelope<SharedCommand>) -> bool {
         let slits = self.slits.read(rt);
         match slits.iter().find(|slit| slit.node == envelope.to) {
             None => false,

@@ -2,13 +2,13 @@
 
 use crate::hub::Hub;
 use ballot::Envelope;
-use maildrop::Command;
+use maildrop::SharedCommand;
 use std::sync::{Arc, Wait};
 
 /// Where a node's envelopes go. A link may lose them, and may hand each on late or more than once. It is called by
 /// several threads, none of which then has a node's lock.
 pub trait Link {
-    fn send(&self, envelope: Envelope<Command>);
+    fn send(&self, envelope: Envelope<SharedCommand>);
 
     /// Whether it carries what a node sends to itself. Else the node hears that at once, while it has the lock.
     fn carries_own(&self) -> bool {
@@ -32,7 +32,7 @@ impl<R: Wait> InboxLink<R> {
 impl<R: Wait> Link for InboxLink<R> {
     /// An envelope to a node that isn't in the cluster, or that has stopped, is lost; so is one for which there is no
     /// memory.
-    fn send(&self, envelope: Envelope<Command>) {
+    fn send(&self, envelope: Envelope<SharedCommand>) {
         let _lost = self.hub.deliver(&self.rt, envelope);
     }
 

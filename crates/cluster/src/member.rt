@@ -108,6 +108,7 @@ impl<D: Deployment> Member<D> {
         let me = self.node.me();
         let mut groups = Groups::NONE;
         for (_, command) in self.node.performed().get(behind..).unwrap_or_default() {
+            let command = command.get();
             if command.ticket.get().0 == me {
                 groups = groups.with(&command.user);
             }

@@ -2,7 +2,7 @@
 
 use crate::link::Link;
 use ballot::Envelope;
-use maildrop::Command;
+use maildrop::SharedCommand;
 use node::Envelopes;
 use std::alloc::Global;
 use std::collections::VecDeque;
@@ -11,9 +11,9 @@ use std::collections::VecDeque;
 #[derive(Drop)]
 pub(crate) struct Outbox {
     /// What the node hears of its own, before the lock is free.
-    own: VecDeque<Envelope<Command>>,
+    own: VecDeque<Envelope<SharedCommand>>,
     /// What the link carries once the lock is free.
-    sends: Vec<Envelope<Command>>,
+    sends: Vec<Envelope<SharedCommand>>,
     /// Whether the link carries also what the node sends to itself.
     carries_own: bool,
 }
@@ -40,7 +40,7 @@ impl Outbox {
     }
 
     /// The next envelope that the node hears of its own.
-    pub(crate) fn next_own(&mut self) -> Option<Envelope<Command>> {
+    pub(crate) fn next_own(&mut self) -> Option<Envelope<SharedCommand>> {
         self.own.pop_front()
     }
 

@@ -5,7 +5,7 @@ ghost use Rattle.maildrop.specs.Name.{are_different};
 use crate::services::{node, setup_of};
 use ballot::Envelope;
 use cluster::{Cluster, Deployment, InboxLink, Link, NodeDesk, Setup, StartError};
-use maildrop::{Command, Op};
+use maildrop::{Op, SharedCommand};
 use samples::{alice, check};
 use session::Desk;
 use std::alloc::Global;
@@ -21,7 +21,7 @@ type Nodes<D, R> = Cluster<D, R, InboxLink<R>>;
 struct Lossy;
 
 impl Link for Lossy {
-    fn send(&self, envelope: Envelope<Command>) {
+    fn send(&self, envelope: Envelope<SharedCommand>) {
         drop(envelope);
     }
 }

@@ -8,7 +8,7 @@ use crate::services::{
 use ballot::{Envelope, Message};
 use cluster::{Cluster, Deployment, Link, NodeDesk, Setup};
 use crossbeam_channel::{Receiver, Sender, unbounded};
-use maildrop::Command;
+use maildrop::SharedCommand;
 use samples::check;
 use std::alloc::Global;
 use std::marker::Brand;
@@ -21,7 +21,7 @@ use std::time::{Clock, Duration};
 /// An envelope on its way, and a flag that is set once the node which sent it was looked at.
 #[derive(Drop)]
 struct Parcel {
-    envelope: Envelope<Command>,
+    envelope: Envelope<SharedCommand>,
     seen: Flag,
 }
 
@@ -35,7 +35,7 @@ struct Posted<R: Wait + Clock> {
 }
 
 impl<R: Wait + Clock> Posted<R> {
-    fn post(&self, envelope: Envelope<Command>) -> bool {
+    fn post(&self, envelope: Envelope<SharedCommand>) -> bool {
         let Ok(seen) = new_flag(self.alloc) else {
             return false;
         };
@@ -51,7 +51,7 @@ impl<R: Wait + Clock> Posted<R> {
 }
 
 impl<R: Wait + Clock> Link for Posted<R> {
-    fn send(&self, envelope: Envelope<Command>) {
+    fn send(&self, envelope: Envelope<SharedCommand>) {
         let has_given_up = *self.gave_up.lock(&self.rt);
         if !has_given_up && !self.post(envelope) {
             *self.gave_up.lock(&self.rt) = true;
@@ -121,14 +121,14 @@ fn a_node_sends_once_its_lock_is_free(rt: HostRuntime) -> Result<(), Fail> {
 #[derive(Drop)]
 struct Meeting<R: Wait + Clock> {
     rt: R,
-    envelopes: Sender<Envelope<Command>>,
+    envelopes: Sender<Envelope<SharedCommand>>,
     here: Flag,
     there: Flag,
     met: Flag,
 }
 
 impl<R: Wait + Clock> Link for Meeting<R> {
-    fn send(&self, envelope: Envelope<Command>) {
+    fn send(&self, envelope: Envelope<SharedCommand>) {
         if let Message::P1b(_) = &envelope.message {
             *self.here.lock(&self.rt) = true;
             *self.met.lock(&self.rt) = wait_for(&self.rt, &self.there);

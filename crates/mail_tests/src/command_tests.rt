@@ -2,7 +2,7 @@
 
 use crate::short::{Short, in_short};
 use ballot::{Machine, Memory, Payload};
-use maildrop::{Command, CommandId, Key, Office, Op, Outcome, Uids};
+use maildrop::{Command, CommandId, Key, Name, Office, Op, Outcome, Shared, SharedCommand, Uids};
 use refusing::Refusal;
 use samples::{Heap, Scenario, alice, check, limits, name, requests, text, ticket};
 use std::alloc::Allocator;
@@ -42,15 +42,29 @@ fn op<A: Allocator + Copy>(alloc: A, kind: Kind) -> Result<Op<A>, Fail> {
     }
 }
 
-fn command<A: Allocator + Copy>(alloc: A, kind: Kind, number: u64) -> Result<Command<A>, Fail> {
-    Ok(Command {
-        user: alice()?,
+fn command_of<A: Allocator + Copy>(
+    alloc: A,
+    user: Name,
+    kind: Kind,
+    number: u64,
+) -> Result<SharedCommand<A>, Fail> {
+    let command = Command {
+        user,
         ticket: ticket(number)?,
         op: op(alloc, kind)?,
-    })
+    };
+    Ok(Shared::new(alloc, command)?)
 }
 
-/// How many requests for memory a copy makes at most: the text of a Mail is shared.
+fn command<A: Allocator + Copy>(
+    alloc: A,
+    kind: Kind,
+    number: u64,
+) -> Result<SharedCommand<A>, Fail> {
+    command_of(alloc, alice()?, kind, number)
+}
+
+/// How many requests for memory a copy of an operation makes at most: the text of a Mail is shared.
 fn most(kind: Kind) -> u64 {
     match kind {
         Kind::Commit => 1,
@@ -74,31 +88,67 @@ fn perform<M: Machine>(machine: &mut M, command: &M::Command) -> Result<M::Answe
     machine.apply(command)
 }
 
-/// A command that is copied.
+/// An operation that is copied.
 #[derive(Clone, Copy)]
 struct Copied(Kind);
 
 impl Scenario for Copied {
     fn run(&self, heap: Heap, refusal: Refusal) -> Result<(), Fail> {
-        let command = command(heap, self.0, 1)?;
+        let op = op(heap, self.0)?;
         heap.refuse(refusal);
-        let first = copy_of(&command);
+        let first = op.copy();
         let had_none = heap.has_refused();
         heap.grant_all();
         check(first.is_err() == had_none, "a copy in place of Memory")?;
         let copy = match first {
             Ok(copy) => copy,
-            Err(Memory) => copy_of(&command)?,
+            Err(Memory) => op.copy()?,
         };
-        check(are_same(&command, &copy), "another command")
+        check(op.same(&copy), "another operation")
     }
 }
 
 #[test]
-fn a_command_copies(rt: HostRuntime) -> Result<(), Fail> {
+fn an_operation_copies(rt: HostRuntime) -> Result<(), Fail> {
     for kind in KINDS {
         let requests = requests(rt.alloc(), &Copied(*kind), most(*kind))?;
-        println!(rt; "Command::copy, {kind:?}: {requests}")?;
+        println!(rt; "Op::copy, {kind:?}: {requests}")?;
+    }
+    Ok(())
+}
+
+/// A command that is made and copied, and whose first handle goes before the copy.
+#[derive(Clone, Copy)]
+struct Handed(Kind);
+
+impl Scenario for Handed {
+    fn run(&self, heap: Heap, refusal: Refusal) -> Result<(), Fail> {
+        let op = op(heap, self.0)?;
+        let (user, ticket) = (alice()?, ticket(1)?);
+        heap.refuse(refusal);
+        let made = Shared::new(heap, Command { user, ticket, op });
+        let had_none = heap.has_refused();
+        check(made.is_err() == had_none, "a command in place of Memory")?;
+        let Ok(command) = made else {
+            return Ok(());
+        };
+        heap.refuse(Refusal::All { after: 0 });
+        let copy = copy_of(&command);
+        heap.grant_all();
+        drop(command);
+        check(
+            are_same(&copy?, &self::command(heap, self.0, 1)?),
+            "another command",
+        )
+    }
+}
+
+/// A command takes memory once, and its copies none.
+#[test]
+fn copies_of_a_command_take_no_memory(rt: HostRuntime) -> Result<(), Fail> {
+    for kind in KINDS {
+        let requests = requests(rt.alloc(), &Handed(*kind), 1)?;
+        assert_eq!(rt; requests, 1);
     }
     Ok(())
 }
@@ -113,8 +163,7 @@ fn commands_are_told_apart(rt: HostRuntime) -> Result<(), Fail> {
         assert!(rt; identity_of(&one) == id);
         let later = command(alloc, *kind, 2)?;
         assert!(rt; !are_same(&one, &later) && identity_of(&later) > id);
-        let mut others = command(alloc, *kind, 1)?;
-        others.user = name("bob")?;
+        let others = command_of(alloc, name("bob")?, *kind, 1)?;
         assert!(rt; !are_same(&one, &others) && identity_of(&others) > id);
         for other in KINDS {
             let same = are_same(&one, &command(alloc, *other, 1)?);

@@ -6,6 +6,7 @@ ghost use Rattle.maildrop.specs.Equality.{command_decides};
 use crate::command_id::CommandId;
 use crate::name::Name;
 use crate::op::Op;
+use crate::shared::Shared;
 use crate::ticket::Ticket;
 use ballot::{Memory, Payload};
 use std::alloc::{Allocator, Global};
@@ -18,7 +19,26 @@ pub struct Command<A: Allocator = Global> {
     pub op: Op<A>,
 }
 
-impl<A: Allocator + Copy> Payload for Command<A> {
+impl<A: Allocator + Copy> Command<A> {
+    /// Whether both are the same operation of one user with one ticket.
+    pub fn same(&self, other: &Self) -> bool
+        ensures { result ≡ same_command self.now other.now }
+    {
+        self.user == other.user && self.ticket == other.ticket && self.op.same(&other.op)
+    }
+
+    /// The user and the ticket.
+    pub fn id(&self) -> CommandId
+        ensures { result ≡ identity_of self.now }
+    {
+        CommandId::new(self.user, self.ticket)
+    }
+}
+
+/// A command as nodes decide it: all messages, logs and lists that have it share it.
+pub type SharedCommand<A = Global> = Shared<Command<A>, A>;
+
+impl<A: Allocator + Copy> Payload for Shared<Command<A>, A> {
     type Id = CommandId;
 
     ghost identity = { identity_of };
@@ -28,19 +48,14 @@ impl<A: Allocator + Copy> Payload for Command<A> {
     ghost equality = { command_decides };
 
     fn copy(&self) -> Result<Self, Memory> {
-        let op = self.op.copy()?;
-        Ok(Command {
-            user: self.user,
-            ticket: self.ticket,
-            op,
-        })
+        Shared::copy(self)
     }
 
     fn same(&self, other: &Self) -> bool {
-        self.user == other.user && self.ticket == other.ticket && self.op.same(&other.op)
+        self.get().same(other.get())
     }
 
     fn id(&self) -> CommandId {
-        CommandId::new(self.user, self.ticket)
+        self.get().id()
     }
 }

@@ -4,7 +4,7 @@ ghost use Rattle.std.specs.Str.{bytes_eq};
 ghost use Rattle.maildrop.specs.Name.{are_different};
 ghost use Rattle.maildrop.specs.Office as spec;
 
-use crate::command::Command;
+use crate::command::{Command, SharedCommand};
 use crate::limits::Limits;
 use crate::maildrop::Maildrop;
 use crate::name::Name;
@@ -67,7 +67,7 @@ impl<A: Allocator + Copy> Office<A> {
 }
 
 impl<A: Allocator + Copy> Machine for Office<A> {
-    type Command = Command<A>;
+    type Command = SharedCommand<A>;
 
     type Answer = Outcome<A>;
 
@@ -75,8 +75,8 @@ impl<A: Allocator + Copy> Machine for Office<A> {
 
     ghost after = { spec.users_after };
 
-    fn apply(&mut self, command: &Command<A>) -> Result<Outcome<A>, Memory> {
-        Office::apply(self, command)
+    fn apply(&mut self, command: &SharedCommand<A>) -> Result<Outcome<A>, Memory> {
+        Office::apply(self, command.get())
     }
 }
 

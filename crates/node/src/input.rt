@@ -4,16 +4,19 @@ ghost use Rattle.node.specs.Nodes.{stops_after, user_of};
 
 use crate::stopped::Stopped;
 use ballot::{Envelope, Memory};
-use maildrop::{Command, Name, Op};
+use maildrop::{Name, Op, Shared, SharedCommand};
 use std::alloc::{Allocator, Global};
+
+/// An operation as a node takes it: in memory of its own, so that inputs of all kinds are small.
+pub type SharedOp<A = Global> = Shared<Op<A>, A>;
 
 /// One input of a node.
 #[derive(Drop)]
 pub enum Input<A: Allocator = Global> {
     /// An operation for a user is to be decided, as a command of this node.
-    Submit(Name, Op<A>),
+    Submit(Name, SharedOp<A>),
     /// A message comes. One to another node changes nothing but the log.
-    Arrive(Envelope<Command<A>, A>),
+    Arrive(Envelope<SharedCommand<A>, A>),
     /// Time has passed: what waits for an answer is sent again, and the decision of the next slot to perform is asked for.
     Tick,
     /// The node asks to lead.

@@ -12,7 +12,7 @@ mod step;
 mod stopped;
 mod tickets;
 
-pub use input::Input;
+pub use input::{Input, SharedOp};
 pub use laws::{
     answers_are_of_submits, answers_are_outcomes, answers_stay, crashes_are_for_good, tickets_last,
     tickets_name_one_submit,

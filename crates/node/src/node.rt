@@ -22,7 +22,7 @@ use crate::stopped::Stopped;
 use crate::tickets::{Given, last_ticket};
 use ballot::{Cluster, Items, Memory, NodeId, Slot};
 use indexmap::IndexMap;
-use maildrop::{Command, CommandId, Limits, Name, Outcome, Ticket};
+use maildrop::{CommandId, Limits, Name, Outcome, SharedCommand, Ticket};
 use std::alloc::{Allocator, Global};
 use std::marker::Model;
 
@@ -198,7 +198,7 @@ impl<A: Allocator + Copy> Node<A> {
     }
 
     /// What its replica has performed: each command once, with its slot. Unknown once it has stopped without memory.
-    pub fn performed(&self) -> &[(Slot, Command<A>)]
+    pub fn performed(&self) -> &[(Slot, SharedCommand<A>)]
         ensures { IsKnown self.now.stopped → result.now ≡ (replayed self.now.log).replica.performed }
     {
         self.roles.performed()

@@ -3,11 +3,11 @@ ghost use Rattle.std.specs.Prelude.{◌≡◌, IfOk};
 ghost use Rattle.node.specs.Replay as spec;
 
 use ballot::{Envelope, Items, Memory, NodeId, Sends};
-use maildrop::{Command, Ticket};
+use maildrop::{SharedCommand, Ticket};
 use std::alloc::{Allocator, Global};
 
 /// Messages with their senders and addressees, in the order in which they are sent.
-pub type Envelopes<A = Global> = Items<Envelope<Command<A>, A>, A>;
+pub type Envelopes<A = Global> = Items<Envelope<SharedCommand<A>, A>, A>;
 
 /// What a step gives: what the node sends, and after a `Submit` the ticket of its command.
 #[derive(Drop)]
@@ -20,7 +20,7 @@ pub struct Outputs<A: Allocator = Global> {
 pub(crate) fn sent_from<A: Allocator + Copy>(
     alloc: A,
     me: NodeId,
-    sends: Sends<Command<A>, A>,
+    sends: Sends<SharedCommand<A>, A>,
 ) -> Result<Envelopes<A>, Memory>
     ensures { IfOk result (λ envelopes. envelopes ≡ spec.sent_from me sends) }
 {

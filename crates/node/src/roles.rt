@@ -11,7 +11,7 @@ use crate::log::Opening;
 use acceptor::Acceptor;
 use ballot::{Envelope, Items, Memory, Message, NodeId, Outgoing, Sends, Slot};
 use leader::Leader;
-use maildrop::{Command, CommandId, Office, Outcome};
+use maildrop::{CommandId, Office, Outcome, SharedCommand};
 use replica::Replica;
 use std::alloc::{Allocator, Global};
 use std::marker::Model;
@@ -19,8 +19,8 @@ use std::marker::Model;
 /// The acceptor, the leader and the replica of a node. After `Memory` they are of no use any more.
 #[derive(Drop)]
 pub(crate) struct Roles<A: Allocator + Copy = Global> {
-    acceptor: Acceptor<Command<A>, A>,
-    leader: Leader<Command<A>, A>,
+    acceptor: Acceptor<SharedCommand<A>, A>,
+    leader: Leader<SharedCommand<A>, A>,
     replica: Replica<Office<A>, A>,
     alloc: A,
 }
@@ -51,7 +51,10 @@ impl<A: Allocator + Copy> Roles<A> {
     }
 
     /// The replica is asked for a command.
-    pub(crate) fn request(&mut self, command: Command<A>) -> Result<Sends<Command<A>, A>, Memory>
+    pub(crate) fn request(
+        &mut self,
+        command: SharedCommand<A>,
+    ) -> Result<Sends<SharedCommand<A>, A>, Memory>
         ensures node { OnOk result (self.new ≡ option_map (λ n. (submits n command).node) self.old) }
         ensures sends { (n : NodeState A) → self.old ≡ Some n → IfOk result (λ sends. sends ≡ (submits n command).sends) }
     {
@@ -62,8 +65,8 @@ impl<A: Allocator + Copy> Roles<A> {
     pub(crate) fn arrive(
         &mut self,
         me: NodeId,
-        envelope: Envelope<Command<A>, A>,
-    ) -> Result<Sends<Command<A>, A>, Memory>
+        envelope: Envelope<SharedCommand<A>, A>,
+    ) -> Result<Sends<SharedCommand<A>, A>, Memory>
         ensures node { (n : NodeState A) → self.old ≡ Some n → OnOk result (self.new ≡ Some ((arrives me n envelope).node)) }
         ensures sends { (n : NodeState A) → self.old ≡ Some n → IfOk result (λ sends. sends ≡ (arrives me n envelope).sends) }
     {
@@ -78,8 +81,8 @@ impl<A: Allocator + Copy> Roles<A> {
     fn hear(
         &mut self,
         from: NodeId,
-        message: Message<Command<A>, A>,
-    ) -> Result<Sends<Command<A>, A>, Memory>
+        message: Message<SharedCommand<A>, A>,
+    ) -> Result<Sends<SharedCommand<A>, A>, Memory>
         ensures node { OnOk result (self.new ≡ option_map (λ n. (hears n from message).node) self.old) }
         ensures sends { (n : NodeState A) → self.old ≡ Some n → IfOk result (λ sends. sends ≡ (hears n from message).sends) }
     {
@@ -104,8 +107,8 @@ impl<A: Allocator + Copy> Roles<A> {
     fn answer(
         &self,
         to: NodeId,
-        message: Message<Command<A>, A>,
-    ) -> Result<Sends<Command<A>, A>, Memory>
+        message: Message<SharedCommand<A>, A>,
+    ) -> Result<Sends<SharedCommand<A>, A>, Memory>
         ensures { IfOk result (λ sends. sends ≡ record { to = to; message = message } ∷ []) }
     {
         let mut sends = Items::new(self.alloc);
@@ -114,7 +117,7 @@ impl<A: Allocator + Copy> Roles<A> {
     }
 
     /// The decision of the slot goes to the node that asked for it, where it is known.
-    fn tell(&self, to: NodeId, slot: Slot) -> Result<Sends<Command<A>, A>, Memory>
+    fn tell(&self, to: NodeId, slot: Slot) -> Result<Sends<SharedCommand<A>, A>, Memory>
         ensures { (n : NodeState A) → self.now ≡ Some n → IfOk result (λ sends. sends ≡ told to slot (at_slot slot n.replica.decisions)) }
     {
         match self.replica.ask(slot)? {
@@ -124,7 +127,7 @@ impl<A: Allocator + Copy> Roles<A> {
     }
 
     /// Time has passed: the leader asks again, then the replica.
-    pub(crate) fn tick(&mut self) -> Result<Sends<Command<A>, A>, Memory>
+    pub(crate) fn tick(&mut self) -> Result<Sends<SharedCommand<A>, A>, Memory>
         ensures node { OnOk result (self.new ≡ self.old) }
         ensures sends { (n : NodeState A) → self.old ≡ Some n → IfOk result (λ sends. sends ≡ (ticks n).sends) }
     {
@@ -134,7 +137,7 @@ impl<A: Allocator + Copy> Roles<A> {
     }
 
     /// The leader asks for its ballot.
-    pub(crate) fn campaign(&mut self) -> Result<Sends<Command<A>, A>, Memory>
+    pub(crate) fn campaign(&mut self) -> Result<Sends<SharedCommand<A>, A>, Memory>
         ensures node { OnOk result (self.new ≡ option_map (λ n. (campaigns n).node) self.old) }
         ensures sends { (n : NodeState A) → self.old ≡ Some n → IfOk result (λ sends. sends ≡ (campaigns n).sends) }
     {
@@ -157,7 +160,7 @@ impl<A: Allocator + Copy> Roles<A> {
     }
 
     /// What the replica has performed.
-    pub(crate) fn performed(&self) -> &[(Slot, Command<A>)]
+    pub(crate) fn performed(&self) -> &[(Slot, SharedCommand<A>)]
         ensures { IfSome self.now (λ n. result.now ≡ n.replica.performed) }
     {
         self.replica.performed()

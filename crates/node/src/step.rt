@@ -7,30 +7,31 @@ ghost use Rattle.node.specs.Tickets.{CanStop};
 ghost use Rattle.node.specs.declared.input.Input.TheVariants.{Submit};
 ghost use Rattle.node.specs.declared.stopped.Stopped.TheVariants.{TicketsUsed};
 
-use crate::input::Input;
+use crate::input::{Input, SharedOp};
 use crate::log::NodeLog;
 use crate::outputs::{Outputs, sent_from};
 use crate::roles::Roles;
 use crate::stopped::Stopped;
 use crate::tickets::{Given, give, next_ticket};
 use ballot::{Items, Memory, Sends};
-use maildrop::{Command, Name, Op, Ticket};
+use maildrop::{Command, Name, Shared, SharedCommand, Ticket};
 use std::alloc::{Allocator, Global};
 
 /// What an input brings: messages, and after a `Submit` the ticket of its command.
 #[derive(Drop)]
 struct Acted<A: Allocator = Global> {
-    sends: Sends<Command<A>, A>,
+    sends: Sends<SharedCommand<A>, A>,
     ticket: Option<Ticket>,
 }
 
 /// Gives a command for the user its ticket, and has it requested.
 fn submit<A: Allocator + Copy>(
+    alloc: A,
     log: &NodeLog<A>,
     roles: &mut Roles<A>,
     given: &Given<A>,
     user: Name,
-    op: &Op<A>,
+    op: &SharedOp<A>,
 ) -> Result<Acted<A>, Stopped>
     requires { AreGiven log.now.inputs given.now.entries }
     ensures node { (n : NodeState A) → roles.old ≡ Some n → OnOk result (roles.new ≡ Some ((submits n (command_for log.now.opening.me user op.now log.now.inputs)).node)) }
@@ -44,8 +45,9 @@ fn submit<A: Allocator + Copy>(
     let Some(ticket) = next_ticket(log.opening.me, given, user) else {
         return Err(Stopped::TicketsUsed);
     };
-    let op = op.copy()?;
-    let sends = roles.request(Command { user, ticket, op })?;
+    let op = op.get().copy()?;
+    let command = Shared::new(alloc, Command { user, ticket, op })?;
+    let sends = roles.request(command)?;
     Ok(Acted {
         sends,
         ticket: Some(ticket),
@@ -70,7 +72,7 @@ fn act<A: Allocator + Copy>(
     ensures unchanged { IfErr result (λ stop. stop ≡ TicketsUsed → roles.new ≡ roles.old) }
 {
     let sends = match input {
-        Input::Submit(user, op) => return submit(log, roles, given, *user, op),
+        Input::Submit(user, op) => return submit(alloc, log, roles, given, *user, op),
         Input::Arrive(envelope) => roles.arrive(log.opening.me, envelope.copy()?)?,
         Input::Tick => roles.tick()?,
         Input::Campaign => roles.campaign()?,

@@ -5,7 +5,7 @@ use crate::samples::{accounts, greeting_stamp, limits, line};
 use crate::talk::Talk;
 use apop::Accounts;
 use ballot::Slot;
-use maildrop::{Command, Name, Office, Outcome, Ticket, are_different};
+use maildrop::{Name, Office, Outcome, SharedCommand, Ticket, are_different};
 use session::{Session, Step};
 use std::alloc::Global;
 use std::test::Fail;
@@ -16,7 +16,7 @@ struct Alone<'d, 't> {
     session: Session,
     office: Office,
     /// What isn't performed yet.
-    decided: &'d [(Slot, Command)],
+    decided: &'d [(Slot, SharedCommand)],
     tickets: &'t [Ticket],
     said: Vec<u8>,
     is_over: bool,
@@ -27,6 +27,7 @@ impl Alone<'_, '_> {
     fn outcome(&mut self, user: Name, ticket: Ticket) -> Result<Option<Outcome>, Fail> {
         let decided = self.decided;
         for (place, (_, command)) in decided.iter().enumerate() {
+            let command = command.get();
             let outcome = self.office.apply(command)?;
             if command.user == user && command.ticket == ticket {
                 self.decided = decided.get(place.saturating_add(1)..).unwrap_or_default();
@@ -90,7 +91,7 @@ fn said_at(step: &Step) -> Option<&[u8]> {
 fn replies(
     alloc: Global,
     accounts: &Accounts,
-    decided: &[(Slot, Command)],
+    decided: &[(Slot, SharedCommand)],
     talk: &Talk,
 ) -> Result<Vec<u8>, Fail> {
     let names = accounts.names();

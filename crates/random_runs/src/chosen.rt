@@ -1,7 +1,7 @@
 //! Which commands are chosen, by the messages that were sent.
 
 use ballot::{Ballot, Cluster, Message, NodeId, Payload, Slot, Vote};
-use maildrop::{Command, CommandId};
+use maildrop::{CommandId, SharedCommand};
 use std::alloc::Global;
 use std::test::Fail;
 use world::Sent;
@@ -61,7 +61,7 @@ impl Votes {
         None
     }
 
-    fn is_wrong_decision(&self, message: &Message<Command>) -> bool {
+    fn is_wrong_decision(&self, message: &Message<SharedCommand>) -> bool {
         match message {
             Message::Decision(slot, command) => self.chosen(*slot) != Some(command.id()),
             _ => false,

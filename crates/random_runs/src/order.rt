@@ -3,7 +3,7 @@
 use crate::chosen::Votes;
 use crate::play::{Asked, Play};
 use ballot::{NodeId, Payload, Slot};
-use maildrop::{Command, Op};
+use maildrop::{Command, Op, SharedCommand};
 
 /// What the operation was asked as.
 fn asked_as(op: &Op) -> Asked {
@@ -23,12 +23,16 @@ fn was_submitted(play: &Play, command: &Command) -> bool {
 }
 
 /// Whether two nodes have performed the same in this place.
-fn is_same(left: &(Slot, Command), right: &(Slot, Command)) -> bool {
+fn is_same(left: &(Slot, SharedCommand), right: &(Slot, SharedCommand)) -> bool {
     left.0 == right.0 && left.1.same(&right.1)
 }
 
 /// What is wrong with what a node has performed, beside the most that a node has.
-fn wrong_node(play: &Play, longest: &[(Slot, Command)], node: NodeId) -> Option<&'static str> {
+fn wrong_node(
+    play: &Play,
+    longest: &[(Slot, SharedCommand)],
+    node: NodeId,
+) -> Option<&'static str> {
     let performed = play.world.performed(node)?;
     if performed
         .iter()
@@ -48,7 +52,7 @@ pub fn wrong_order(play: &Play, votes: &Votes) -> Option<&'static str> {
     }
     if longest
         .iter()
-        .any(|(_, command)| !was_submitted(play, command))
+        .any(|(_, command)| !was_submitted(play, command.get()))
     {
         return Some("a node performs a command that nobody submitted");
     }

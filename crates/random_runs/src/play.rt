@@ -4,7 +4,7 @@ use crate::chance::Chance;
 use crate::samples::{LINES, config, greeting_stamp, line, name, text};
 use crate::talk::Talk;
 use ballot::{Cluster, NodeId, Slot};
-use maildrop::{Command, Name, Ticket};
+use maildrop::{Name, SharedCommand, Ticket};
 use std::alloc::Global;
 use std::test::Fail;
 use world::{Event, SessionId, World};
@@ -113,8 +113,8 @@ impl Play {
     }
 
     /// The most that a node has performed.
-    pub fn longest(&self) -> &[(Slot, Command)] {
-        let mut longest: &[(Slot, Command)] = &[];
+    pub fn longest(&self) -> &[(Slot, SharedCommand)] {
+        let mut longest: &[(Slot, SharedCommand)] = &[];
         for number in 1..=self.cluster.get() {
             let Some(node) = NodeId::new(number) else {
                 continue;

@@ -33,7 +33,7 @@ fn a_message_is_delivered_read_and_removed(rt: HostRuntime) -> Result<(), Fail> 
     );
     let (status, written) = service.stop(&rt, alloc)?;
     assert_eq!(rt; status, 0);
-    assert_eq!(rt; written.as_slice(), b"stopped\n".as_slice());
+    assert_eq!(rt; written.as_slice(), b"audit ok\n".as_slice());
     Ok(())
 }
 

@@ -53,7 +53,8 @@ impl Operations {
             return Ok(());
         };
         for (_, command) in commands.get(*seen..).unwrap_or(&[]) {
-            let id = CommandId::new(command.user, command.ticket);
+            let command = command.get();
+            let id = command.id();
             if command.ticket.get().0 != node {
                 continue;
             }

@@ -4,7 +4,7 @@ ghost use Rattle.script.specs.Output as spec;
 ghost use Rattle.simulator.specs.Reports.{order_lines, slot_lines};
 
 use ballot::{Memory, NodeId, Slot};
-use maildrop::{Command, Name, Outcome, Ticket};
+use maildrop::{Name, Outcome, SharedCommand, Ticket};
 use script::{Refusal, put_outcome, put_performed, put_refusal, put_replies, put_slot};
 use std::alloc::Global;
 use std::marker::Model;
@@ -24,17 +24,21 @@ impl Model for Report {
 }
 
 /// The lines that a node's commands bring, each with its slot.
-fn put_slots(out: &mut Vec<u8>, performed: &[(Slot, Command)]) -> Result<(), Memory>
+fn put_slots(out: &mut Vec<u8>, performed: &[(Slot, SharedCommand)]) -> Result<(), Memory>
     ensures { OnOk result (out.new.items ≡ out.old.items ++ slot_lines performed.now) }
 {
     for (slot, command) in performed {
-        put_slot(out, *slot, command)?;
+        put_slot(out, *slot, command.get())?;
     }
     Ok(())
 }
 
 /// The lines of `order`.
-fn put_order(out: &mut Vec<u8>, node: NodeId, performed: &[(Slot, Command)]) -> Result<(), Memory>
+fn put_order(
+    out: &mut Vec<u8>,
+    node: NodeId,
+    performed: &[(Slot, SharedCommand)],
+) -> Result<(), Memory>
     ensures { OnOk result (out.new.items ≡ out.old.items ++ order_lines node performed.now) }
 {
     put_performed(out, node, performed.len())?;
@@ -111,7 +115,7 @@ impl Report {
     pub(crate) fn order(
         &mut self,
         node: NodeId,
-        performed: &[(Slot, Command)],
+        performed: &[(Slot, SharedCommand)],
     ) -> Result<(), Memory>
         ensures { OnOk result (self.new ≡ self.old ++ order_lines node performed.now) }
     {

@@ -29,10 +29,12 @@ pub mod OneUser
 pub mod Unchanged
 pub mod Fit
 pub mod Reached
+pub mod Decisions
 pub mod Later
 pub mod Arrivals
 pub mod Blocks
 pub mod Searching
+pub mod Noting
 pub mod Nexts
 pub mod Settled
 pub mod WholeRuns

@@ -28,6 +28,8 @@ use Rattle.world.specs.declared.event.Event.{Event}
 use Rattle.world.specs.declared.refused.Refused.{Refused}
 use Rattle.world.specs.declared.refused.Refused.TheVariants.{Memory}
 use Rattle.world.specs.declared.sent.Sent.{Sent}
+use Rattle.world.proofs.Decisions.{reached_nodes}
+use Rattle.world.proofs.ServiceRuns.{AreOfRun}
 use Rattle.world.proofs.Serving.{every_service}
 use Rattle.world.proofs.Reached.{new_reached, next_reached, reached_projected}
 
@@ -94,6 +96,9 @@ module _ {A : Type 0} where
 
   pub ran_projected : (cfg : Config A) (es : List (Event A)) (session : ℕ) (c : Client A) → client_of session (ran (new_world cfg) es).service.clients ≡ Some c → IsProjected cfg (ran (new_world cfg) es).service c
   ran_projected cfg es session c at = reached_projected cfg (ran (new_world cfg) es).service (ran_reached cfg es (new_world cfg).service [] (new_reached cfg)) session c at
+
+  pub ran_nodes : (cfg : Config A) (es : List (Event A)) → AreOfRun cfg (ran (new_world cfg) es).service
+  ran_nodes cfg es = reached_nodes cfg (ran (new_world cfg) es).service (ran_reached cfg es (new_world cfg).service [] (new_reached cfg))
 
   -- the nodes stay as many as they are
   takes_count : (w : Network A) (n : ℕ) (i : Input A) → length (takes w n i).logs ≡ length w.logs

@@ -6,6 +6,7 @@ pub mod Clients
 pub mod Services
 pub mod Refusals
 pub mod Projection
+pub mod Decisions
 pub mod Worlds
 pub mod Hosts
 pub mod Connections
@@ -13,5 +14,6 @@ pub mod Served
 pub mod Interrupted
 pub mod Kept
 pub mod Scheduling
+pub mod Waiting
 pub mod Settling
 pub mod Examples

@@ -14,10 +14,10 @@ ghost use Rattle.node.specs.declared.input.Input.TheVariants.{Crash};
 ghost use Rattle.maildrop.specs.CommandId.{CommandId, same_id};
 
 use crate::config::Config;
-use crate::connections::{Connections, collect_answer, connect, hang_up, send_line};
 use crate::event::Event;
 use crate::hosts::Hosts;
 use crate::operations::{Operations, submit};
+use crate::session_table::Sessions;
 use ballot::{Memory, NodeId};
 use maildrop::Op;
 use node::Input;
@@ -28,7 +28,7 @@ pub(crate) fn act<A: Allocator + Copy>(
     alloc: A,
     config: &Config<A>,
     hosts: &mut Hosts<A>,
-    connections: &mut Connections<A>,
+    connections: &mut Sessions<A>,
     operations: &mut Operations<A>,
     event: Event<A>,
 ) -> Result<(), Memory>
@@ -48,16 +48,15 @@ pub(crate) fn act<A: Allocator + Copy>(
             session,
             node,
             stamp,
-        } => connect(alloc, connections, hosts, session, node, stamp),
-        Event::Line { session, line } => send_line(
-            connections,
+        } => connections.connect(alloc, hosts, session, node, stamp),
+        Event::Line { session, line } => connections.send_line(
             hosts,
             &config.accounts,
             session,
             line,
         ),
-        Event::Hangup { session } => hang_up(connections, hosts, session),
-        Event::Collect { session } => collect_answer(connections, hosts, session),
+        Event::Hangup { session } => connections.hang_up(hosts, session),
+        Event::Collect { session } => connections.collect_answer(hosts, session),
         Event::Mail {
             node,
             user,

@@ -8,6 +8,7 @@ ghost use Rattle.world.specs.Connections.{service_of, client_in, IsFit, AreFit, 
 ghost use Rattle.world.specs.Hosts.{HasAnswerAt};
 ghost use Rattle.world.specs.Interrupted.{IsInterrupted};
 ghost use Rattle.world.specs.Services.{occurs};
+ghost use Rattle.world.specs.Waiting.{KeepsOthers};
 ghost use Rattle.world.specs.declared.config.Config.{Config};
 ghost use Rattle.world.specs.declared.connection.Connection.{Connection};
 ghost use Rattle.world.specs.declared.event.Event.TheVariants as event;
@@ -44,6 +45,7 @@ pub(crate) fn connect<A: Allocator + Copy>(
     ensures ok { (cfg : Config A) → OnOk result (service_of hosts.now connections.new.entries ≡ occurs cfg (service_of hosts.now connections.old.entries) (event.Connect session node stamp)) }
     ensures err { OnErr result (connections.new.entries ≡ connections.old.entries) }
     ensures fit { AreFit connections.new.entries }
+    ensures sessions { KeepsOthers session connections.old.entries connections.new.entries }
 {
     if !hosts.is_up(node) {
         return Ok(());
@@ -89,6 +91,7 @@ pub(crate) fn send_line<A: Allocator + Copy>(
     ensures err { (cfg : Config A) → OnErr result (IsInterrupted cfg (event.Line session line) (service_of hosts.old connections.old.entries) (service_of hosts.new connections.new.entries)) }
     ensures fit { AreFit connections.new.entries }
     ensures answers { (n : ℕ) (id : CommandId) → HasAnswerAt n id hosts.old → HasAnswerAt n id hosts.new }
+    ensures sessions { KeepsOthers session connections.old.entries connections.new.entries }
 {
     match connections.get_mut(&session) {
         Some(connection) => connection.hear(hosts, accounts, line),
@@ -110,6 +113,7 @@ pub(crate) fn collect_answer<A: Allocator + Copy>(
     ensures others { (n : ℕ) (other : CommandId)
         → ((c : Connection A) (id : CommandId) → connection_of session connections.old.entries ≡ Some c → awaited_by c.standing ≡ Some id → is_eq (compare_ids id other) ≡ false)
         → HasAnswerAt n other hosts.old → HasAnswerAt n other hosts.new }
+    ensures sessions { KeepsOthers session connections.old.entries connections.new.entries }
 {
     match connections.get_mut(&session) {
         Some(connection) => connection.collect(hosts),
@@ -128,6 +132,7 @@ pub(crate) fn hang_up<A: Allocator + Copy>(
     ensures err { (cfg : Config A) → OnErr result (IsInterrupted cfg (event.Hangup session) (service_of hosts.old connections.old.entries) (service_of hosts.new connections.new.entries)) }
     ensures fit { AreFit connections.new.entries }
     ensures answers { (n : ℕ) (id : CommandId) → HasAnswerAt n id hosts.old → HasAnswerAt n id hosts.new }
+    ensures sessions { KeepsOthers session connections.old.entries connections.new.entries }
 {
     match connections.get_mut(&session) {
         Some(connection) => connection.hang_up(hosts),

@@ -13,7 +13,6 @@ use crate::connection::{Connection, Standing};
 use crate::hosts::Hosts;
 use ballot::Memory;
 use maildrop::{Name, Op, Ticket};
-use node::Input;
 use std::alloc::Allocator;
 
 impl<A: Allocator + Copy> Connection<A> {
@@ -71,7 +70,7 @@ impl<A: Allocator + Copy> Connection<A> {
         ensures answers { (n : ℕ) (id : CommandId) → HasAnswerAt n id hosts.old → HasAnswerAt n id hosts.new }
     {
         if let Some((user, lock)) = lock {
-            let _ = hosts.take(self.node, Input::Submit(user, Op::Free { lock }))?;
+            let _ = hosts.submit(self.node, user, Op::Free { lock })?;
         }
         self.standing = Standing::Over;
         Ok(())

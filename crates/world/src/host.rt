@@ -11,7 +11,7 @@ ghost use Rattle.world.specs.Worlds.{answer_at};
 
 use crate::sent_messages::SentMessages;
 use ballot::{Memory, Slot};
-use maildrop::{Command, CommandId, Name, Outcome, Ticket};
+use maildrop::{CommandId, Name, Outcome, SharedCommand, Ticket};
 use node::{Input, Node, Stopped};
 use std::alloc::{Allocator, Global};
 use std::marker::Model;
@@ -123,7 +123,7 @@ impl<A: Allocator + Copy> Host<A> {
 
     /// What it has performed: each command once, with its slot. None where it has stopped for want of
     /// memory or tickets.
-    pub(crate) fn performed(&self) -> Option<&[(Slot, Command<A>)]>
+    pub(crate) fn performed(&self) -> Option<&[(Slot, SharedCommand<A>)]>
         ensures value { IfSome result (λ performed. performed.now ≡ (replayed self.now.log).replica.performed) }
         ensures up { is_up (Some self.now.log) ≡ true → is_some result ≡ true }
     {

@@ -4,7 +4,7 @@ ghost use Rattle.std.specs.List.{position};
 ghost use Rattle.std.specs.Option.{option_map};
 ghost use Rattle.std.specs.Ordering.{is_eq};
 ghost use Rattle.maildrop.specs.CommandId.{CommandId, compare_ids};
-ghost use Rattle.node.specs.declared.input.Input.TheVariants.{Crash};
+ghost use Rattle.node.specs.declared.input.Input.TheVariants.{Crash, Submit};
 ghost use Rattle.world.specs.Hosts.{network_of, HasAnswerAt, IsArrivalCut, ticket_at};
 ghost use Rattle.world.specs.Messages.{is_up, log_of, takes, arrives};
 ghost use Rattle.world.specs.Scheduling.{reach, can_arrive, IsQuiet};
@@ -16,7 +16,7 @@ use crate::index::{Index, block_end, block_start, pass_over, refresh, take_in};
 use crate::nodes::Nodes;
 use crate::sent::Sent;
 use ballot::{Memory, NodeId, Slot};
-use maildrop::{Command, CommandId, Name, Outcome, Ticket};
+use maildrop::{CommandId, Name, Op, Outcome, Shared, SharedCommand, Ticket};
 use node::Input;
 use std::alloc::{Allocator, Global};
 use std::marker::Model;
@@ -79,6 +79,28 @@ impl<A: Allocator + Copy> Hosts<A> {
             pass_over(&self.nodes, &mut self.index);
         }
         taken
+    }
+
+    /// A node takes an operation for a user, as by `take`. After `Memory`, also without memory for the operation, it has
+    /// crashed.
+    pub(crate) fn submit(
+        &mut self,
+        node: NodeId,
+        user: Name,
+        op: Op<A>,
+    ) -> Result<Option<Ticket>, Memory>
+        ensures ok { OnOk result (network_of self.new ≡ takes (network_of self.old) node (Submit user op)) }
+        ensures ticket { IfOk result (λ ticket. ticket ≡ ticket_at (log_of node (network_of self.old).logs) (Submit user op)) }
+        ensures err { OnErr result (network_of self.new ≡ takes (network_of self.old) node Crash) }
+        ensures answers { (n : ℕ) (id : CommandId) → HasAnswerAt n id self.old → HasAnswerAt n id self.new }
+    {
+        match Shared::new(*self.index.allocator(), op) {
+            Ok(op) => self.take(node, Input::Submit(user, op)),
+            Err(error) => {
+                self.crash(node);
+                Err(error)
+            }
+        }
     }
 
     /// A node stops, for good. Where it isn't there, or isn't up, nothing happens.
@@ -182,7 +204,7 @@ impl<A: Allocator + Copy> Hosts<A> {
 
     /// What a node has performed: each command once, with its slot. None where there is no such node, or it has stopped
     /// for want of memory.
-    pub(crate) fn performed(&self, node: NodeId) -> Option<&[(Slot, Command<A>)]>
+    pub(crate) fn performed(&self, node: NodeId) -> Option<&[(Slot, SharedCommand<A>)]>
         ensures value { IfSome result (λ performed. performed_in (log_of node (network_of self.now).logs) ≡ Some performed.now) }
         ensures up { is_up (log_of node (network_of self.now).logs) ≡ true → is_some result ≡ true }
     {

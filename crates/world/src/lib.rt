@@ -23,7 +23,9 @@ mod sent;
 mod sent_messages;
 mod service_laws;
 mod session_id;
+mod session_table;
 mod settle;
+mod waiting;
 mod whole_run;
 mod world;
 

@@ -17,7 +17,6 @@ use crate::hosts::Hosts;
 use apop::Accounts;
 use ballot::{Items, Memory};
 use maildrop::{CommandId, Name, Op};
-use node::Input;
 use pop3_wire::Line;
 use session::Step;
 use std::alloc::Allocator;
@@ -142,7 +141,7 @@ impl<A: Allocator + Copy> Connection<A> {
         ensures fit { IsFit self.new }
         ensures answers { (n : ℕ) (id : CommandId) → HasAnswerAt n id hosts.old → HasAnswerAt n id hosts.new }
     {
-        match hosts.take(self.node, Input::Submit(user, op)) {
+        match hosts.submit(self.node, user, op) {
             Ok(Some(ticket)) => {
                 self.heard.push_reserved(Heard {
                     line,

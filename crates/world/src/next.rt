@@ -10,16 +10,16 @@ ghost use Rattle.world.specs.declared.config.Config.{Config};
 ghost use Rattle.world.specs.declared.connection.Connection.{Connection};
 
 use crate::connection::Connection;
-use crate::connections::Connections;
 use crate::event::Event;
 use crate::hosts::Hosts;
 use crate::session_id::SessionId;
+use crate::session_table::Sessions;
 use std::alloc::Allocator;
 
 /// The session that connected as this number, counted from 0, if the answer is there that it awaits, at a node that is up.
 fn answered_at<A: Allocator + Copy>(
     hosts: &Hosts<A>,
-    connections: &Connections<A>,
+    connections: &Sessions<A>,
     place: usize,
 ) -> Option<SessionId>
     requires { AreUntaken hosts.now connections.now.entries }
@@ -45,19 +45,19 @@ fn is_ready<A: Allocator + Copy>(hosts: &Hosts<A>, connection: &Connection<A>) -
     }
 }
 
-/// The first session of those that connected whose answer is there takes it.
-fn next_answer<A: Allocator + Copy>(
-    hosts: &Hosts<A>,
-    connections: &Connections<A>,
-) -> Option<Event<A>>
+/// The first session of those that connected whose answer is there takes it. Only sessions that await one are looked at.
+fn next_answer<A: Allocator + Copy>(hosts: &Hosts<A>, connections: &Sessions<A>) -> Option<Event<A>>
     requires { AreUntaken hosts.now connections.now.entries }
     ensures value { result ≡ spec.next_answer (service_of hosts.now connections.now.entries) }
     ensures possible { (cfg : Config A) → IfSome result (λ event. step_refusal cfg (service_of hosts.now connections.now.entries) event ≡ None) }
 {
-    for place in 0..connections.len() {
-        if let Some(session) = answered_at(hosts, connections, place) {
+    let mut place = 0;
+    while place < connections.len() {
+        let next = connections.next_waiting(place)?;
+        if let Some(session) = answered_at(hosts, connections, next) {
             return Some(Event::Collect { session });
         }
+        place = next + 1;
     }
     None
 }
@@ -65,7 +65,7 @@ fn next_answer<A: Allocator + Copy>(
 /// An answer that is there is taken, or else the first message arrives, from this place on, that never did.
 pub(crate) fn next_oldest<A: Allocator + Copy>(
     hosts: &Hosts<A>,
-    connections: &Connections<A>,
+    connections: &Sessions<A>,
     from: usize,
 ) -> Option<Event<A>>
     requires { AreUntaken hosts.now connections.now.entries }
@@ -82,7 +82,7 @@ pub(crate) fn next_oldest<A: Allocator + Copy>(
 /// An answer that is there is taken, or else the last message arrives, from this place on, that did fewer times than this.
 pub(crate) fn next_newest<A: Allocator + Copy>(
     hosts: &Hosts<A>,
-    connections: &Connections<A>,
+    connections: &Sessions<A>,
     from: usize,
     copies: u64,
 ) -> Option<Event<A>>

@@ -12,7 +12,7 @@ use crate::host::Host;
 use crate::sent::Sent;
 use crate::sent_messages::{SentMessages, arriving};
 use ballot::{Memory, NodeId, Slot};
-use maildrop::{Command, CommandId, Name, Outcome, Ticket};
+use maildrop::{CommandId, Name, Outcome, SharedCommand, Ticket};
 use node::Input;
 use std::alloc::{Allocator, Global};
 use std::marker::Model;
@@ -148,7 +148,7 @@ impl<A: Allocator + Copy> Nodes<A> {
 
     /// What a node has performed: each command once, with its slot. None where there is no such node, or it has stopped
     /// for want of memory.
-    pub(crate) fn performed(&self, node: NodeId) -> Option<&[(Slot, Command<A>)]>
+    pub(crate) fn performed(&self, node: NodeId) -> Option<&[(Slot, SharedCommand<A>)]>
         ensures value { IfSome result (λ performed. performed_in (log_of node (network_of self.now).logs) ≡ Some performed.now) }
         ensures up { is_up (log_of node (network_of self.now).logs) ≡ true → is_some result ≡ true }
     {

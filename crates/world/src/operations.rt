@@ -15,7 +15,6 @@ use crate::hosts::Hosts;
 use ballot::{Memory, NodeId};
 use indexmap::IndexMap;
 use maildrop::{CommandId, Name, Op, Outcome};
-use node::Input;
 use std::alloc::Allocator;
 use std::hash::{BuildHasherDefault, FoldHasher};
 
@@ -43,7 +42,7 @@ pub(crate) fn submit<A: Allocator + Copy>(
         hosts.crash(node);
         return Err(Memory);
     }
-    match hosts.take(node, Input::Submit(user, op)) {
+    match hosts.submit(node, user, op) {
         Ok(Some(ticket)) => {
             let _ = operations.insert(CommandId::new(user, ticket), false)?;
             Ok(())

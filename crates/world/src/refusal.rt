@@ -12,11 +12,11 @@ ghost use Rattle.world.specs.Services.{Service};
 
 use crate::config::Config;
 use crate::connection::{Connection, Standing};
-use crate::connections::Connections;
 use crate::event::Event;
 use crate::hosts::Hosts;
 use crate::refused::Refused;
 use crate::session_id::SessionId;
+use crate::session_table::Sessions;
 use ballot::NodeId;
 use maildrop::Name;
 use std::alloc::Allocator;
@@ -25,7 +25,7 @@ use std::alloc::Allocator;
 pub(crate) fn refusal_of<A: Allocator + Copy>(
     config: &Config<A>,
     hosts: &Hosts<A>,
-    connections: &Connections<A>,
+    connections: &Sessions<A>,
     event: &Event<A>,
 ) -> Option<Refused>
     requires { AreUntaken hosts.now connections.now.entries }
@@ -57,13 +57,13 @@ fn of_node<A: Allocator + Copy>(hosts: &Hosts<A>, node: NodeId) -> Option<Refuse
 
 fn of_connect<A: Allocator + Copy>(
     hosts: &Hosts<A>,
-    connections: &Connections<A>,
+    connections: &Sessions<A>,
     session: SessionId,
     node: NodeId,
 ) -> Option<Refused>
     ensures { let w = service_of hosts.now connections.now.entries in result ≡ spec.connect_refusal w node (client_of session w.clients) }
 {
-    match connections.get(&session) {
+    match connections.get(session) {
         Some(_) => Some(Refused::SessionExists),
         None => of_node(hosts, node),
     }
@@ -71,12 +71,12 @@ fn of_connect<A: Allocator + Copy>(
 
 fn of_line<A: Allocator + Copy>(
     hosts: &Hosts<A>,
-    connections: &Connections<A>,
+    connections: &Sessions<A>,
     session: SessionId,
 ) -> Option<Refused>
     ensures { let w = service_of hosts.now connections.now.entries in result ≡ spec.client_refusal w (client_of session w.clients) spec.line_refusal }
 {
-    match connections.get(&session) {
+    match connections.get(session) {
         Some(connection) => connection.line_refusal(hosts.is_up(connection.node)),
         None => Some(Refused::NoSession),
     }
@@ -84,12 +84,12 @@ fn of_line<A: Allocator + Copy>(
 
 fn of_hangup<A: Allocator + Copy>(
     hosts: &Hosts<A>,
-    connections: &Connections<A>,
+    connections: &Sessions<A>,
     session: SessionId,
 ) -> Option<Refused>
     ensures { let w = service_of hosts.now connections.now.entries in result ≡ spec.client_refusal w (client_of session w.clients) spec.hangup_refusal }
 {
-    match connections.get(&session) {
+    match connections.get(session) {
         Some(connection) => connection.hangup_refusal(hosts.is_up(connection.node)),
         None => Some(Refused::NoSession),
     }
@@ -97,13 +97,13 @@ fn of_hangup<A: Allocator + Copy>(
 
 fn of_collect<A: Allocator + Copy>(
     hosts: &Hosts<A>,
-    connections: &Connections<A>,
+    connections: &Sessions<A>,
     session: SessionId,
 ) -> Option<Refused>
     requires { AreUntaken hosts.now connections.now.entries }
     ensures { let w = service_of hosts.now connections.now.entries in result ≡ spec.client_refusal w (client_of session w.clients) spec.collect_refusal }
 {
-    match connections.get(&session) {
+    match connections.get(session) {
         Some(connection) => connection.collect_refusal(
             hosts.is_up(connection.node),
             is_answered(hosts, connection),

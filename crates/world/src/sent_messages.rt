@@ -6,7 +6,7 @@ ghost use Rattle.world.specs.declared.sent.Sent.{Sent};
 
 use crate::sent::Sent;
 use ballot::{Envelope, Memory};
-use maildrop::Command;
+use maildrop::SharedCommand;
 use node::Envelopes;
 use std::alloc::{Allocator, Global};
 use std::marker::Model;
@@ -46,7 +46,7 @@ fn add<A: Allocator + Copy>(
 /// What arrives if the message does once more. `Memory` too where it has arrived as often as can be counted.
 pub(crate) fn arriving<A: Allocator + Copy>(
     message: &Sent<A>,
-) -> Result<Envelope<Command<A>, A>, Memory>
+) -> Result<Envelope<SharedCommand<A>, A>, Memory>
     ensures value { IfOk result (λ envelope. envelope ≡ message.now.envelope) }
     ensures counted { OnOk result (can_count message.now ≡ true) }
 {

@@ -1,7 +1,8 @@
 //! Whole runs of a service.
 ghost use Rattle.std.specs.Prelude.{◌≡◌, ◌≤◌, ◌⊎◌, ℕ, length, Some, None, map, IfOk, IfErr, OnOk};
 ghost use Rattle.world.specs.Clients.{Client, client_of};
-ghost use Rattle.world.specs.Projection.{IsProjected};
+ghost use Rattle.world.specs.Decisions.{AreDecidedFirst, WereSubmitted};
+ghost use Rattle.world.specs.Projection.{IsProjected, decided};
 ghost use Rattle.world.specs.Settling.{ran, first_refusal, all_replies, all_performed};
 ghost use Rattle.world.specs.Worlds.{new_world};
 ghost use Rattle.world.specs.declared.refused.Refused.TheVariants as refused;
@@ -12,7 +13,7 @@ use crate::refused::Refused;
 use crate::session_id::SessionId;
 use crate::world::World;
 use ballot::{Memory, NodeId, Payload, Slot};
-use maildrop::Command;
+use maildrop::SharedCommand;
 use std::alloc::{Allocator, Global};
 
 /// What a run has brought.
@@ -21,12 +22,13 @@ pub struct Runs<A: Allocator = Global> {
     /// The bytes of each session's replies, in the order in which the sessions connected.
     pub replies: Vec<(SessionId, Vec<u8, A>), A>,
     /// What each node has performed, each command with its slot, in the order of the nodes' numbers.
-    pub performed: Vec<Vec<(Slot, Command<A>), A>, A>,
+    pub performed: Vec<Vec<(Slot, SharedCommand<A>), A>, A>,
 }
 
 /// A service that begins so takes these events, one after another. The first that is refused is the answer, else what the
 /// run has brought. What each session was told is a prefix of what a POP3 server says that has the session's user's maildrop
-/// alone. `Memory` is the answer too where there is none for a node, a session or the result.
+/// alone. What each node has performed is how the one decided order begins, and each command of that order was submitted.
+/// `Memory` is the answer too where there is none for a node, a session or the result.
 pub fn run<A: Allocator + Copy>(
     alloc: A,
     config: Config<A>,
@@ -39,6 +41,8 @@ pub fn run<A: Allocator + Copy>(
     ensures performed { IfOk result (λ runs. map (λ p. p.items) runs.performed.items ≡ all_performed (ran (new_world config) events.items).service) }
     ensures projected { OnOk result ((session : ℕ) (c : Client A) → client_of session (ran (new_world config) events.items).service.clients ≡ Some c
         → IsProjected config (ran (new_world config) events.items).service c) }
+    ensures decided { IfOk result (λ runs. AreDecidedFirst config (ran (new_world config) events.items).service (map (λ p. p.items) runs.performed.items)) }
+    ensures submitted { OnOk result (WereSubmitted (ran (new_world config) events.items).service (decided config (ran (new_world config) events.items).service)) }
 {
     let nodes = config.cluster.get();
     let world = after(World::new(alloc, config)?, events)?;
@@ -98,7 +102,7 @@ impl<A: Allocator + Copy> World<A> {
         &self,
         alloc: A,
         nodes: u8,
-    ) -> Result<Vec<Vec<(Slot, Command<A>), A>, A>, Memory>
+    ) -> Result<Vec<Vec<(Slot, SharedCommand<A>), A>, A>, Memory>
         requires { nodes ≡ length self.now.service.network.logs }
         ensures { IfOk result (λ performed. map (λ p. p.items) performed.items ≡ all_performed self.now.service) }
     {
@@ -119,8 +123,8 @@ impl<A: Allocator + Copy> World<A> {
 /// A copy of what a node has performed.
 fn copy_of<A: Allocator + Copy>(
     alloc: A,
-    performed: &[(Slot, Command<A>)],
-) -> Result<Vec<(Slot, Command<A>), A>, Memory>
+    performed: &[(Slot, SharedCommand<A>)],
+) -> Result<Vec<(Slot, SharedCommand<A>), A>, Memory>
     ensures { IfOk result (λ copy. copy.items ≡ performed.now) }
 {
     let mut copy = Vec::new(alloc);

@@ -3,6 +3,7 @@ ghost use Rattle.std.specs.Prelude.{◌≡◌, ◌≤◌, ℕ, true, Some, None,
 ghost use Rattle.std.specs.Option.{option_copied};
 ghost use Rattle.ballot.specs.Nodes.{in_cluster};
 ghost use Rattle.world.specs.Clients.{Client, client_of};
+ghost use Rattle.world.specs.Decisions.{ChoosesOne, ChoosesSubmitted, IsDecidedFirst, KeepsDecided, TellsChosen, WereSubmitted};
 ghost use Rattle.world.specs.Interrupted.{IsInterrupted};
 ghost use Rattle.world.specs.Kept.{new_host, new_hosts};
 ghost use Rattle.world.specs.Messages.{is_up, log_of};
@@ -14,7 +15,6 @@ ghost use Rattle.world.specs.declared.refused.Refused.{Refused};
 
 use crate::act::act;
 use crate::config::Config;
-use crate::connections::Connections;
 use crate::event::Event;
 use crate::host::Host;
 use crate::hosts::Hosts;
@@ -23,9 +23,10 @@ use crate::refusal::refusal_of;
 use crate::refused::Refused;
 use crate::sent::Sent;
 use crate::session_id::SessionId;
+use crate::session_table::Sessions;
 use ballot::{Memory, NodeId, Slot};
 use indexmap::IndexMap;
-use maildrop::{Command, CommandId, Name, Outcome, Ticket};
+use maildrop::{CommandId, Name, Outcome, SharedCommand, Ticket};
 use node::Node;
 use std::alloc::{Allocator, Global};
 use std::marker::Model;
@@ -38,7 +39,7 @@ pub use node::WIDEST_WINDOW;
 pub struct World<A: Allocator + Copy = Global> {
     config: Config<A>,
     pub(crate) hosts: Hosts<A>,
-    pub(crate) connections: Connections<A>,
+    pub(crate) connections: Sessions<A>,
     operations: Operations<A>,
     alloc: A,
 }
@@ -65,14 +66,15 @@ impl<A: Allocator + Copy> World<A> {
         Ok(World {
             config,
             hosts: Hosts::new(alloc, hosts),
-            connections: IndexMap::new(alloc),
+            connections: Sessions::new(alloc),
             operations: IndexMap::new(alloc),
             alloc,
         })
     }
 
     /// An event happens, if it can. One that can't is refused, the first of its reasons is told, and nothing has changed.
-    /// After `Memory` the node or the session that found none is down; a client that connects is as if it hadn't.
+    /// After `Memory` the node or the session that found none is down; a client that connects is as if it hadn't. What is
+    /// decided stays so.
     pub fn step(&mut self, event: Event<A>) -> Result<(), Refused>
         ensures refused { (reason : Refused) → step_refusal self.old.config self.old.service event ≡ Some reason → result ≡ Err reason }
         ensures unchanged { (reason : Refused) → step_refusal self.old.config self.old.service event ≡ Some reason → self.new ≡ self.old }
@@ -81,6 +83,7 @@ impl<A: Allocator + Copy> World<A> {
         ensures interrupted { step_refusal self.old.config self.old.service event ≡ None → OnErr result (IsInterrupted self.old.config event self.old.service self.new.service) }
         ensures operations { OnErr result (self.new.operations ≡ self.old.operations) }
         ensures config { self.new.config ≡ self.old.config }
+        ensures decided { KeepsDecided self.old.config self.old.service self.new.service }
     {
         if let Some(reason) = refusal_of(&self.config, &self.hosts, &self.connections, &event) {
             return Err(reason);
@@ -103,15 +106,20 @@ impl<A: Allocator + Copy> World<A> {
         ensures value { option_copied result ≡ option_map (λ c. c.replies) (client_of session self.now.service.clients) }
         ensures projected { (c : Client A) → client_of session self.now.service.clients ≡ Some c → IsProjected self.now.config self.now.service c }
     {
-        match self.connections.get(&session) {
+        match self.connections.get(session) {
             Some(connection) => Some(connection.replies.get()),
             None => None,
         }
     }
 
-    /// All messages that nodes have sent, in the order in which they were sent.
+    /// All messages that nodes have sent, in the order in which they were sent. By these at most one command is chosen in
+    /// a slot, each Decision among them carries a command that is chosen in its slot, and each command that is chosen was
+    /// submitted.
     pub fn sent(&self) -> &[Sent<A>]
-        ensures { result.now ≡ self.now.service.network.sent }
+        ensures value { result.now ≡ self.now.service.network.sent }
+        ensures agreement { ChoosesOne self.now.config self.now.service }
+        ensures learning { TellsChosen self.now.config self.now.service }
+        ensures validity { ChoosesSubmitted self.now.config self.now.service }
     {
         self.hosts.sent()
     }
@@ -131,9 +139,12 @@ impl<A: Allocator + Copy> World<A> {
     }
 
     /// What a node has performed: each command once, with its slot. None where there is no such node, or it has stopped
-    /// for want of memory.
-    pub fn performed(&self, node: NodeId) -> Option<&[(Slot, Command<A>)]>
+    /// for want of memory. It is how the decided order begins, the same for all nodes, and each of its commands was
+    /// submitted.
+    pub fn performed(&self, node: NodeId) -> Option<&[(Slot, SharedCommand<A>)]>
         ensures value { IfSome result (λ performed. spec.performed_by self.now.service node ≡ Some performed.now) }
+        ensures decided { IfSome result (λ performed. IsDecidedFirst self.now.config self.now.service performed.now) }
+        ensures submitted { IfSome result (λ performed. WereSubmitted self.now.service performed.now) }
         ensures up { is_up (log_of node self.now.service.network.logs) ≡ true → is_some result ≡ true }
     {
         self.hosts.performed(node)

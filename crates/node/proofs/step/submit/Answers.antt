@@ -11,13 +11,13 @@ pub returns-clause-node : goal.returns-clause-node
 returns-clause-node g c n is =
     moved_to _ _ _ n is c.in_ok-sends.ensures.node
     ∙ ap (λ (d : Command g.row.A.Denot). Some (submits n d).node)
-    (command_is c.args.log.now c.args.given.now.entries c.args.user c.in-Some.ticket c.args.op.now c.in_ok-op.op c.requires c.in-Some.ensures.ticket c.in_ok-op.ensures.value)
+    (c.in_ok-command.ensures ∙ command_is c.args.log.now c.args.given.now.entries c.args.user c.in-Some.ticket c.args.op.now c.in_ok-op.op c.requires c.in-Some.ensures.ticket (c.in_ok-op.ensures.value ∙ c.get.ensures))
 
 pub returns-clause-sends : goal.returns-clause-sends
 returns-clause-sends g c n is =
     c.in_ok-sends.ensures.sends n is
     ∙ ap (λ (d : Command g.row.A.Denot). (submits n d).sends)
-    (command_is c.args.log.now c.args.given.now.entries c.args.user c.in-Some.ticket c.args.op.now c.in_ok-op.op c.requires c.in-Some.ensures.ticket c.in_ok-op.ensures.value)
+    (c.in_ok-command.ensures ∙ command_is c.args.log.now c.args.given.now.entries c.args.user c.in-Some.ticket c.args.op.now c.in_ok-op.op c.requires c.in-Some.ensures.ticket (c.in_ok-op.ensures.value ∙ c.get.ensures))
 
 pub returns-clause-ticket : goal.returns-clause-ticket
 returns-clause-ticket g c = ap (λ t. Some t) (ticket_is c.args.log.now c.args.given.now.entries c.args.user c.in-Some.ticket c.requires c.in-Some.ensures.ticket)

@@ -20,37 +20,37 @@ submit-requires-in-Break g c = record { new = c.requires.new c.in-Break.node c.i
 
 pub returns-in-Connect-clause-service : goal.returns-in-Connect-clause-service
 returns-in-Connect-clause-service g c =
-    subst (λ (e : Event g.row.A.Denot). OnOk c.connect.result (service_of c.args.hosts.now c.connect.new.connections.entries ≡ occurs c.args.config.now (service_of c.args.hosts.now c.args.connections.now.entries) e)) (sym c.in-Connect.is)
+    subst (λ (e : Event g.row.A.Denot). OnOk c.connect.result (service_of c.args.hosts.now c.connect.new.self.entries ≡ occurs c.args.config.now (service_of c.args.hosts.now c.args.connections.now.entries) e)) (sym c.in-Connect.is)
     (c.connect.ensures.ok c.args.config.now)
 
 pub returns-in-Line-clause-service : goal.returns-in-Line-clause-service
 returns-in-Line-clause-service g c =
-    subst (λ (e : Event g.row.A.Denot). OnOk c.send_line.result (service_of c.send_line.new.hosts c.send_line.new.connections.entries ≡ occurs c.args.config.now (service_of c.args.hosts.now c.args.connections.now.entries) e)) (sym c.in-Line.is)
+    subst (λ (e : Event g.row.A.Denot). OnOk c.send_line.result (service_of c.send_line.new.hosts c.send_line.new.self.entries ≡ occurs c.args.config.now (service_of c.args.hosts.now c.args.connections.now.entries) e)) (sym c.in-Line.is)
     (c.send_line.ensures.ok c.args.config.now refl)
 
 pub returns-in-Line-clause-err : goal.returns-in-Line-clause-err
 returns-in-Line-clause-err g c =
-    subst (λ (e : Event g.row.A.Denot). OnErr c.send_line.result (IsInterrupted c.args.config.now e (service_of c.args.hosts.now c.args.connections.now.entries) (service_of c.send_line.new.hosts c.send_line.new.connections.entries))) (sym c.in-Line.is)
+    subst (λ (e : Event g.row.A.Denot). OnErr c.send_line.result (IsInterrupted c.args.config.now e (service_of c.args.hosts.now c.args.connections.now.entries) (service_of c.send_line.new.hosts c.send_line.new.self.entries))) (sym c.in-Line.is)
     (c.send_line.ensures.err c.args.config.now)
 
 pub returns-in-Hangup-clause-service : goal.returns-in-Hangup-clause-service
 returns-in-Hangup-clause-service g c =
-    subst (λ (e : Event g.row.A.Denot). OnOk c.hang_up.result (service_of c.hang_up.new.hosts c.hang_up.new.connections.entries ≡ occurs c.args.config.now (service_of c.args.hosts.now c.args.connections.now.entries) e)) (sym c.in-Hangup.is)
+    subst (λ (e : Event g.row.A.Denot). OnOk c.hang_up.result (service_of c.hang_up.new.hosts c.hang_up.new.self.entries ≡ occurs c.args.config.now (service_of c.args.hosts.now c.args.connections.now.entries) e)) (sym c.in-Hangup.is)
     (c.hang_up.ensures.ok c.args.config.now)
 
 pub returns-in-Hangup-clause-err : goal.returns-in-Hangup-clause-err
 returns-in-Hangup-clause-err g c =
-    subst (λ (e : Event g.row.A.Denot). OnErr c.hang_up.result (IsInterrupted c.args.config.now e (service_of c.args.hosts.now c.args.connections.now.entries) (service_of c.hang_up.new.hosts c.hang_up.new.connections.entries))) (sym c.in-Hangup.is)
+    subst (λ (e : Event g.row.A.Denot). OnErr c.hang_up.result (IsInterrupted c.args.config.now e (service_of c.args.hosts.now c.args.connections.now.entries) (service_of c.hang_up.new.hosts c.hang_up.new.self.entries))) (sym c.in-Hangup.is)
     (c.hang_up.ensures.err c.args.config.now)
 
 pub returns-in-Collect-clause-service : goal.returns-in-Collect-clause-service
 returns-in-Collect-clause-service g c =
-    subst (λ (e : Event g.row.A.Denot). OnOk c.collect_answer.result (service_of c.collect_answer.new.hosts c.collect_answer.new.connections.entries ≡ occurs c.args.config.now (service_of c.args.hosts.now c.args.connections.now.entries) e)) (sym c.in-Collect.is)
+    subst (λ (e : Event g.row.A.Denot). OnOk c.collect_answer.result (service_of c.collect_answer.new.hosts c.collect_answer.new.self.entries ≡ occurs c.args.config.now (service_of c.args.hosts.now c.args.connections.now.entries) e)) (sym c.in-Collect.is)
     (c.collect_answer.ensures.ok c.args.config.now)
 
 pub returns-in-Collect-clause-err : goal.returns-in-Collect-clause-err
 returns-in-Collect-clause-err g c =
-    subst (λ (e : Event g.row.A.Denot). OnErr c.collect_answer.result (IsInterrupted c.args.config.now e (service_of c.args.hosts.now c.args.connections.now.entries) (service_of c.collect_answer.new.hosts c.collect_answer.new.connections.entries))) (sym c.in-Collect.is)
+    subst (λ (e : Event g.row.A.Denot). OnErr c.collect_answer.result (IsInterrupted c.args.config.now e (service_of c.args.hosts.now c.args.connections.now.entries) (service_of c.collect_answer.new.hosts c.collect_answer.new.self.entries))) (sym c.in-Collect.is)
     (c.collect_answer.ensures.err c.args.config.now)
 
 pub returns-in-Mail-clause-service : goal.returns-in-Mail-clause-service

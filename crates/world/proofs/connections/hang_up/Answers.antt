@@ -3,6 +3,8 @@ use Rattle.std.proofs.lemmas.Result.{on_ok_weaker, on_err_weaker}
 use Rattle.world.specs.Connections.{service_of, AreFit}
 use Rattle.world.specs.Interrupted.{IsInterrupted}
 use Rattle.world.specs.declared.event.Event.TheVariants as event
+use Rattle.world.specs.Waiting.{KeepsOthers}
+use Rattle.world.proofs.Noting.{same_others, set_others}
 use Rattle.world.proofs.ServiceSteps.{hangup_occurs, hangup_interrupted, hangup_absent, fit_set}
 use Rattle.world.proofs.connections.hang_up.Goals as goal
 
@@ -34,3 +36,11 @@ returns-in-Some-clause-fit g c =
 pub returns-in-None-clause-ok : goal.returns-in-None-clause-ok
 returns-in-None-clause-ok g c cfg =
     ap (λ m. service_of c.args.hosts.now m.entries) c.get_mut.follows.holds-at-none ∙ hangup_absent c.args.hosts.now c.args.connections.now.entries c.args.session (sym c.in-None.ensures.value) cfg
+
+pub returns-in-Some-clause-sessions : goal.returns-in-Some-clause-sessions
+returns-in-Some-clause-sessions g c =
+    let es = c.args.connections.now.entries in
+    subst (λ later. KeepsOthers c.args.session es later) (sym (c.get_mut.follows.holds c.hang_up.new.self).0) (set_others c.args.session es c.hang_up.new.self)
+
+pub returns-in-None-clause-sessions : goal.returns-in-None-clause-sessions
+returns-in-None-clause-sessions g c = same_others c.args.session c.args.connections.now.entries _ (ap (λ m. m.entries) c.get_mut.follows.holds-at-none)

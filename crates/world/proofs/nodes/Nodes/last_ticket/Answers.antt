@@ -1,5 +1,3 @@
-use Rattle.std.proofs.Common.{◌∙◌, ap, sym}
-use Rattle.world.specs.Worlds.{last_ticket_in}
 use Rattle.world.proofs.HostList.{got, got_none, found_log, no_log, given_at}
 use Rattle.world.proofs.nodes.Nodes.last_ticket.Goals as goal
 

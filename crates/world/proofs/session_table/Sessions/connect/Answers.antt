@@ -1,0 +1,15 @@
+use Rattle.std.proofs.Common.{◌≡◌, subst, sym}
+use Rattle.std.specs.Prelude.{OnOk}
+use Rattle.world.specs.Connections.{service_of, AreFit}
+use Rattle.world.specs.Services.{occurs}
+use Rattle.world.specs.Waiting.{Sessions}
+use Rattle.world.specs.declared.event.Event.TheVariants as event
+use Rattle.world.proofs.session_table.Sessions.connect.Goals as goal
+
+pub connect-connected-requires : goal.connect-connected-requires
+connect-connected-requires g c = record { fit = subst (λ (s : Sessions g.row.A.Denot). AreFit s.entries) (sym c.self.view_is) c.requires.fit }
+
+pub returns-clause-ok : goal.returns-clause-ok
+returns-clause-ok g c cfg =
+    subst (λ (s : Sessions g.row.A.Denot). OnOk c.connect-connected.result (service_of c.args.hosts.now c.connect-connected.new.connections.entries ≡ occurs cfg (service_of c.args.hosts.now s.entries) (event.Connect c.args.session c.args.node c.args.stamp))) c.self.view_is
+    (c.connect-connected.ensures.ok cfg)

@@ -1,0 +1,20 @@
+use Rattle.world.proofs.Decisions.{kept_nodes, chooses_one, tells_chosen, chooses_submitted}
+use Rattle.world.proofs.world.World.sent.Goals as goal
+
+pub returns-clause-agreement : goal.returns-clause-agreement
+returns-clause-agreement g c =
+    let w = c.self.inside in
+    let v = c.args.self.now in
+    chooses_one v.config v.service (kept_nodes w.config w.hosts w.connections.entries w.operations.entries v c.self.view_is c.self.invariant)
+
+pub returns-clause-learning : goal.returns-clause-learning
+returns-clause-learning g c =
+    let w = c.self.inside in
+    let v = c.args.self.now in
+    tells_chosen v.config v.service (kept_nodes w.config w.hosts w.connections.entries w.operations.entries v c.self.view_is c.self.invariant)
+
+pub returns-clause-validity : goal.returns-clause-validity
+returns-clause-validity g c =
+    let w = c.self.inside in
+    let v = c.args.self.now in
+    chooses_submitted v.config v.service (kept_nodes w.config w.hosts w.connections.entries w.operations.entries v c.self.view_is c.self.invariant)

@@ -1,0 +1,183 @@
+//! The sessions of a service, with an index of those that await an answer.
+ghost use Rattle.std.specs.Prelude.{◌≡◌, ◌^◌, ◌<◌, ◌≤◌, ◌↔◌, [], ℕ, Some, false, length, option_copied, option_map, slice_get, IfNone, IfSome, IsSome, OnErr, OnOk};
+ghost use Rattle.std.specs.Map.Iter.{deref_pair};
+ghost use Rattle.std.specs.Ordering.{is_eq};
+ghost use Rattle.maildrop.specs.CommandId.{CommandId, compare_ids};
+ghost use Rattle.world.specs.Connections.{service_of, AreFit, AreUntaken, connection_of, awaited_by};
+ghost use Rattle.world.specs.Hosts.{HasAnswerAt};
+ghost use Rattle.world.specs.Interrupted.{IsInterrupted};
+ghost use Rattle.world.specs.Services.{occurs};
+ghost use Rattle.world.specs.Waiting.{AreNoted, AreNotedBut, NoneWaits};
+ghost use Rattle.world.specs.declared.config.Config.{Config};
+ghost use Rattle.world.specs.declared.connection.Connection.{Connection};
+ghost use Rattle.world.specs.declared.event.Event.TheVariants as event;
+
+use crate::connection::Connection;
+use crate::connections::{Connections, collect_answer, connect, hang_up, send_line};
+use crate::hosts::Hosts;
+use crate::session_id::SessionId;
+use crate::waiting::Waiting;
+use apop::{Accounts, Stamp};
+use ballot::{Memory, NodeId};
+use indexmap::IndexMap;
+use pop3_wire::Line;
+use std::alloc::{Allocator, Global};
+use std::marker::Model;
+
+/// The sessions in the order in which they connected, with an index of those that await an answer.
+#[derive(Drop)]
+pub(crate) struct Sessions<A: Allocator + Copy = Global> {
+    connections: Connections<A>,
+    waiting: Waiting<A>,
+}
+
+impl<A: Allocator + Copy> Model for Sessions<A> {
+    ghost use Rattle.world.specs.Waiting.{Sessions, AreNoted};
+
+    ghost Value = { Sessions A };
+
+    ghost view = { λ s. record { entries = s.connections.entries } };
+
+    ghost invariant = { λ s. AreNoted s.connections.entries s.waiting };
+}
+
+/// Brings what the index says of a session up to date.
+fn note<A: Allocator + Copy>(
+    connections: &Connections<A>,
+    waiting: &mut Waiting<A>,
+    session: SessionId,
+)
+    requires { AreNotedBut session connections.now.entries waiting.old }
+    ensures { AreNoted connections.now.entries waiting.new }
+{
+    let Some((place, _, connection)) = connections.get_full(&session) else {
+        return;
+    };
+    if connection.awaited().is_some() {
+        waiting.add(place);
+    } else {
+        waiting.remove(place);
+    }
+}
+
+impl<A: Allocator + Copy> Sessions<A> {
+    /// None. Takes no memory.
+    pub(crate) fn new(alloc: A) -> Self
+        ensures empty { result.entries ≡ [] }
+    {
+        Sessions {
+            connections: IndexMap::new(alloc),
+            waiting: Waiting::new(alloc),
+        }
+    }
+
+    /// How many there are.
+    pub(crate) fn len(&self) -> usize
+        ensures len { result ≡ length self.now.entries }
+        ensures small { result < 2 ^ 63 }
+    {
+        self.connections.len()
+    }
+
+    /// The session of this number. Found by a hash of it.
+    pub(crate) fn get(&self, session: SessionId) -> Option<&Connection<A>>
+        ensures value { option_copied result ≡ connection_of session self.now.entries }
+    {
+        self.connections.get(&session)
+    }
+
+    /// The session that connected as this number, counted from 0.
+    pub(crate) fn get_index(&self, place: usize) -> Option<(&SessionId, &Connection<A>)>
+        ensures entry { option_map deref_pair result ≡ slice_get self.now.entries place }
+        ensures found { IsSome result ↔ (place < length self.now.entries) }
+        ensures value { IfSome result (λ e. connection_of e.0.now self.now.entries ≡ Some e.1.now) }
+    {
+        self.connections.get_index(place)
+    }
+
+    /// The first place from this one on of a session that may await an answer.
+    pub(crate) fn next_waiting(&self, from: usize) -> Option<usize>
+        ensures some { IfSome result (λ place. (from ≤ place) × (place < length self.now.entries) × NoneWaits self.now.entries from place) }
+        ensures none { IfNone result (NoneWaits self.now.entries from (length self.now.entries)) }
+    {
+        let place = self.waiting.next(from)?;
+        if place < self.connections.len() {
+            Some(place)
+        } else {
+            None
+        }
+    }
+
+    /// A client connects, if its node is up and its session is new; else nothing happens. After `Memory` nothing has
+    /// happened.
+    pub(crate) fn connect(
+        &mut self,
+        alloc: A,
+        hosts: &Hosts<A>,
+        session: SessionId,
+        node: NodeId,
+        stamp: Stamp,
+    ) -> Result<(), Memory>
+        requires fit { AreFit self.old.entries }
+        ensures ok { (cfg : Config A) → OnOk result (service_of hosts.now self.new.entries ≡ occurs cfg (service_of hosts.now self.old.entries) (event.Connect session node stamp)) }
+        ensures err { OnErr result (self.new.entries ≡ self.old.entries) }
+        ensures fit { AreFit self.new.entries }
+    {
+        let connected = connect(alloc, &mut self.connections, hosts, session, node, stamp);
+        note(&self.connections, &mut self.waiting, session);
+        connected
+    }
+
+    /// A client sends a line, if its session takes one and its node is up; else nothing happens.
+    pub(crate) fn send_line(
+        &mut self,
+        hosts: &mut Hosts<A>,
+        accounts: &Accounts<A>,
+        session: SessionId,
+        line: Line,
+    ) -> Result<(), Memory>
+        requires fit { AreFit self.old.entries }
+        ensures ok { (cfg : Config A) → cfg.accounts ≡ accounts.now
+            → OnOk result (service_of hosts.new self.new.entries ≡ occurs cfg (service_of hosts.old self.old.entries) (event.Line session line)) }
+        ensures err { (cfg : Config A) → OnErr result (IsInterrupted cfg (event.Line session line) (service_of hosts.old self.old.entries) (service_of hosts.new self.new.entries)) }
+        ensures fit { AreFit self.new.entries }
+        ensures answers { (n : ℕ) (id : CommandId) → HasAnswerAt n id hosts.old → HasAnswerAt n id hosts.new }
+    {
+        let sent = send_line(&mut self.connections, hosts, accounts, session, line);
+        note(&self.connections, &mut self.waiting, session);
+        sent
+    }
+
+    /// A session takes the answer that it awaits, if that is there and its node is up; else nothing happens.
+    pub(crate) fn collect_answer(
+        &mut self,
+        hosts: &mut Hosts<A>,
+        session: SessionId,
+    ) -> Result<(), Memory>
+        requires fit { AreFit self.old.entries }
+        requires untaken { AreUntaken hosts.old self.old.entries }
+        ensures ok { (cfg : Config A) → OnOk result (service_of hosts.new self.new.entries ≡ occurs cfg (service_of hosts.old self.old.entries) (event.Collect session)) }
+        ensures err { (cfg : Config A) → OnErr result (IsInterrupted cfg (event.Collect session) (service_of hosts.old self.old.entries) (service_of hosts.new self.new.entries)) }
+        ensures fit { AreFit self.new.entries }
+        ensures others { (n : ℕ) (other : CommandId)
+            → ((c : Connection A) (id : CommandId) → connection_of session self.old.entries ≡ Some c → awaited_by c.standing ≡ Some id → is_eq (compare_ids id other) ≡ false)
+            → HasAnswerAt n other hosts.old → HasAnswerAt n other hosts.new }
+    {
+        let collected = collect_answer(&mut self.connections, hosts, session);
+        note(&self.connections, &mut self.waiting, session);
+        collected
+    }
+
+    /// A client is gone: its session ends, if it awaits no answer and its node is up; else nothing happens.
+    pub(crate) fn hang_up(&mut self, hosts: &mut Hosts<A>, session: SessionId) -> Result<(), Memory>
+        requires fit { AreFit self.old.entries }
+        ensures ok { (cfg : Config A) → OnOk result (service_of hosts.new self.new.entries ≡ occurs cfg (service_of hosts.old self.old.entries) (event.Hangup session)) }
+        ensures err { (cfg : Config A) → OnErr result (IsInterrupted cfg (event.Hangup session) (service_of hosts.old self.old.entries) (service_of hosts.new self.new.entries)) }
+        ensures fit { AreFit self.new.entries }
+        ensures answers { (n : ℕ) (id : CommandId) → HasAnswerAt n id hosts.old → HasAnswerAt n id hosts.new }
+    {
+        let ended = hang_up(&mut self.connections, hosts, session);
+        note(&self.connections, &mut self.waiting, session);
+        ended
+    }
+}
