@@ -1,16 +1,15 @@
 -- How messages are found among those that were sent.
-use Rattle.std.proofs.Common.{◌≡◌, ◌<◌, ◌≤◌, length, get_or, ℕ, suc, List, [], ◌∷◌, ◌++◌, Bool, true, false, Option, Some, None, Result, Ok, Err, OnOk, OnErr, IsSome, is_some, refl, sym, ap, ◌∙◌, subst, inl, inr, ⊎_elim, cond, take, drop}
+use Rattle.std.proofs.Common.{◌≡◌, ◌<◌, ◌≤◌, length, get_or, ℕ, List, [], ◌∷◌, ◌++◌, Bool, true, false, Option, Some, None, Result, Ok, Err, OnOk, OnErr, IsSome, is_some, refl, sym, ap, ◌∙◌, subst, ⊎_elim, cond}
 use Rattle.std.specs.List.{list_any}
-use Rattle.std.specs.Prelude.{slice_get}
+use Rattle.std.specs.Prelude.{slice_get, ◌&&◌, ◌==◌, IfSome}
 use Rattle.std.proofs.lemmas.Option.{slice_get_read, slice_get_past}
-use Rattle.std.proofs.lemmas.Bool.{true≢false}
-use Rattle.ballot.specs.Lists.{IsIn}
+use Rattle.std.proofs.lemmas.Bool.{true≢false, eq-eqb}
 use Rattle.ballot.specs.declared.message.Envelope.{Envelope}
 use Rattle.maildrop.specs.declared.command.Command.{Command}
 use Rattle.audit.specs.Same.{same_envelope}
 use Rattle.audit.specs.Sends.{label_of, HasPlaces}
 use Rattle.audit.specs.declared.sent.Topic.{Topic}
-use Rattle.audit.proofs.Basics.{any_back, in_either}
+use Rattle.audit.proofs.Basics.{any_back, any_in, in_either, in_got}
 use Rattle.audit.proofs.Equal.{envelope_decides}
 
 -- what a look-up finds
@@ -47,3 +46,10 @@ module _ {A : Type 0} where
   place_added (Err x) place next sent now e h kept own ok err = subst (HasPlaces next) (sym err) (places_kept place next sent h kept)
   place_added (Ok u) place next sent now e h kept own ok err =
       subst (HasPlaces next) (sym ok) (record { each = λ f at. ⊎_elim (λ old. kept (label_of f) (h.each f old)) (λ new. ⊎_elim (λ (is : e ≡ f). subst (λ g. IsSome (next (label_of g))) is own) (λ none. absurd none) new) (in_either f sent (e ∷ []) at) })
+
+  -- a message that was sent to a node, or wasn't
+  pub sent_there : (o : Option ℕ) (sent : List (Envelope (Command A) A)) (e : Envelope (Command A) A) (home node : ℕ) → home ≡ node → IfSome o (λ k. slice_get sent k ≡ Some e) → (o ≡ None → list_any (λ other. same_envelope other e) sent ≡ false)
+      → is_some o ≡ (home == node && list_any (λ other. same_envelope other e) sent)
+  sent_there None sent e home node is found none = sym (ap (λ t. t && list_any (λ other. same_envelope other e) sent) (eq-eqb home node is) ∙ none refl)
+  sent_there (Some k) sent e home node is found none =
+      sym (ap (λ t. t && list_any (λ other. same_envelope other e) sent) (eq-eqb home node is) ∙ any_in (λ other. same_envelope other e) sent e (in_got sent k e found) ((envelope_decides e e).1 refl))

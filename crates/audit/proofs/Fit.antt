@@ -10,6 +10,7 @@ use Rattle.audit.specs.Order.{IsLegalOrder}
 use Rattle.audit.specs.Placing.{IsPlacing}
 use Rattle.audit.specs.Records.{is_fit, place_of, begun_at, places_from, case_of, AreFit}
 use Rattle.audit.specs.Replays.{runs}
+use Rattle.audit.specs.Turns.{Turns}
 use Rattle.audit.specs.Wrong.{seat, first_node, first_wrong}
 use Rattle.audit.specs.declared.event.Event.{Event}
 use Rattle.audit.proofs.Once.{none_wrong}
@@ -76,3 +77,9 @@ module _ {A : Type 0} (logs : List (NodeLog A)) (transcripts : List (Transcript 
       let a = case_of logs transcripts in
       let laws = real_laws logs transcripts in
       written a laws all_begin (seat a) (none_wrong a laws (first_there logs 0 fit.some) fit.scripts right) ps placed
+
+  -- each session that began is at a node with a log
+  pub seats_there : first_wrong (case_of logs transcripts) 0 [] (case_of logs transcripts).scripts ≡ None → (i : ℕ) (turns : Turns A) → slice_get (case_of logs transcripts).scripts i ≡ Some (Some turns) → IsIn (seat (case_of logs transcripts) i) (case_of logs transcripts).nodes
+  seats_there right i turns e =
+      let a = case_of logs transcripts in
+      (none_wrong a (real_laws logs transcripts) (first_there logs 0 fit.some) fit.scripts right i turns e).0

@@ -55,13 +55,13 @@ module _ {A : Type 0} where
   crash_stays log id =
       nothing_last log Crash id (list_any-append is_crash log.inputs (Crash ∷ []) ∙ or_right (list_any is_crash log.inputs) true refl)
 
-  shown_up : (node : NodeValue A) (crashed : Bool) → node.stopped ≡ None → state_shown (Some node) crashed ≡ Some (log_shown crashed node.log)
+  pub shown_up : (node : NodeValue A) (crashed : Bool) → node.stopped ≡ None → state_shown (Some node) crashed ≡ Some (log_shown crashed node.log)
   shown_up node crashed up = ap (λ s. unless_stopped s (log_shown crashed node.log)) up
 
   shown_stopped : (node : NodeValue A) (crashed : Bool) (stop : Stopped) → node.stopped ≡ Some stop → state_shown (Some node) crashed ≡ None
   shown_stopped node crashed stop e = ap (λ s. unless_stopped s (log_shown crashed node.log)) e
 
-  answer_of_log : (log : NodeLog A) (crashed : Bool) (id : CommandId) → answered log id ≡ answer (Some (log_shown crashed log)) id
+  pub answer_of_log : (log : NodeLog A) (crashed : Bool) (id : CommandId) → answered log id ≡ answer (Some (log_shown crashed log)) id
   answer_of_log log false id = refl
   answer_of_log log true id = sym (crash_stays log id)
 

@@ -61,7 +61,7 @@ module _ {A : Type 0} where
   brought_is Campaign e h = absurd (cc)
   brought_is Crash e h = absurd (cc)
 
-  placed_number : (logs : List (NodeLog A)) (number : ℕ) (log : NodeLog A) → slice_get logs (place_of number logs) ≡ Some log → log.opening.me ≡ number
+  pub placed_number : (logs : List (NodeLog A)) (number : ℕ) (log : NodeLog A) → slice_get logs (place_of number logs) ≡ Some log → log.opening.me ≡ number
   placed_number [] number log h = absurd (cc)
   placed_number (l ∷ logs) number log h =
       go (placed_number logs number log) (l.opening.me == number) refl h

@@ -11,11 +11,11 @@ use Rattle.audit.proofs.Walk.{put_at}
 use Rattle.audit.proofs.Sweep.{got_below}
 
 -- how many inputs of these nodes are placed
-abbrev total : List ℕ → (ℕ → ℕ) → ℕ
+abbrev pub total : List ℕ → (ℕ → ℕ) → ℕ
 total [] p = 0
 total (n ∷ ns) p = p n + total ns p
 
-total_below : (ns : List ℕ) (p q : ℕ → ℕ) → IsBelow p q → total ns p ≤ total ns q
+pub total_below : (ns : List ℕ) (p q : ℕ → ℕ) → IsBelow p q → total ns p ≤ total ns q
 total_below [] p q h = omega arith
 total_below (n ∷ ns) p q h =
     let x = h n in
@@ -25,7 +25,7 @@ total_below (n ∷ ns) p q h =
 grows : (p : ℕ → ℕ) (n m : ℕ) → p m ≤ put p n (suc (p n)) m
 grows p n = put_each (λ m v. p m ≤ v) p n (suc (p n)) (omega arith) (λ m. omega arith)
 
-total_up : (ns : List ℕ) (p : ℕ → ℕ) (n : ℕ) → IsIn n ns → suc (total ns p) ≤ total ns (put p n (suc (p n)))
+pub total_up : (ns : List ℕ) (p : ℕ → ℕ) (n : ℕ) → IsIn n ns → suc (total ns p) ≤ total ns (put p n (suc (p n)))
 total_up [] p n h = absurd h
 total_up (m ∷ ns) p n h =
     ⊎_elim
@@ -86,7 +86,7 @@ module _ {S I E K O L : Type 0} (a : Case S I E K O L) where
     below : IsBelow p (λ n. length (a.logs n))
     so_far : (is_stuck a p ≡ true) ⊎ (k ≤ total a.nodes p)
 
-  can_below : (p : ℕ → ℕ) (n : ℕ) → can_place a p n ≡ true → p n < length (a.logs n)
+  pub can_below : (p : ℕ → ℕ) (n : ℕ) → can_place a p n ≡ true → p n < length (a.logs n)
   can_below p n =
       go (next a n (p n)) refl
     where

@@ -18,3 +18,9 @@ pub mod Nodes
 pub mod Sends
 pub mod Names
 pub mod Numbers
+pub mod Findings
+pub mod Answered
+pub mod Placings
+pub mod Left
+pub mod Checks
+pub mod Speakers

@@ -3,13 +3,13 @@ ghost use Rattle.std.specs.Prelude.{◌≡◌};
 ghost use Rattle.audit.specs.Same as spec;
 
 use ballot::{Envelope, Message, PValue, Payload, Promise};
-use maildrop::Command;
+use maildrop::SharedCommand;
 use std::alloc::Allocator;
 
 /// Whether both lists have the same pvalues in the same order.
 fn same_pvalues<A: Allocator + Copy>(
-    pvalues: &[PValue<Command<A>>],
-    others: &[PValue<Command<A>>],
+    pvalues: &[PValue<SharedCommand<A>>],
+    others: &[PValue<SharedCommand<A>>],
 ) -> bool
     ensures { result ≡ spec.same_pvalues pvalues.now others.now }
 {
@@ -25,8 +25,8 @@ fn same_pvalues<A: Allocator + Copy>(
 }
 
 fn same_promise<A: Allocator + Copy>(
-    promise: &Promise<Command<A>, A>,
-    other: &Promise<Command<A>, A>,
+    promise: &Promise<SharedCommand<A>, A>,
+    other: &Promise<SharedCommand<A>, A>,
 ) -> bool
     ensures { result ≡ spec.same_promise promise.now other.now }
 {
@@ -36,8 +36,8 @@ fn same_promise<A: Allocator + Copy>(
 }
 
 fn same_message<A: Allocator + Copy>(
-    message: &Message<Command<A>, A>,
-    other: &Message<Command<A>, A>,
+    message: &Message<SharedCommand<A>, A>,
+    other: &Message<SharedCommand<A>, A>,
 ) -> bool
     ensures { result ≡ spec.same_message message.now other.now }
 {
@@ -59,8 +59,8 @@ fn same_message<A: Allocator + Copy>(
 
 /// Whether both are the same message from the same node to the same node.
 pub(crate) fn same_envelope<A: Allocator + Copy>(
-    envelope: &Envelope<Command<A>, A>,
-    other: &Envelope<Command<A>, A>,
+    envelope: &Envelope<SharedCommand<A>, A>,
+    other: &Envelope<SharedCommand<A>, A>,
 ) -> bool
     ensures { result ≡ spec.same_envelope envelope.now other.now }
 {

@@ -1,21 +1,34 @@
-//! An audit of a service that ran: was what its nodes and its sessions did legal? Here are the definition of a legal order
-//! of logs and transcripts, its laws, and the parts by which logs are replayed and messages and commands found.
+//! An audit of a service that ran: was what its nodes and its sessions did legal? `audit` looks for a legal order of what
+//! they logged. What a legal order is, and what follows from one, is stated here too.
 #![tactic(auto)]
 
 mod audit_error;
+mod auditing;
+mod check;
 mod envelope;
 mod event;
+mod findings;
+mod home;
 mod kind;
+mod last_answers;
 mod laws;
+mod left;
 mod names;
 mod numbers;
 mod outcomes;
+mod pass;
 mod placement;
+mod placing;
 mod replay;
 mod run_laws;
 mod sent;
+mod sources;
+mod speaker;
+mod turns;
+mod write;
 
 pub use audit_error::AuditError;
+pub use auditing::audit;
 pub use event::Event;
 pub use laws::{
     a_placing_ends, a_stuck_placing_has_no_order, a_whole_placing_has_an_order,

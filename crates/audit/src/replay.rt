@@ -1,9 +1,10 @@
 //! The node of a log, as the inputs of the log come to it.
 ghost use Rattle.std.specs.Prelude.{◌≡◌, suc, true, false, is_some, IfOk, OnOk, OnErr};
-ghost use Rattle.audit.specs.Nodes.{begun, state_shown, Runs, RunsUnlessStopped, is_plain};
+ghost use Rattle.audit.specs.Nodes.{answers_left, begun, state_shown, Runs, RunsUnlessStopped, is_plain};
 ghost use Rattle.node.specs.Nodes.{logged};
 ghost use Rattle.node.specs.Replay.{sends_of};
 ghost use Rattle.audit.specs.Replays as spec;
+ghost use Rattle.maildrop.specs.CommandId.{CommandId};
 
 use crate::outcomes::Outcomes;
 use ballot::{Items, Memory};
@@ -143,8 +144,24 @@ impl<A: Allocator + Copy> Replay<A> {
         Ok(sends)
     }
 
+    /// Whether there is a node, and it hasn't stopped for want of memory.
+    fn has_node(&self) -> bool
+        ensures { result ≡ is_some self.now.state }
+    {
+        match &self.node {
+            Some(node) => node.stopped().is_none(),
+            None => false,
+        }
+    }
+
     /// The answers of the node, which can then be taken.
-    pub(crate) fn into_outcomes(self) -> Outcomes<A> {
-        Outcomes { node: self.node }
+    pub(crate) fn into_outcomes(self) -> Outcomes<A>
+        ensures begun { is_some result ≡ is_some self.state }
+        ensures left { (id : CommandId) → answers_left result id ≡ spec.answer self.state id }
+    {
+        if self.has_node() {
+            return Outcomes { node: self.node };
+        }
+        Outcomes { node: None }
     }
 }

@@ -9,7 +9,7 @@ ghost use Rattle.audit.specs.declared.sent.Topic.{Topic as topic};
 use crate::envelope::same_envelope;
 use ballot::{Ballot, Envelope, Items, Memory, Message, NodeId, Slot};
 use indexmap::IndexMap;
-use maildrop::Command;
+use maildrop::SharedCommand;
 use node::Envelopes;
 use std::alloc::{Allocator, Global};
 use std::hash::{BuildHasherDefault, FoldHasher};
@@ -52,7 +52,7 @@ impl<A: Allocator + Copy> Model for Sent<A> {
     ghost invariant = { λ s. HasPlaces (get ⟦<(NodeId, NodeId, Topic) as PartialEq>⟧.eq s.places) s.envelopes };
 }
 
-fn topic_of<A: Allocator + Copy>(message: &Message<Command<A>, A>) -> Topic
+fn topic_of<A: Allocator + Copy>(message: &Message<SharedCommand<A>, A>) -> Topic
     ensures { result ≡ spec.topic_of message.now }
 {
     match message {
@@ -66,7 +66,9 @@ fn topic_of<A: Allocator + Copy>(message: &Message<Command<A>, A>) -> Topic
     }
 }
 
-fn label_of<A: Allocator + Copy>(envelope: &Envelope<Command<A>, A>) -> (NodeId, NodeId, Topic)
+fn label_of<A: Allocator + Copy>(
+    envelope: &Envelope<SharedCommand<A>, A>,
+) -> (NodeId, NodeId, Topic)
     ensures { result ≡ spec.label_of envelope.now }
 {
     (envelope.from, envelope.to, topic_of(&envelope.message))
@@ -87,8 +89,8 @@ fn note<A: Allocator + Copy>(
 
 /// The place of the first equal message.
 fn position_of<A: Allocator + Copy>(
-    envelope: &Envelope<Command<A>, A>,
-    envelopes: &[Envelope<Command<A>, A>],
+    envelope: &Envelope<SharedCommand<A>, A>,
+    envelopes: &[Envelope<SharedCommand<A>, A>],
 ) -> Option<usize>
     ensures found { IfSome result (λ which. slice_get envelopes.now which ≡ Some envelope.now) }
     ensures none { result ≡ None → list_any (λ other. same other envelope.now) envelopes.now ≡ false }
@@ -113,7 +115,7 @@ impl<A: Allocator + Copy> Sent<A> {
     }
 
     /// As which number an equal message was sent, if one was.
-    pub(crate) fn find(&self, envelope: &Envelope<Command<A>, A>) -> Option<usize>
+    pub(crate) fn find(&self, envelope: &Envelope<SharedCommand<A>, A>) -> Option<usize>
         ensures found { IfSome result (λ which. slice_get self.now which ≡ Some envelope.now) }
         ensures none { result ≡ None → list_any (λ other. same other envelope.now) self.now ≡ false }
     {
@@ -128,7 +130,7 @@ impl<A: Allocator + Copy> Sent<A> {
     }
 
     /// One message more is sent. After `Memory` the messages are as they were.
-    fn push(&mut self, envelope: Envelope<Command<A>, A>) -> Result<(), Memory>
+    fn push(&mut self, envelope: Envelope<SharedCommand<A>, A>) -> Result<(), Memory>
         ensures { OnOk result (self.new ≡ self.old ++ envelope ∷ []) }
     {
         note(&mut self.places, label_of(&envelope), self.envelopes.len())?;

@@ -2,3 +2,4 @@ pub mod Options
 pub mod Faults
 pub mod Answers
 pub mod Examples
+pub mod Verdicts

@@ -1,10 +1,12 @@
 //! `maildropd serve`: nodes, sessions and an operator's port in one process.
-ghost use Rattle.std.specs.Prelude.{◌≡◌, ◌≤◌, IsTrue, IsErrOf};
+ghost use Rattle.std.specs.Prelude.{◌≡◌, ◌≤◌, IsTrue, IsErrOf, IfOk};
 ghost use Rattle.service.specs.Options as spec;
+ghost use Rattle.service.specs.Verdicts as verdicts;
 ghost use Rattle.maildrop.specs.Name.{are_different};
 
 use crate::board::Board;
 use crate::fault::Fault;
+use crate::operator::say;
 use crate::options::{ServeOptions, Settings, settings_of};
 use crate::serving::{Ports, serve_nodes};
 use crate::system::System;
@@ -103,7 +105,7 @@ fn serve_cluster<D: Deployment + Send + Sync + 'static, R: System>(
     serve_nodes(rt, alloc, desks, ports, board, tick)?;
     let logs = cluster.stop();
     match board.take_transcripts(&rt, alloc) {
-        Some(transcripts) => Ok(verdict_of(logs, transcripts)),
+        Some(transcripts) => Ok(verdict_of(alloc, &logs, &transcripts)),
         None => Ok(Verdict::Memory),
     }
 }
@@ -140,10 +142,20 @@ fn run<R: System + Files>(
     }
 }
 
+/// Writes the line that tells a verdict, and gives the exit status.
+fn tell<W: Write>(alloc: Global, writer: &mut W, verdict: &Verdict) -> Result<u8, Fault>
+    ensures { IfOk result (λ status. status ≡ verdicts.status_of verdict.now) }
+{
+    let line = verdict.line(alloc)?;
+    say(writer, line.as_bytes())?;
+    Ok(verdict.status())
+}
+
 /// Serves POP3 (RFC 1939) at a port of each node, and an operator's requests at a port of their own, until an operator
-/// stops it: then no connection is taken any more, the sessions go on to their ends, the nodes stop, and `stopped` is
-/// written. Gives the exit status: 0 then, 1 after a fault of memory, reading, writing or the network, 2 for options or
-/// an accounts file that are none. A fault is told on standard error.
+/// stops it: then no connection is taken any more, the sessions go on to their ends, the nodes stop, and what an audit
+/// says of all that they did is written. Gives the exit status: 0 where that is `audit ok`, 1 where it is something else
+/// and after a fault of memory, reading, writing or the network, 2 for options or an accounts file that are none. A fault
+/// is told on standard error.
 pub fn serve_run<
     R: Net<Listener = TcpListener, Stream = TcpStream>
         + Threads
@@ -162,9 +174,9 @@ pub fn serve_run<
     ensures statuses { result ≤ 2 }
 {
     let fault = match run(rt, alloc, options) {
-        Ok(verdict) => match writer.write_all(verdict.line()) {
-            Ok(()) => return verdict.status(),
-            Err(_) => Fault::Write,
+        Ok(verdict) => match tell(alloc, writer, &verdict) {
+            Ok(status) => return status,
+            Err(fault) => fault,
         },
         Err(fault) => fault,
     };

@@ -6,6 +6,18 @@ use Rattle.audit.specs.Replays.{Replay, runs, sends, after}
 use Rattle.audit.proofs.Replaying.{crashed_now, up_and_plain, plain_unless, taken, sent_of}
 use Rattle.audit.proofs.replay.Replay.take.Goals as goal
 
+pub returns-in-Crash-clause-value : goal.returns-in-Crash-clause-value
+returns-in-Crash-clause-value g c =
+    let node = c.self.inside.node in
+    let crashed = c.self.inside.crashed in
+    let up : runs (state_shown node crashed) ≡ true = ap (λ (r : Replayed g.row.A.Denot). runs r.state) c.self.view_is ∙ c.requires in
+    let state : state_shown node true ≡ after c.args.self.now.state c.args.input.now =
+        (crashed_now node crashed c.self.invariant up).0
+        ∙ ap (λ (r : Replayed g.row.A.Denot). after r.state Crash) c.self.view_is
+        ∙ ap (λ x. after c.args.self.now.state x) (sym c.in-Crash.is) in
+    let placed = c.in_ok-placed.ensures ∙ ap (λ (r : Replayed g.row.A.Denot). suc r.placed) c.self.view_is in
+    λ i. record { state = state i; placed = placed i }
+
 pub returns-in-Crash-clause-sends : goal.returns-in-Crash-clause-sends
 returns-in-Crash-clause-sends g c =
     let node = c.self.inside.node in
