@@ -1,0 +1,14 @@
+//! Tests of audits: nodes in one thread, a few sessions, and logs and transcripts that tell something else than what
+//! happened. There is nothing here but tests.
+#![tactic(auto)]
+
+#[cfg(test)]
+mod changes;
+#[cfg(test)]
+mod nodes;
+#[cfg(test)]
+mod order_tests;
+#[cfg(test)]
+mod runs;
+#[cfg(test)]
+mod wrong_tests;

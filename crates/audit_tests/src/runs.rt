@@ -1,0 +1,92 @@
+//! What is left of a few sessions at nodes in one thread.
+
+use crate::nodes::{Nodes, new_nodes};
+use apop::{Accounts, stamp};
+use audit::{AuditError, Event, audit};
+use node::NodeLog;
+use session::{OpenGate, Transcript, serve};
+use std::alloc::Global;
+use std::test::Fail;
+
+/// What is left of a run.
+#[derive(Drop)]
+pub struct Run {
+    pub logs: Vec<NodeLog>,
+    pub transcripts: Vec<Transcript>,
+}
+
+/// How many nodes there are, how many operations are asked before one crashes, and what clients of alice say one after
+/// another, each at a node.
+#[derive(Clone, Copy)]
+pub struct Plan {
+    pub nodes: u8,
+    pub lives: u32,
+    pub sessions: &'static [(usize, &'static str)],
+}
+
+/// What an audit finds.
+#[derive(Clone, Copy, Debug, PartialEq, Eq)]
+pub enum Found {
+    Legal,
+    NoOrder(u8),
+    WrongAnswer(usize),
+    Memory,
+}
+
+fn served(alloc: Global, nodes: &mut Nodes, lines: &str) -> Result<Transcript, Fail> {
+    let accounts = Accounts::read(alloc, b"alice pass s3\n")?;
+    let stamp = stamp(b"n.1", b"mail.test").ok_or("no stamp")?;
+    let mut replies = Vec::new(alloc);
+    Ok(serve(
+        alloc,
+        &mut lines.as_bytes(),
+        &mut replies,
+        &accounts,
+        stamp,
+        nodes,
+        &mut OpenGate,
+    ))
+}
+
+fn transcripts_of(
+    alloc: Global,
+    nodes: &mut Nodes,
+    sessions: &[(usize, &str)],
+) -> Result<Vec<Transcript>, Fail> {
+    let mut transcripts = Vec::new(alloc);
+    for (seat, lines) in sessions {
+        nodes.seat = *seat;
+        transcripts.push(served(alloc, nodes, lines)?)?;
+    }
+    Ok(transcripts)
+}
+
+pub fn play(alloc: Global, plan: Plan) -> Result<Run, Fail> {
+    let mut nodes = new_nodes(alloc, plan.nodes, plan.lives)?;
+    let transcripts = transcripts_of(alloc, &mut nodes, plan.sessions)?;
+    let logs = nodes.into_logs(alloc)?;
+    Ok(Run { logs, transcripts })
+}
+
+fn found_by(error: AuditError) -> Found {
+    match error {
+        AuditError::NoOrder(node) => Found::NoOrder(node.get()),
+        AuditError::WrongAnswer(session) => Found::WrongAnswer(session),
+        AuditError::Memory => Found::Memory,
+    }
+}
+
+pub fn audited(alloc: Global, run: &Run) -> Found {
+    match audit(alloc, &run.logs, &run.transcripts) {
+        Ok(events) => {
+            drop(events);
+            Found::Legal
+        }
+        Err(error) => found_by(error),
+    }
+}
+
+/// The events of a legal order.
+pub fn events_of(alloc: Global, run: &Run) -> Result<Vec<Event>, Fail> {
+    Ok(audit(alloc, &run.logs, &run.transcripts)?)
+}
