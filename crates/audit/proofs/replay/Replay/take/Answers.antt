@@ -12,9 +12,9 @@ returns-in-Crash-clause-value g c =
     let crashed = c.self.inside.crashed in
     let up : runs (state_shown node crashed) ≡ true = ap (λ (r : Replayed g.row.A.Denot). runs r.state) c.self.view_is ∙ c.requires in
     let state : state_shown node true ≡ after c.args.self.now.state c.args.input.now =
-        (crashed_now node crashed c.self.invariant up).0
-        ∙ ap (λ (r : Replayed g.row.A.Denot). after r.state Crash) c.self.view_is
-        ∙ ap (λ x. after c.args.self.now.state x) (sym c.in-Crash.is) in
+    (crashed_now node crashed c.self.invariant up).0
+    ∙ ap (λ (r : Replayed g.row.A.Denot). after r.state Crash) c.self.view_is
+    ∙ ap (λ x. after c.args.self.now.state x) (sym c.in-Crash.is) in
     let placed = c.in_ok-placed.ensures ∙ ap (λ (r : Replayed g.row.A.Denot). suc r.placed) c.self.view_is in
     λ i. record { state = state i; placed = placed i }
 
