@@ -1,7 +1,7 @@
 -- What the desk of a lone session gives.
-use Rattle.std.specs.Prelude.{◌≡◌, ◌+◌, Option, Some, None, IfSome, is_some}
+use Rattle.std.specs.Prelude.{◌≡◌, ◌+◌, ◌<◌, ◌^◌, false, Option, Some, None, IfSome, is_some}
 use Rattle.maildrop.specs.Ticket.{Ticket}
-use Rattle.maildrop.specs.Office.{outcome_in, users_after}
+use Rattle.maildrop.specs.Office.{outcome_in, users_after, takes_memory_in}
 use Rattle.maildrop.specs.declared.command.Command.{Command}
 use Rattle.session.specs.Desks.{Given}
 use Rattle.server.specs.Tickets.{ticket_of}
@@ -11,9 +11,15 @@ module _ {A : Type 0} where
   abbrev pub command_of : Given A → Ticket → Command A
   command_of given ticket = record { user = given.user; ticket = ticket; op = given.op }
 
-  -- where it gave no ticket it did nothing, and where it gave one also the outcome that is awaited
+  -- the operation takes no memory, and there is a ticket for it
+  abbrev pub IsSure : LoneDesk A → Given A → Type 0
+  IsSure desk given =
+      (takes_memory_in desk.office (command_of given (ticket_of desk.next)) ≡ false) × (0 < desk.next) × (desk.next + 1 < 2 ^ 64)
+
+  -- where it gave no ticket it did nothing, and could find too little memory or had no ticket left; where it gave one it
+  -- gave also the outcome that is awaited
   abbrev pub GivesTicket : LoneDesk A → Given A → LoneDesk A → Option Ticket → Type 0
-  GivesTicket old given new None = (new ≡ old) × (given.outcome ≡ None)
+  GivesTicket old given new None = (new ≡ old) × (given.outcome ≡ None) × ¬ IsSure old given
   GivesTicket old given new (Some ticket) =
       (ticket ≡ ticket_of old.next)
       × (new.office ≡ users_after old.office (command_of given ticket))
