@@ -17,6 +17,8 @@ pub enum Change {
     WithoutP2a(usize),
     /// The first operation of the first session has another outcome.
     OtherOutcome,
+    /// The outcome of the first operation of the first session was lost.
+    LostOutcome,
     /// The last operation of the first session has no outcome.
     NoOutcome,
     /// The last operation of the first session has neither a ticket nor an outcome.
@@ -67,10 +69,10 @@ fn change_last(transcript: &mut Transcript, keeps_ticket: bool) {
     transcript.asked = Items::from_vec(entries);
 }
 
-fn change_first(transcript: &mut Transcript) {
+fn change_first(transcript: &mut Transcript, outcome: Option<Outcome>) {
     let mut entries = transcript.asked.take().into_vec();
     if let Some(entry) = entries.first_mut() {
-        entry.outcome = Some(Outcome::InUse);
+        entry.outcome = outcome;
     }
     transcript.asked = Items::from_vec(entries);
 }
@@ -117,7 +119,8 @@ fn as_one(run: &mut Run) -> Result<(), Fail> {
 
 fn change_session(transcript: &mut Transcript, change: Change) -> Result<(), Fail> {
     match change {
-        Change::OtherOutcome => change_first(transcript),
+        Change::OtherOutcome => change_first(transcript, Some(Outcome::InUse)),
+        Change::LostOutcome => change_first(transcript, None),
         Change::NoOutcome => change_last(transcript, true),
         Change::NoTicket => change_last(transcript, false),
         Change::OneMore => ask_more(transcript, None)?,

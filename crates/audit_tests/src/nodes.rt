@@ -5,7 +5,7 @@ use maildrop::{Name, Op, Outcome, Shared, SharedCommand, Ticket};
 use node::{Input, Node, NodeLog};
 use samples::{alice, limits, node};
 use session::{Desk, DeskStopped};
-use std::alloc::{AllocError, Global};
+use std::alloc::{AllocError, Allocator};
 use std::collections::VecDeque;
 use std::test::Fail;
 
@@ -14,18 +14,18 @@ const MESSAGES: u32 = 10_000;
 
 /// Nodes in one thread. Sessions ask one of them; what nodes send comes at once, the oldest first.
 #[derive(Drop)]
-pub struct Nodes {
-    nodes: Vec<Node>,
-    waiting: VecDeque<Envelope<SharedCommand>>,
+pub struct Nodes<A: Allocator + Copy> {
+    nodes: Vec<Node<A>, A>,
+    waiting: VecDeque<Envelope<SharedCommand<A>, A>, A>,
     /// The place of the node that is asked.
     pub seat: usize,
     /// How many operations it is asked before it crashes.
     pub lives: u32,
-    alloc: Global,
+    alloc: A,
 }
 
 /// This many nodes, with a maildrop for alice. Node 1 leads.
-pub fn new_nodes(alloc: Global, count: u8, lives: u32) -> Result<Nodes, Fail> {
+pub fn new_nodes<A: Allocator + Copy>(alloc: A, count: u8, lives: u32) -> Result<Nodes<A>, Fail> {
     let mut nodes = Vec::new(alloc);
     for number in 1..=count {
         nodes.push(new_node(alloc, number, count)?)?;
@@ -42,7 +42,7 @@ pub fn new_nodes(alloc: Global, count: u8, lives: u32) -> Result<Nodes, Fail> {
     Ok(nodes)
 }
 
-fn new_node(alloc: Global, number: u8, count: u8) -> Result<Node, Fail> {
+fn new_node<A: Allocator + Copy>(alloc: A, number: u8, count: u8) -> Result<Node<A>, Fail> {
     let cluster = Cluster::new(count).ok_or("no cluster")?;
     let names = [alice()?];
     let made = Node::new(
@@ -56,9 +56,9 @@ fn new_node(alloc: Global, number: u8, count: u8) -> Result<Node, Fail> {
     Ok(made.ok_or("no node")?)
 }
 
-impl Nodes {
+impl<A: Allocator + Copy> Nodes<A> {
     /// A node takes an input, and what it sends waits. Gives the ticket, if there is one; nothing where the node stopped.
-    fn take(&mut self, place: usize, input: Input) -> Option<Option<Ticket>> {
+    fn take(&mut self, place: usize, input: Input<A>) -> Option<Option<Ticket>> {
         let outputs = self.nodes.get_mut(place)?.step(input).ok()?;
         let ticket = outputs.ticket;
         for envelope in outputs.sends.into_vec() {
@@ -79,7 +79,7 @@ impl Nodes {
     }
 
     /// The node of the session is asked. Gives nothing where it stopped.
-    fn submit(&mut self, name: Name, op: Op) -> Option<Ticket> {
+    fn submit(&mut self, name: Name, op: Op<A>) -> Option<Ticket> {
         if self.lives == 0 {
             let _untold = self.take(self.seat, Input::Crash);
         }
@@ -91,7 +91,7 @@ impl Nodes {
     }
 
     /// The logs of all nodes.
-    pub fn into_logs(self, alloc: Global) -> Result<Vec<NodeLog>, AllocError> {
+    pub fn into_logs(self, alloc: A) -> Result<Vec<NodeLog<A>, A>, AllocError> {
         let mut logs = Vec::new(alloc);
         for node in self.nodes {
             if logs.push(node.into_log()).is_err() {
@@ -102,10 +102,10 @@ impl Nodes {
     }
 }
 
-impl Desk<Op, Outcome> for Nodes {
+impl<A: Allocator + Copy> Desk<Op<A>, Outcome<A>> for Nodes<A> {
     ghost gives = { λ _ _ _. Unit {0} };
 
-    fn ask(&mut self, name: Name, op: Op) -> Result<(Ticket, Outcome), DeskStopped> {
+    fn ask(&mut self, name: Name, op: Op<A>) -> Result<(Ticket, Outcome<A>), DeskStopped> {
         let Some(ticket) = self.submit(name, op) else {
             return Err(DeskStopped { ticket: None });
         };
@@ -122,7 +122,7 @@ impl Desk<Op, Outcome> for Nodes {
         }
     }
 
-    fn tell(&mut self, name: Name, op: Op) -> Result<Ticket, DeskStopped> {
+    fn tell(&mut self, name: Name, op: Op<A>) -> Result<Ticket, DeskStopped> {
         self.submit(name, op).ok_or(DeskStopped { ticket: None })
     }
 }

@@ -106,16 +106,19 @@ fn a_crash_comes_behind_what_was_said(rt: HostRuntime) -> Result<(), Fail> {
     check_events(rt.alloc(), &run, expected.as_slice())
 }
 
-/// A client that is gone gives its lock back. A session that didn't begin has no event, one that said nothing connects.
-#[test]
-fn a_hangup_and_a_session_that_did_not_begin(rt: HostRuntime) -> Result<(), Fail> {
-    let plan = Plan {
-        nodes: 1,
-        lives: 9,
-        sessions: &[(0, "USER alice\r\nPASS s3\r\n"), (0, ""), (0, "")],
-    };
-    let mut run = play(rt.alloc(), plan)?;
+/// A client that is gone after it has logged in, and two sessions that ask for nothing.
+const GONE: Plan = Plan {
+    nodes: 1,
+    lives: 9,
+    sessions: &[(0, "USER alice\r\nPASS s3\r\n"), (0, ""), (0, "")],
+};
+
+/// A client that is gone gives its lock back. A session that didn't begin has no event, one that said nothing connects. The
+/// session takes the answer that it awaits also where its transcript has lost it, for its hangup comes behind it.
+fn check_gone(alloc: Global, lost: Change) -> Result<(), Fail> {
+    let mut run = play(alloc, GONE)?;
     make_change(&mut run, Change::Blank)?;
+    make_change(&mut run, lost)?;
     let expected = [
         Told::Connect(0, 1),
         Told::Connect(2, 1),
@@ -136,5 +139,15 @@ fn a_hangup_and_a_session_that_did_not_begin(rt: HostRuntime) -> Result<(), Fail
         Told::Arrive(9),
         Told::Collect(0),
     ];
-    check_events(rt.alloc(), &run, expected.as_slice())
+    check_events(alloc, &run, expected.as_slice())
+}
+
+#[test]
+fn a_hangup_and_a_session_that_did_not_begin(rt: HostRuntime) -> Result<(), Fail> {
+    check_gone(rt.alloc(), Change::Nothing)
+}
+
+#[test]
+fn a_hangup_behind_a_lost_answer(rt: HostRuntime) -> Result<(), Fail> {
+    check_gone(rt.alloc(), Change::LostOutcome)
 }

@@ -5,14 +5,14 @@ use apop::{Accounts, stamp};
 use audit::{AuditError, Event, audit};
 use node::NodeLog;
 use session::{OpenGate, Transcript, serve};
-use std::alloc::Global;
+use std::alloc::{Allocator, Global};
 use std::test::Fail;
 
 /// What is left of a run.
 #[derive(Drop)]
-pub struct Run {
-    pub logs: Vec<NodeLog>,
-    pub transcripts: Vec<Transcript>,
+pub struct Run<A: Allocator + Copy = Global> {
+    pub logs: Vec<NodeLog<A>, A>,
+    pub transcripts: Vec<Transcript<A>, A>,
 }
 
 /// How many nodes there are, how many operations are asked before one crashes, and what clients of alice say one after
@@ -33,7 +33,11 @@ pub enum Found {
     Memory,
 }
 
-fn served(alloc: Global, nodes: &mut Nodes, lines: &str) -> Result<Transcript, Fail> {
+fn served<A: Allocator + Copy>(
+    alloc: A,
+    nodes: &mut Nodes<A>,
+    lines: &str,
+) -> Result<Transcript<A>, Fail> {
     let accounts = Accounts::read(alloc, b"alice pass s3\n")?;
     let stamp = stamp(b"n.1", b"mail.test").ok_or("no stamp")?;
     let mut replies = Vec::new(alloc);
@@ -48,11 +52,11 @@ fn served(alloc: Global, nodes: &mut Nodes, lines: &str) -> Result<Transcript, F
     ))
 }
 
-fn transcripts_of(
-    alloc: Global,
-    nodes: &mut Nodes,
+fn transcripts_of<A: Allocator + Copy>(
+    alloc: A,
+    nodes: &mut Nodes<A>,
     sessions: &[(usize, &str)],
-) -> Result<Vec<Transcript>, Fail> {
+) -> Result<Vec<Transcript<A>, A>, Fail> {
     let mut transcripts = Vec::new(alloc);
     for (seat, lines) in sessions {
         nodes.seat = *seat;
@@ -61,7 +65,7 @@ fn transcripts_of(
     Ok(transcripts)
 }
 
-pub fn play(alloc: Global, plan: Plan) -> Result<Run, Fail> {
+pub fn play<A: Allocator + Copy>(alloc: A, plan: Plan) -> Result<Run<A>, Fail> {
     let mut nodes = new_nodes(alloc, plan.nodes, plan.lives)?;
     let transcripts = transcripts_of(alloc, &mut nodes, plan.sessions)?;
     let logs = nodes.into_logs(alloc)?;
@@ -76,7 +80,7 @@ fn found_by(error: AuditError) -> Found {
     }
 }
 
-pub fn audited(alloc: Global, run: &Run) -> Found {
+pub fn audited<A: Allocator + Copy>(alloc: A, run: &Run<A>) -> Found {
     match audit(alloc, &run.logs, &run.transcripts) {
         Ok(events) => {
             drop(events);

@@ -1,0 +1,43 @@
+//! Audits whose requests for memory are refused in turn.
+
+use crate::runs::{Found, Plan, audited, play};
+use refusing::Refusal;
+use samples::{Heap, Scenario, check, requests};
+use std::test::Fail;
+
+/// A client that takes its maildrop, and is gone.
+const LINES: &str = "USER alice\r\nPASS s3\r\n";
+
+/// How many requests for memory an audit makes at most.
+const MOST: u64 = 81;
+
+/// An audit of what is left of a session at a node.
+struct Audited;
+
+const PLAN: Plan = Plan {
+    nodes: 1,
+    lives: 9,
+    sessions: &[(0, LINES)],
+};
+
+impl Scenario for Audited {
+    fn run(&self, heap: Heap, refusal: Refusal) -> Result<(), Fail> {
+        let run = play(heap, PLAN)?;
+        heap.refuse(refusal);
+        let found = audited(heap, &run);
+        heap.grant_all();
+        let expected = if heap.has_refused() {
+            Found::Memory
+        } else {
+            Found::Legal
+        };
+        check(found == expected, "another finding")
+    }
+}
+
+#[test]
+fn a_refused_audit_has_no_memory(rt: HostRuntime) -> Result<(), Fail> {
+    let made = requests(rt.alloc(), &Audited, MOST)?;
+    println!(rt; "audit: {made}")?;
+    Ok(())
+}
