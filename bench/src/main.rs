@@ -1,4 +1,5 @@
 //! Measures calls of this repository beside a plain Rust version of each, in one run.
+mod audits;
 mod decisions;
 mod mailbox;
 mod measure;
@@ -10,10 +11,13 @@ fn main() {
     let arguments: Vec<String> = std::env::args().skip(1).collect();
     match arguments.as_slice() {
         [word, pairs] if word == "nodes" => nodes::measure(pairs),
+        [word, sessions, audits] if word == "audits" => audits::measure(sessions, audits),
+        [word] if word == "audits" => audits::tell(),
         [reader, ..] => mailbox::measure(reader),
         [] => {
             decisions::compare_all();
             nodes::tell();
+            audits::tell();
             wire::compare_all();
             mailbox::compare();
         }

@@ -1,6 +1,7 @@
 //! Runs of the calls that bench/ measures.
 #![tactic(auto)]
 
+mod audits;
 mod decisions;
 mod mailbox;
 mod nodes;

@@ -1,7 +1,7 @@
 //! Runs of three nodes that hand one another their messages in one thread.
 
 use ballot::{Cluster, Envelope, NodeId};
-use maildrop::{Limits, Name, Op, Shared, SharedCommand, Ticket};
+use maildrop::{Limits, Name, Op, Outcome, Shared, SharedCommand, Ticket};
 use node::{Envelopes, Input, Node, Stopped};
 use std::alloc::Global;
 use std::collections::VecDeque;
@@ -14,14 +14,14 @@ const MOST_MESSAGES: u32 = 100;
 
 /// Three nodes, and the messages that wait for them, the oldest first.
 #[derive(Drop)]
-struct Three {
-    nodes: Vec<Node>,
+pub(crate) struct Three {
+    pub(crate) nodes: Vec<Node>,
     waiting: VecDeque<Envelope<SharedCommand>>,
 }
 
 impl Three {
-    /// Three nodes of one user.
-    fn new(alloc: Global, user: Name) -> Result<Option<Self>, Stopped> {
+    /// Three nodes of one user, of which the first leads.
+    pub(crate) fn new(alloc: Global, user: Name) -> Result<Option<Self>, Stopped> {
         let mut three = Three {
             nodes: Vec::new(alloc),
             waiting: VecDeque::new(alloc),
@@ -35,6 +35,8 @@ impl Three {
                 return Err(Stopped::Memory);
             }
         }
+        let _ = three.take(0, Input::Campaign)?;
+        three.hand_on()?;
         Ok(Some(three))
     }
 
@@ -71,30 +73,35 @@ impl Three {
         Ok(())
     }
 
-    /// Has the first node's command decided and performed, and takes its answer.
-    fn perform(&mut self, user: Name, op: Op) -> Result<Option<Ticket>, Stopped> {
+    /// Has a command of the node at this place decided and performed, and takes its answer.
+    pub(crate) fn perform(
+        &mut self,
+        place: usize,
+        user: Name,
+        op: Op,
+    ) -> Result<Option<(Ticket, Outcome)>, Stopped> {
         let op = Shared::new(*self.nodes.allocator(), op)?;
-        let ticket = self.take(0, Input::Submit(user, op))?;
+        let ticket = self.take(place, Input::Submit(user, op))?;
         self.hand_on()?;
         let Some(ticket) = ticket else {
             return Ok(None);
         };
-        let Some(node) = self.nodes.get_mut(0) else {
+        let Some(node) = self.nodes.get_mut(place) else {
             return Ok(None);
         };
         match node.take_answer(user, ticket) {
-            Some(_) => Ok(Some(ticket)),
+            Some(outcome) => Ok(Some((ticket, outcome))),
             None => Ok(None),
         }
     }
 
     /// A Take, and the Free of its lock: how many of the two are performed.
     fn take_and_free(&mut self, user: Name) -> Result<u64, Stopped> {
-        let lock = self.perform(user, Op::Take)?;
-        let Some(lock) = lock else {
+        let taken = self.perform(0, user, Op::Take)?;
+        let Some((lock, _)) = &taken else {
             return Ok(0);
         };
-        let freed = self.perform(user, Op::Free { lock })?;
+        let freed = self.perform(0, user, Op::Free { lock: *lock })?;
         Ok(1u64.wrapping_add(u64::from(freed.is_some())))
     }
 }
@@ -118,8 +125,6 @@ fn perform_all(alloc: Global, pairs: u64) -> Result<u64, Stopped> {
     let Some(mut three) = three else {
         return Ok(0);
     };
-    let _ = three.take(0, Input::Campaign)?;
-    three.hand_on()?;
     let mut total = 0u64;
     for pair in 0..pairs {
         total = total.wrapping_add(three.take_and_free(user)?);
