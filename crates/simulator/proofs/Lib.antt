@@ -1,3 +1,4 @@
 pub mod FirstLine
 pub mod Playing
 pub mod Ending
+pub mod Telling

@@ -54,10 +54,10 @@ stops_at line content more number script error found (inr refused) = record {
 }
 
 -- a line was read
-there_is : (line : List ℕ) (there : Bool) → there ≡ nat_lt 0 (length line) → there ≡ true → 0 < length line
+pub there_is : (line : List ℕ) (there : Bool) → there ≡ nat_lt 0 (length line) → there ≡ true → 0 < length line
 there_is line there tested is = ltb-true 0 (length line) (sym tested ∙ is)
 
-empty : (line : List ℕ) → nat_lt 0 (length line) ≡ false → line ≡ []
+pub empty : (line : List ℕ) → nat_lt 0 (length line) ≡ false → line ≡ []
 empty line none = nil_from_length line (omega (arith, ltb-false 0 (length line) none))
 
 module _ {bytes : List ℕ} {script later : Script} {now : Option (List ℕ)} {number : ℕ} (played : IsPlayed bytes 1 script now number later) where

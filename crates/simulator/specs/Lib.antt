@@ -3,3 +3,7 @@ pub mod Reading
 pub mod Reports
 pub mod Undelivered
 pub mod Events
+pub mod Refusals
+pub mod Subjects
+pub mod Plays
+pub mod Examples

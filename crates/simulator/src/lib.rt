@@ -10,6 +10,7 @@ mod report;
 mod run;
 mod sessions;
 mod sim;
+mod subject;
 mod undelivered;
 
 pub use sim::sim_run;

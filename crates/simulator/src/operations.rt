@@ -1,6 +1,5 @@
 //! The Mails and Breaks of a script, until their outcomes are written.
 
-use crate::report::Report;
 use ballot::{LAST_NODE, Memory, NodeId};
 use maildrop::{CommandId, Name};
 use std::alloc::Global;
@@ -66,15 +65,15 @@ impl Operations {
         Ok(())
     }
 
-    /// Writes the outcomes that are there, in the order in which the script submitted them.
-    pub(crate) fn write_outcomes(
+    /// Those whose outcomes are there since this was asked last, in the order in which the script submitted them.
+    pub(crate) fn take_due(
         &mut self,
         alloc: Global,
-        world: &mut World,
-        report: &mut Report,
-    ) -> Result<(), Memory> {
+        world: &World,
+    ) -> Result<Vec<CommandId>, Memory> {
+        let mut due = Vec::new(alloc);
         if self.awaited.is_empty() {
-            return Ok(());
+            return Ok(due);
         }
         let mut performed = Vec::new(alloc);
         for number in 1..=LAST_NODE {
@@ -84,12 +83,8 @@ impl Operations {
         }
         performed.sort_by_key(|(number, _)| *number)?;
         for (_, id) in &performed {
-            let (user, ticket) = id.get();
-            let (node, _) = ticket.get();
-            if let Some(outcome) = world.take_outcome(node, user, ticket) {
-                report.outcome(&user, ticket, &outcome)?;
-            }
+            due.push(*id)?;
         }
-        Ok(())
+        Ok(due)
     }
 }

@@ -1,16 +1,21 @@
 //! A service that a script drives.
+ghost use Rattle.std.specs.Prelude.{◌≡◌, OnOk, IfOk};
+ghost use Rattle.simulator.specs.Plays as spec;
+ghost use Rattle.world.specs.Clients.{client_of};
 
 use crate::events::event_of;
 use crate::operations::Operations;
 use crate::refusal::refusal_of;
 use crate::report::Report;
 use crate::sessions::Sessions;
+use crate::subject::{Subject, subject_of};
 use crate::undelivered::Route;
 use apop::Accounts;
 use ballot::{Memory, NodeId};
-use maildrop::Name;
+use maildrop::CommandId;
 use script::{Command, Refusal, Settings};
 use std::alloc::Global;
+use std::marker::Model;
 use world::{Config, Event, SessionId, World};
 
 /// A service that a script drives, and what of it is still to be written.
@@ -23,30 +28,20 @@ pub(crate) struct Play {
     first: usize,
 }
 
-/// What an event is about: what it brings is written.
-#[derive(Clone, Copy)]
-enum Subject {
-    Session(SessionId),
-    Operation(NodeId, Name),
-    Nodes,
-}
+impl Model for Play {
+    ghost use Rattle.std.specs.declared.alloc.Global.{Global};
+    ghost use Rattle.simulator.specs.Plays.{Play};
 
-fn subject_of(event: &Event) -> Subject {
-    match event {
-        Event::Connect { session, .. }
-        | Event::Line { session, .. }
-        | Event::Hangup { session }
-        | Event::Collect { session } => Subject::Session(*session),
-        Event::Mail { node, user, .. } | Event::Break { node, user } => {
-            Subject::Operation(*node, *user)
-        }
-        Event::Arrive(_) | Event::Tick(_) | Event::Campaign(_) | Event::Crash(_) => Subject::Nodes,
-    }
+    ghost Value = { Play Global };
+
+    ghost view = { λ p. record { world = p.world; shown = p.sessions; first = p.first } };
 }
 
 impl Play {
     /// The service that a script sets, of which nothing has happened.
-    pub(crate) fn new(alloc: Global, settings: &Settings) -> Result<Self, Memory> {
+    pub(crate) fn new(alloc: Global, settings: &Settings) -> Result<Self, Memory>
+        ensures { IfOk result (λ play. play ≡ spec.new_play settings.now) }
+    {
         let Ok(accounts) = Accounts::read(alloc, settings.account_rows()) else {
             return Err(Memory);
         };
@@ -64,45 +59,92 @@ impl Play {
         })
     }
 
-    /// Gives the service an event. Why it is refused is written, or else what its session is told.
-    fn give(&mut self, event: Event, report: &mut Report) -> Result<(), Memory> {
-        let subject = subject_of(&event);
-        if let Err(refused) = self.world.step(event) {
-            return report.refusal(refusal_of(refused)?);
+    /// Writes what a session was told and is not written yet.
+    fn tell_replies(&mut self, session: SessionId, report: &mut Report) -> Result<(), Memory>
+        ensures { OnOk result (spec.IsWritten (spec.replies_told session self.old (client_of session self.old.world.service.clients)) self.new report.old report.new) }
+    {
+        match self.world.replies(session) {
+            Some(replies) => self.sessions.write_replies(session, replies, report),
+            None => Ok(()),
         }
+    }
+
+    /// Writes what an event has brought.
+    fn tell(&mut self, subject: Subject, report: &mut Report) -> Result<(), Memory>
+        ensures { OnOk result (spec.IsWritten (spec.told_of subject self.old) self.new report.old report.new) }
+    {
         match subject {
-            Subject::Session(session) => self.sessions.write_replies(&self.world, session, report),
+            Subject::Session(session) => self.tell_replies(session, report),
             Subject::Operation(node, user) => self.operations.add(&self.world, node, user),
             Subject::Nodes => Ok(()),
         }
     }
 
-    fn write_outcomes(&mut self, alloc: Global, report: &mut Report) -> Result<(), Memory> {
-        self.operations
-            .write_outcomes(alloc, &mut self.world, report)
+    /// Gives the service an event. Why it is refused is written, or else what its session is told.
+    fn give(&mut self, event: Event, report: &mut Report) -> Result<(), Memory>
+        ensures { OnOk result (spec.IsWritten (spec.given self.old event) self.new report.old report.new) }
+    {
+        let subject = subject_of(&event);
+        match self.world.step(event) {
+            Ok(()) => self.tell(subject, report),
+            Err(refused) => report.refusal(refusal_of(refused)?),
+        }
+    }
+
+    /// Writes the outcome of a Mail or a Break, if it is there.
+    fn write_outcome(&mut self, id: CommandId, report: &mut Report) -> Result<(), Memory>
+        ensures { OnOk result (spec.IsWritten (spec.outcome_told id self.old) self.new report.old report.new) }
+    {
+        let (user, ticket) = id.get();
+        let (node, _) = ticket.get();
+        match self.world.take_outcome(node, user, ticket) {
+            Some(outcome) => report.outcome(&user, ticket, &outcome),
+            None => Ok(()),
+        }
+    }
+
+    fn write_each(&mut self, ids: &[CommandId], report: &mut Report) -> Result<(), Memory>
+        ensures { OnOk result (spec.IsWritten (spec.outcomes_told ids.now self.old) self.new report.old report.new) }
+    {
+        for id in ids {
+            self.write_outcome(*id, report)?;
+        }
+        Ok(())
+    }
+
+    /// Writes the outcomes that are there, in the order in which the script submitted them.
+    fn write_outcomes(&mut self, alloc: Global, report: &mut Report) -> Result<(), Memory>
+        ensures { OnOk result (spec.Tells (spec.AreOutcomesTold self.old) self.new report.old report.new) }
+    {
+        let due = self.operations.take_due(alloc, &self.world)?;
+        self.write_each(due.as_slice(), report)
     }
 
     /// Has sessions take the answers that are there, in the order in which they connected.
-    fn collect(&mut self, report: &mut Report) -> Result<(), Memory> {
+    fn collect(&mut self, report: &mut Report) -> Result<(), Memory>
+        ensures { OnOk result (spec.IsWritten (spec.all_collected self.old) self.new report.old report.new) }
+    {
         for _ in 0..self.sessions.len() {
             // No message stands behind the last one, so what comes next is an answer.
             let behind = self.world.sent().len();
-            match self.world.next_oldest(behind) {
-                Some(event) => self.give(event, report)?,
-                None => return Ok(()),
-            }
+            let Some(event) = self.world.next_oldest(behind) else {
+                return Ok(());
+            };
+            self.give(event, report)?;
         }
         Ok(())
     }
 
     /// The oldest event that is due happens, at most so many times.
-    fn settle(&mut self, alloc: Global, limit: u64, report: &mut Report) -> Result<(), Memory> {
+    fn settle(&mut self, alloc: Global, limit: u64, report: &mut Report) -> Result<(), Memory>
+        ensures { OnOk result (spec.Tells (spec.Settles spec.oldest limit self.old) self.new report.old report.new) }
+    {
         for _ in 0..limit {
             self.write_outcomes(alloc, report)?;
-            match self.world.next_oldest(self.first) {
-                Some(event) => self.give(event, report)?,
-                None => return Ok(()),
-            }
+            let Some(event) = self.world.next_oldest(self.first) else {
+                return Ok(());
+            };
+            self.give(event, report)?;
         }
         self.write_outcomes(alloc, report)
     }
@@ -115,19 +157,23 @@ impl Play {
         copies: u64,
         limit: u64,
         report: &mut Report,
-    ) -> Result<(), Memory> {
+    ) -> Result<(), Memory>
+        ensures { OnOk result (spec.Tells (spec.Settles (spec.newest copies) limit self.old) self.new report.old report.new) }
+    {
         for _ in 0..limit {
             self.write_outcomes(alloc, report)?;
-            match self.world.next_newest(self.first, copies) {
-                Some(event) => self.give(event, report)?,
-                None => return Ok(()),
-            }
+            let Some(event) = self.world.next_newest(self.first, copies) else {
+                return Ok(());
+            };
+            self.give(event, report)?;
         }
         self.write_outcomes(alloc, report)
     }
 
     /// The first message of the route that never arrived arrives.
-    fn deliver(&mut self, route: Route, report: &mut Report) -> Result<(), Memory> {
+    fn deliver(&mut self, route: Route, report: &mut Report) -> Result<(), Memory>
+        ensures { OnOk result (spec.IsWritten (spec.delivered self.old route) self.new report.old report.new) }
+    {
         match route.first_undelivered(self.world.sent()) {
             Some(place) => self.give(Event::Arrive(place), report),
             None => report.refusal(Refusal::NotSent),
@@ -135,11 +181,20 @@ impl Play {
     }
 
     /// Writes what a node has performed.
-    fn order(&self, node: NodeId, report: &mut Report) -> Result<(), Memory> {
+    fn order(&self, node: NodeId, report: &mut Report) -> Result<(), Memory>
+        ensures { OnOk result (spec.Tells (spec.IsOrderTold node self.now) self.now report.old report.new) }
+    {
         match self.world.performed(node) {
             Some(performed) => report.order(node, performed),
             None => report.refusal(Refusal::Down),
         }
+    }
+
+    /// `settle` and `storm` look no more at what was sent so far.
+    fn lose(&mut self)
+        ensures { self.new ≡ spec.lost self.old }
+    {
+        self.first = self.world.sent().len();
     }
 
     /// A command that is one event.
@@ -149,14 +204,56 @@ impl Play {
         settings: &Settings,
         command: Command<'_>,
         report: &mut Report,
-    ) -> Result<(), Memory> {
-        if let Command::Connect { session, .. } = &command {
-            self.sessions.add(*session)?;
-        }
+    ) -> Result<(), Memory>
+        ensures { OnOk result (spec.IsWritten (spec.happened settings.now.host command.entry self.old) self.new report.old report.new) }
+    {
         match event_of(alloc, settings.host(), command)? {
             Some(event) => self.give(event, report),
             None => Ok(()),
         }
+    }
+
+    /// What a command does by itself.
+    fn act(
+        &mut self,
+        alloc: Global,
+        settings: &Settings,
+        command: Command<'_>,
+        report: &mut Report,
+    ) -> Result<(), Memory>
+        ensures { OnOk result (spec.Tells (spec.IsDone settings.now.host command.entry self.old) self.new report.old report.new) }
+    {
+        match &command {
+            Command::Lose => {
+                self.lose();
+                Ok(())
+            }
+            Command::Order { node } => self.order(*node, report),
+            Command::Deliver { from, to, kind } => {
+                let route = Route {
+                    from: *from,
+                    to: *to,
+                    kind: *kind,
+                };
+                self.deliver(route, report)
+            }
+            _ => self.happen(alloc, settings, command, report),
+        }
+    }
+
+    /// What a command does, and then what is there of outcomes and answers.
+    fn act_to_the_end(
+        &mut self,
+        alloc: Global,
+        settings: &Settings,
+        command: Command<'_>,
+        report: &mut Report,
+    ) -> Result<(), Memory>
+        ensures { OnOk result (spec.Tells (spec.IsDoneToTheEnd settings.now.host command.entry self.old) self.new report.old report.new) }
+    {
+        self.act(alloc, settings, command, report)?;
+        self.write_outcomes(alloc, report)?;
+        self.collect(report)
     }
 
     /// Does a command, and writes what comes of it.
@@ -166,23 +263,13 @@ impl Play {
         settings: &Settings,
         command: Command<'_>,
         report: &mut Report,
-    ) -> Result<(), Memory> {
+    ) -> Result<(), Memory>
+        ensures { OnOk result (spec.Tells (spec.Performs settings.now.host command.entry self.old) self.new report.old report.new) }
+    {
         match &command {
-            Command::Settle { limit } => return self.settle(alloc, *limit, report),
-            Command::Storm { copies, limit } => return self.storm(alloc, *copies, *limit, report),
-            Command::Lose => self.first = self.world.sent().len(),
-            Command::Order { node } => self.order(*node, report)?,
-            Command::Deliver { from, to, kind } => {
-                let route = Route {
-                    from: *from,
-                    to: *to,
-                    kind: *kind,
-                };
-                self.deliver(route, report)?;
-            }
-            _ => self.happen(alloc, settings, command, report)?,
+            Command::Settle { limit } => self.settle(alloc, *limit, report),
+            Command::Storm { copies, limit } => self.storm(alloc, *copies, *limit, report),
+            _ => self.act_to_the_end(alloc, settings, command, report),
         }
-        self.write_outcomes(alloc, report)?;
-        self.collect(report)
     }
 }

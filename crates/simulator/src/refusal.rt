@@ -1,15 +1,16 @@
 //! Why a service refuses an event, as a script's output tells it.
-ghost use Rattle.std.specs.Prelude.{◌≡◌, IfOk, OnErr};
-ghost use Rattle.script.specs.Output.{refusal_number};
-ghost use Rattle.world.specs.Refusals.{refusal_number as number_of};
+ghost use Rattle.std.specs.Prelude.{◌≡◌, IfOk, OnOk, OnErr};
+ghost use Rattle.script.specs.Output.{refusal_line};
+ghost use Rattle.simulator.specs.Refusals.{refused_line};
 
 use ballot::Memory;
 use script::Refusal;
 use world::Refused;
 
-/// The refusal of the same number. Want of memory is none that a script goes on behind.
+/// The refusal that is told. Want of memory is none that a script goes on behind.
 pub(crate) fn refusal_of(refused: Refused) -> Result<Refusal, Memory>
-    ensures number { IfOk result (λ refusal. refusal_number refusal ≡ number_of refused) }
+    ensures line { IfOk result (λ refusal. refusal_line refusal ≡ refused_line refused) }
+    ensures known { OnOk result (refused ≡ Refused.Memory → ⊥) }
     ensures memory { OnErr result (refused ≡ Refused.Memory) }
 {
     match refused {

@@ -2,11 +2,12 @@
 ghost use Rattle.std.specs.Prelude.{◌≡◌, ◌⊎◌, Ok, Err, OnOk, IfErr, Option};
 ghost use Rattle.maildrop.specs.Text.{IsLine};
 ghost use Rattle.script.specs.Scripts.{new_script, read_line};
-ghost use Rattle.script.specs.declared.command.Command.{Command};
+ghost use Rattle.script.specs.declared.command.Command as script;
 
 use crate::play::Play;
 use crate::report::Report;
-use script::{Script, ScriptFault};
+use ballot::Memory;
+use script::{Command, Script, ScriptFault, Settings};
 use std::alloc::Global;
 
 /// A script as far as it is read, the service that it drives, which begins with its first command, and what is still to
@@ -16,6 +17,23 @@ pub(crate) struct Run {
     script: Script,
     play: Option<Play>,
     pub report: Report,
+}
+
+/// Does a command. The service begins with the first one.
+fn perform(
+    alloc: Global,
+    play: &mut Option<Play>,
+    settings: &Settings,
+    command: Command<'_>,
+    report: &mut Report,
+) -> Result<(), Memory> {
+    let mut now = match play.take() {
+        Some(play) => play,
+        None => Play::new(alloc, settings)?,
+    };
+    now.perform(alloc, settings, command, report)?;
+    *play = Some(now);
+    Ok(())
 }
 
 impl Run {
@@ -33,7 +51,7 @@ impl Run {
     /// Reads a line, without its line end, and does what it says.
     pub(crate) fn take_line(&mut self, alloc: Global, line: &[u8]) -> Result<(), ScriptFault>
         requires { IsLine line.now }
-        ensures read { OnOk result ((command : Option Command) × (read_line self.old.script line.now ≡ Ok (command, self.new.script))) }
+        ensures read { OnOk result ((command : Option script.Command) × (read_line self.old.script line.now ≡ Ok (command, self.new.script))) }
         ensures refused { IfErr result
             (λ error. (error ≡ ScriptFault.Memory) ⊎ (read_line self.old.script line.now ≡ Err error)) }
     {
@@ -41,13 +59,7 @@ impl Run {
             return Ok(());
         };
         let settings = self.script.settings();
-        if self.play.is_none() {
-            self.play = Some(Play::new(alloc, settings)?);
-        }
-        match &mut self.play {
-            Some(play) => play.perform(alloc, settings, command, &mut self.report)?,
-            None => {}
-        }
+        perform(alloc, &mut self.play, settings, command, &mut self.report)?;
         Ok(())
     }
 }

@@ -1,63 +1,75 @@
 //! The sessions of a script, and what of their replies is written.
+ghost use Rattle.std.specs.Prelude.{◌≡◌, ◌++◌, [], drop, length, OnOk};
+ghost use Rattle.script.specs.Output.{reply_lines};
+ghost use Rattle.simulator.specs.Plays.{shown_of, with_shown};
 
-use crate::events::session_of;
 use crate::report::Report;
 use ballot::Memory;
 use indexmap::IndexMap;
 use std::alloc::Global;
 use std::hash::{BuildHasherDefault, FoldHasher};
-use world::{SessionId, World};
+use std::marker::Model;
+use world::SessionId;
 
-/// A session, by the number that its script gives it.
-#[derive(Drop)]
-struct Shown {
-    number: u32,
-    /// How many bytes of its replies are written.
-    bytes: usize,
-}
-
-/// The sessions that a script has connected. What comes of an event is found without looking at other sessions.
+/// The sessions that a script has connected, each with how many bytes of its replies are written. What comes of an event
+/// is found without looking at other sessions.
 #[derive(Drop)]
 pub(crate) struct Sessions {
-    shown: IndexMap<SessionId, Shown, BuildHasherDefault<FoldHasher>>,
+    shown: IndexMap<SessionId, usize, BuildHasherDefault<FoldHasher>>,
+}
+
+impl Model for Sessions {
+    ghost use Rattle.simulator.specs.Plays.{Shown};
+
+    ghost Value = { Shown };
+
+    ghost view = { λ s. s.shown.entries };
 }
 
 impl Sessions {
     /// None. Takes no memory.
-    pub(crate) fn new(alloc: Global) -> Self {
+    pub(crate) fn new(alloc: Global) -> Self
+        ensures { result ≡ [] }
+    {
         Sessions {
             shown: IndexMap::new(alloc),
         }
     }
 
-    /// How many there are.
-    pub(crate) fn len(&self) -> usize {
+    /// How many were told something.
+    pub(crate) fn len(&self) -> usize
+        ensures { result ≡ length self.now }
+    {
         self.shown.len()
     }
 
-    /// A session is to connect. One that is known stays as it is.
-    pub(crate) fn add(&mut self, number: u32) -> Result<(), Memory> {
-        let session = session_of(number);
-        if self.shown.contains_key(&session) {
-            return Ok(());
+    /// How many bytes of a session's replies are written.
+    fn shown(&self, session: SessionId) -> usize
+        ensures { result ≡ shown_of session self.now }
+    {
+        match self.shown.get(&session) {
+            Some(count) => *count,
+            None => 0,
         }
-        let _ = self.shown.insert(session, Shown { number, bytes: 0 })?;
-        Ok(())
     }
 
-    /// Writes what a session was told and is not written yet.
+    /// Writes what is not written yet of a session's replies.
     pub(crate) fn write_replies(
         &mut self,
-        world: &World,
         session: SessionId,
+        replies: &[u8],
         report: &mut Report,
-    ) -> Result<(), Memory> {
-        let (Some(shown), Some(replies)) = (self.shown.get_mut(&session), world.replies(session))
-        else {
-            return Ok(());
+    ) -> Result<(), Memory>
+        ensures shown { OnOk result (self.new ≡ with_shown session (length replies.now) self.old) }
+        ensures text { OnOk result (report.new ≡ report.old ++ reply_lines session (drop (shown_of session self.old) replies.now)) }
+    {
+        // A script's sessions have numbers of nine digits, so there is always one.
+        let Ok(number) = u32::try_from(session.get()) else {
+            return Err(Memory);
         };
-        report.replies(shown.number, replies.get(shown.bytes..).unwrap_or(&[]))?;
-        shown.bytes = replies.len();
+        let fresh = replies.get(self.shown(session)..).unwrap_or(&[]);
+        report.replies(number, fresh)?;
+        let _ = self.shown.insert(session, replies.len())?;
         Ok(())
     }
 }

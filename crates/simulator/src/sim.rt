@@ -17,19 +17,19 @@ use std::io::{BufRead, BufReader, ErrorKind, Read, Write};
 /// From so many bytes on output is written, also where the next line is there already.
 const GATHERED: usize = 65_536;
 
-/// Writes what is still to be written. Where that fails it stays.
+/// Writes what is still to be written. It is let go also where that fails, so that no byte of it is written twice.
 fn write_out<W: Write>(writer: &mut W, report: &mut Report) -> Result<(), Fault>
-    ensures written { OnOk result (Appends (W.contents writer.old) (W.contents writer.new) report.old × (report.new ≡ [])) }
+    ensures written { OnOk result (Appends (W.contents writer.old) (W.contents writer.new) report.old) }
+    ensures cleared { report.new ≡ [] }
     ensures fault { IfErr result (λ fault. fault ≡ Fault.Write) }
 {
     if report.get().is_empty() {
         return Ok(());
     }
-    match writer.write_all(report.get()) {
-        Ok(()) => {
-            report.clear();
-            Ok(())
-        }
+    let written = writer.write_all(report.get());
+    report.clear();
+    match written {
+        Ok(()) => Ok(()),
         Err(_) => Err(Fault::Write),
     }
 }
