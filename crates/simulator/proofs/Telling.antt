@@ -1,18 +1,17 @@
 -- How what is told of parts is told of the whole.
-use Rattle.std.proofs.Common.{◌≡◌, ℕ, zero, suc, ◌+◌, ◌-◌, ◌<◌, ◌≤◌, ◌==◌, Bool, true, false, inl, inr, if◌then◌else◌, List, [], ◌∷◌, ◌++◌, drop, length, position, Option, Some, None, is_some, Result, Ok, Err, IfErr, refl, sym, ap, subst, ◌∙◌, append_assoc, arith}
+use Rattle.std.proofs.Common.{◌≡◌, ℕ, suc, ◌+◌, ◌-◌, ◌<◌, ◌≤◌, Bool, true, false, inl, inr, List, ◌++◌, length, position, Option, Some, None, refl, sym, ap, subst, ◌∙◌, append_assoc, arith}
 use Rattle.std.specs.Option.{option_or, option_map}
-use Rattle.std.proofs.lemmas.List.{append-nil, drop_all}
+use Rattle.std.proofs.lemmas.List.{drop_all}
 use Rattle.maildrop.specs.declared.command.Command as maildrop
-use Rattle.script.specs.Output.{outcome_line, refusal_line}
+use Rattle.script.specs.Output.{refusal_line}
 use Rattle.script.specs.declared.command.Command.{Command}
 use Rattle.script.specs.declared.command.Command.TheVariants as command
-use Rattle.script.specs.declared.message_kind.MessageKind.{MessageKind}
 use Rattle.script.specs.declared.refusal.Refusal.TheVariants.{Down}
-use Rattle.simulator.specs.Plays.{Play, Told, IsWritten, Tells, AreOutcomesTold, IsOrderTold, IsDone, IsDoneToTheEnd, Performs, SettlesBy, Settles, silent, followed, text_before, given, given_by, told_of, happened, outcome_told, outcome_by, outcomes_told, collected, collected_by, all_collected}
+use Rattle.simulator.specs.Plays.{Play, Told, IsWritten, Tells, AreOutcomesTold, IsOrderTold, IsDone, IsDoneToTheEnd, Performs, SettlesBy, Settles, followed, text_before, given, collected, collected_by, all_collected}
 use Rattle.simulator.specs.Reports.{order_lines}
 use Rattle.world.specs.Messages.{log_of, is_up}
 use Rattle.world.specs.Services.{Service}
-use Rattle.world.specs.Worlds.{World, stepped, outcome_left, outcome_at, without_outcome, without_outcome_at, with_taken, next_answer, next_oldest, may_arrive, performed_by}
+use Rattle.world.specs.Worlds.{next_answer, next_oldest, may_arrive, performed_by}
 use Rattle.world.specs.declared.event.Event.{Event}
 use Rattle.world.specs.declared.event.Event.TheVariants as event
 

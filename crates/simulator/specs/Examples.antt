@@ -1,15 +1,14 @@
 -- Worked scripts of a service of one node, with one user.
-use Rattle.std.specs.Prelude.{◌≡◌, refl, ℕ, List, [], ◌∷◌, ◌++◌, codes, Option, None, Some}
+use Rattle.std.specs.Prelude.{◌≡◌, refl, ℕ, List, [], ◌∷◌, ◌++◌, codes, None}
 use Rattle.std.specs.List.{concat}
 use Rattle.std.specs.Fmt.{digits}
 use Rattle.apop.specs.declared.method.Method.TheVariants.{Pass}
-use Rattle.maildrop.specs.CommandId.{CommandId}
 use Rattle.pop3_wire.specs.declared.line.Line.TheVariants.{Whole}
 use Rattle.script.specs.Scripts.{Settings, default_limits}
 use Rattle.script.specs.declared.command.Command.{Command}
 use Rattle.script.specs.declared.command.Command.TheVariants as command
 use Rattle.script.specs.declared.message_kind.MessageKind.TheVariants.{P1a}
-use Rattle.simulator.specs.Plays.{Play, Told, silent, followed, happened, outcomes_told, all_collected, delivered, new_play, Settles, oldest}
+use Rattle.simulator.specs.Plays.{Play, Told, silent, followed, happened, delivered, new_play}
 
 module _ (A : Type 0) where
   abbrev host : List ℕ

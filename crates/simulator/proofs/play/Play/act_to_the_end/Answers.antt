@@ -1,4 +1,4 @@
-use Rattle.std.proofs.Common.{◌≡◌, refl}
+use Rattle.std.proofs.Common.{refl}
 use Rattle.std.proofs.lemmas.Result.{on_ok_weaker}
 use Rattle.simulator.specs.Plays.{IsDone, IsDoneToTheEnd}
 use Rattle.simulator.proofs.Telling.{done_to_the_end}

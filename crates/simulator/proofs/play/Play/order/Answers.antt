@@ -1,6 +1,5 @@
-use Rattle.std.proofs.Common.{◌≡◌, ◌∙◌, inl, inr, refl, sym, ap, true, false}
+use Rattle.std.proofs.Common.{◌∙◌, sym, ap}
 use Rattle.std.proofs.lemmas.Result.{on_ok_weaker}
-use Rattle.simulator.specs.Plays.{Play}
 use Rattle.world.specs.Messages.{log_of, is_up}
 use Rattle.world.specs.Worlds.{performed_by}
 use Rattle.simulator.proofs.Telling.{order_written, order_refused}

@@ -1,4 +1,3 @@
-use Rattle.std.proofs.Common.{◌≡◌}
 use Rattle.std.proofs.lemmas.Result.{on_ok_weaker}
 use Rattle.simulator.proofs.Telling.{performs_other}
 use Rattle.simulator.proofs.play.Play.perform.Goals as goal
