@@ -20,7 +20,9 @@ use std::alloc::{Allocator, Global};
 /// A line that a client sent, with the ticket of the operation that it asked for, if it asked for one.
 #[derive(Drop)]
 pub(crate) struct Heard {
+    /// What the client sent.
     pub line: Line,
+    /// The ticket of the operation that the line asked for, if it asked for one.
     pub ticket: Option<Ticket>,
 }
 
@@ -42,10 +44,15 @@ pub(crate) enum Standing {
 /// A client's session at its node, with what it heard and said.
 #[derive(Drop)]
 pub(crate) struct Connection<A: Allocator = Global> {
+    /// The node to which the client is connected.
     pub node: NodeId,
+    /// Its session there.
     pub session: Session<A>,
+    /// The lines that the client sent, in order.
     pub heard: Vec<Heard, A>,
+    /// The bytes that the client was told, the greeting first.
     pub replies: Items<u8, A>,
+    /// How the session stands.
     pub standing: Standing,
 }
 
