@@ -217,7 +217,7 @@ module _ {S I E K O L : Type 0} (a : Case S I E K O L) where
 
   -- a stuck placing that leaves inputs: there is no legal order
   pub no_order : Laws a → (p : ℕ → ℕ) (n : ℕ) → is_stuck a p ≡ true → p n < length (a.logs n) → (es : List Event) → IsLegalOrder a es → ⊥
-  no_order laws p n stuck less es (once, order) =
+  no_order laws p n stuck less es (once, ticketed, order) =
       let w = order.0 in
       let leads = order.1 in
       let ends = order.2 in

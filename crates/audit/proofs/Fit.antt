@@ -13,7 +13,7 @@ use Rattle.audit.specs.Replays.{runs}
 use Rattle.audit.specs.Turns.{Turns}
 use Rattle.audit.specs.Wrong.{seat, first_node, first_wrong}
 use Rattle.audit.specs.declared.event.Event.{Event}
-use Rattle.audit.proofs.Once.{none_wrong}
+use Rattle.audit.proofs.Once.{none_wrong, ticketed}
 use Rattle.audit.proofs.RealLaws.{real_laws}
 use Rattle.audit.proofs.Sound.{legal}
 use Rattle.audit.proofs.Written.{written}
@@ -69,14 +69,14 @@ module _ {A : Type 0} (logs : List (NodeLog A)) (transcripts : List (Transcript 
   order_of_logs ns p placing all right =
       let a = case_of logs transcripts in
       let laws = real_laws logs transcripts in
-      legal a laws all_begin (seat a) (none_wrong a laws (first_there logs 0 fit.some) fit.scripts right) ns p placing all
+      legal a laws all_begin (seat a) (none_wrong a laws (first_there logs 0 fit.some) fit.scripts right) (ticketed a laws right) ns p placing all
 
   pub order_written : (ps : List Placement) → ArePlaced (case_of logs transcripts) (λ n. 0) [] ps → first_wrong (case_of logs transcripts) 0 [] (case_of logs transcripts).scripts ≡ None
       → IsLegalOrder (case_of logs transcripts) (written_order (case_of logs transcripts) (seat (case_of logs transcripts)) ps)
   order_written ps placed right =
       let a = case_of logs transcripts in
       let laws = real_laws logs transcripts in
-      written a laws all_begin (seat a) (none_wrong a laws (first_there logs 0 fit.some) fit.scripts right) ps placed
+      written a laws all_begin (seat a) (none_wrong a laws (first_there logs 0 fit.some) fit.scripts right) (ticketed a laws right) ps placed
 
   -- each session that began is at a node with a log
   pub seats_there : first_wrong (case_of logs transcripts) 0 [] (case_of logs transcripts).scripts ≡ None → (i : ℕ) (turns : Turns A) → slice_get (case_of logs transcripts).scripts i ≡ Some (Some turns) → IsIn (seat (case_of logs transcripts) i) (case_of logs transcripts).nodes

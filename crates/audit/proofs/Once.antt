@@ -1,10 +1,11 @@
 -- Where no entry names what an earlier one named, each key is named once.
-use Rattle.std.proofs.Common.{◌≡◌, ℕ, zero, suc, List, [], ◌∷◌, ◌++◌, Bool, true, false, Option, Some, None, refl, sym, ap, ◌∙◌, subst, inl, inr, ⊎_elim, cond}
+use Rattle.std.proofs.Common.{◌≡◌, ℕ, zero, suc, ◌+◌, List, [], ◌∷◌, ◌++◌, Bool, true, false, Option, Some, None, refl, sym, ap, ◌∙◌, subst, inl, inr, ⊎_elim, cond, arith}
 use Rattle.std.specs.Prelude.{slice_get, ◌==◌, ◌&&◌, ◌||◌, not, length}
 use Rattle.std.proofs.lemmas.Bool.{true≢false, and_parts, or_cases, or_left, or_right, eqb-true}
 use Rattle.audit.specs.Case.{Turn, Plain, Asks, Case, next, state_at, key_in, turns_of, count_in, keys_among}
 use Rattle.ballot.specs.Lists.{IsIn}
 use Rattle.audit.specs.Laws.{Laws}
+use Rattle.audit.specs.Order.{AreTicketed}
 use Rattle.audit.specs.Right.{IsRight, AreRight, NoneWrong}
 use Rattle.audit.specs.Wrong.{turns_at, seat, is_key, is_submit, has_submit, is_outcome, is_seen, is_good, are_good, seen_after, first_node, node_of, first_wrong, IsScript}
 use Rattle.audit.proofs.Basics.{in_left, in_right}
@@ -126,6 +127,25 @@ module _ {S I E K O L : Type 0} (a : Case S I E K O L) (laws : Laws a) where
           (seen, subst (λ z. are_good a (node_of a (turns_of a z)) seen (turns_of a z) ≡ true) q (and_parts (not (a.loose i)) _ e).1)
       go true e f h (suc j) s' is = f h j s' is
       go false e f h j s' is = absurd (cc)
+
+  not_true : (t : Bool) → not t ≡ true → t ≡ false
+  not_true true e = absurd (true≢false (sym e))
+  not_true false e = refl
+
+  not_loose : (i : ℕ) (seen : List K) (ss : List (Option (List (Turn I K O L)))) → first_wrong a i seen ss ≡ None → (j k : ℕ) (s : Option (List (Turn I K O L))) → k ≡ i + j → slice_get ss j ≡ Some s → a.loose k ≡ false
+  not_loose i seen [] = λ h j k s at e. absurd (cc)
+  not_loose i seen (s ∷ ss) =
+      go (not (a.loose i) && are_good a (node_of a (turns_of a s)) seen (turns_of a s)) refl (not_loose (suc i) (seen_after a seen (turns_of a s)) ss)
+    where
+      go : (t : Bool) → (not (a.loose i) && are_good a (node_of a (turns_of a s)) seen (turns_of a s)) ≡ t → (first_wrong a (suc i) (seen_after a seen (turns_of a s)) ss ≡ None → (j k : ℕ) (s' : Option (List (Turn I K O L))) → k ≡ suc i + j → slice_get ss j ≡ Some s' → a.loose k ≡ false) → cond t (first_wrong a (suc i) (seen_after a seen (turns_of a s)) ss) (Some i) ≡ None → (j k : ℕ) (s' : Option (List (Turn I K O L))) → k ≡ i + j → slice_get (s ∷ ss) j ≡ Some s' → a.loose k ≡ false
+      go true e f h zero k s' at is =
+          let here : k ≡ i = omega (arith, at) in
+          ap a.loose here ∙ not_true (a.loose i) (and_parts (not (a.loose i)) _ e).0
+      go true e f h (suc j) k s' at is = f h j k s' (omega (arith, at)) is
+      go false e f h j k s' at is = absurd (cc)
+
+  pub ticketed : first_wrong a 0 [] a.scripts ≡ None → AreTicketed a
+  ticketed h i s e = let at : i ≡ 0 + i = omega arith in not_loose 0 [] a.scripts h i i s at e
 
   among : (ss : List (Option (List (Turn I K O L)))) (j : ℕ) (ts : List (Turn I K O L)) (k : K) → slice_get ss j ≡ Some (Some ts) → IsIn k (key_in a ts) → IsIn k (keys_among a ss)
   among [] j ts k e h = absurd (cc)

@@ -232,8 +232,8 @@ module _ {A : Type 0} (cfg : Config A) (stamps : ℕ → Stamp) (logs : List (No
   pub order_run : (events : List Event) → IsLegalOrder real events → (happenings : List (Happening A)) × IsRunOf cfg stamps logs transcripts (run_of cfg happenings)
   order_run events legal =
       let first = greets (length transcripts) in
-      let run = steps cfg stamps logs transcripts fit service events (opening real) legal.1.0 (run_of cfg (greets (length transcripts))) begun legal.1.1 in
-      (greets (length transcripts) ++ run.0, subst (IsRunOf cfg stamps logs transcripts) (sym (fold-append (happens cfg) _ (greets (length transcripts)) run.0)) (at_the_end legal.1.0 _ run.1 legal.1.2))
+      let run = steps cfg stamps logs transcripts fit service events (opening real) legal.2.0 (run_of cfg (greets (length transcripts))) begun legal.2.1 in
+      (greets (length transcripts) ++ run.0, subst (IsRunOf cfg stamps logs transcripts) (sym (fold-append (happens cfg) _ (greets (length transcripts)) run.0)) (at_the_end legal.2.0 _ run.1 legal.2.2))
 
 module _ {A : Type 0} (cfg : Config A) (stamps : ℕ → Stamp) (logs : List (NodeLog A)) (transcripts : List (Transcript A)) (happenings : List (Happening A)) where
   its_lines : (t : Transcript A) (lines : List Line) → AreItsLines t lines → IsPrefix lines t.lines

@@ -1,6 +1,6 @@
 -- A placing of all, and no wrong answer: a legal order.
 use Rattle.std.proofs.Common.{◌≡◌, ◌⊎◌, ℕ, suc, ◌<◌, ◌≤◌, length, List, [], ◌∷◌, ◌++◌, Bool, true, false, Option, Some, None, refl, sym, ap, ◌∙◌, subst, inl, inr, ⊎_elim, cond, arith, append_assoc}
-use Rattle.std.specs.Prelude.{slice_get, is_some}
+use Rattle.std.specs.Prelude.{slice_get, is_some, IsSome}
 use Rattle.std.specs.List.{list_any}
 use Rattle.std.proofs.lemmas.List.{append-nil}
 use Rattle.std.proofs.lemmas.Bool.{eqb-true, and_parts, true≢false, cases_Bool, cases_lt}
@@ -8,7 +8,7 @@ use Rattle.audit.specs.Case.{Turn, Asks, Case, next, after_next, sends_next, sta
 use Rattle.audit.specs.Placing.{put, is_answered, all_answered, message_there, turn_there, is_met, can_place, IsPlacing}
 use Rattle.audit.specs.declared.event.Event.{Event}
 use Rattle.audit.specs.declared.event.Event.TheVariants.{Line, Hangup, Given, Arrive}
-use Rattle.audit.specs.Order.{Awaited, Session, World, opening, Runs, Submits, Happens, Leads, NothingAwaited, SessionEnds, IsNamedOnce, IsLegalOrder}
+use Rattle.audit.specs.Order.{Awaited, Session, World, opening, Runs, Submits, Happens, Leads, NothingAwaited, SessionEnds, IsNamedOnce, AreTicketed, IsLegalOrder}
 use Rattle.ballot.specs.Lists.{IsIn}
 use Rattle.audit.specs.Laws.{Laws, AllBegin}
 use Rattle.audit.specs.Right.{IsRight, HasNoLine, AreRight, NoneWrong}
@@ -329,12 +329,12 @@ module _ {S I E K O L : Type 0} (a : Case S I E K O L) (laws : Laws a) (begins :
       grows q n = put_each (λ m v. q m ≤ v) q n (suc (q n)) (omega arith) (λ m. omega arith)
 
   -- at the end of a placing of all, each session is at its end
-  pub session_ends : (p : ℕ → ℕ) → ((n : ℕ) → p n ≡ used n) → (i : ℕ) (ts : List (Turn I K O L)) → slice_get a.scripts i ≡ Some (Some ts) → (s : Session I K O L) → Synced a p (at i) ts s → Caught a p s → (s.done ≡ ts) × (s.left ≡ []) × NothingAwaited a s.awaits
+  pub session_ends : (p : ℕ → ℕ) → ((n : ℕ) → p n ≡ used n) → (i : ℕ) (ts : List (Turn I K O L)) → slice_get a.scripts i ≡ Some (Some ts) → (s : Session I K O L) → Synced a p (at i) ts s → Caught a p s → (s.done ≡ ts) × (s.left ≡ []) × NothingAwaited a s.awaits × IsSome s.node
   session_ends p all i ts script s z c =
       let in_ts : (k : K) → IsIn k (key_in a s.left) → IsIn k (key_in a ts) = λ k h. subst (λ us. IsIn k (key_in a us)) z.whole (subst (λ ks. IsIn k ks) (sym (keys_both a s.done s.left)) (in_right k (key_in a s.done) _ h)) in
       let keys : HasNoKey a s.left = no_key a s.left (λ k h. z.ahead k h (submitted k (in_ts k h))) in
       let empty : s.left ≡ [] = left_empty keys s.awaits refl in
-      (sym (append-nil s.done) ∙ (ap (λ us. s.done ++ us) (sym empty) ∙ z.whole), empty, awaited s.awaits refl)
+      (sym (append-nil s.done) ∙ (ap (λ us. s.done ++ us) (sym empty) ∙ z.whole), empty, awaited s.awaits refl, ap is_some z.node)
     where
       submitted : (k : K) → IsIn k (key_in a ts) → IsSubmitted a p k
       submitted k h =
@@ -394,10 +394,10 @@ module _ {S I E K O L : Type 0} (a : Case S I E K O L) (laws : Laws a) (begins :
           let sp = f.earlier.at in
           (right_at a (at f.session) sp.before sp.line sp.input key sp.outcome sp.rest (subst (λ us. AreRight a (at f.session) us) sp.is (right f.session f.script f.there).1)).0.once
 
-  pub legal : (ns : List ℕ) (p : ℕ → ℕ) → IsPlacing a ns p → ((n : ℕ) → p n ≡ length (a.logs n)) → (es : List Event) × IsLegalOrder a es
-  legal ns p placing all =
+  pub legal : AreTicketed a → (ns : List ℕ) (p : ℕ → ℕ) → IsPlacing a ns p → ((n : ℕ) → p n ≡ length (a.logs n)) → (es : List Event) × IsLegalOrder a es
+  legal ticketed ns p placing all =
       let r = reached ns p placing (λ n. below (p n) (used n) (all n)) in
-      (r.events, (named_once ns p placing all, (the_world a p r.sent r.sessions, r.leads, (all, λ i. ends r i (slice_get a.scripts i) refl))))
+      (r.events, (named_once ns p placing all, ticketed, (the_world a p r.sent r.sessions, r.leads, (all, λ i. ends r i (slice_get a.scripts i) refl))))
     where
       below : (i j : ℕ) → i ≡ j → i ≤ j
       below i j e = omega arith

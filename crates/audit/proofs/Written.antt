@@ -1,6 +1,6 @@
 -- The events of a placing, as they are written down, are a legal order.
 use Rattle.std.proofs.Common.{◌≡◌, ◌⊎◌, ℕ, zero, suc, ◌<◌, ◌≤◌, length, List, [], ◌∷◌, ◌++◌, Bool, true, false, Option, Some, None, refl, sym, ap, ◌∙◌, subst, inl, inr, ⊎_elim, cond, arith, append_assoc}
-use Rattle.std.specs.Prelude.{slice_get, ◌==◌, ◌&&◌, is_some}
+use Rattle.std.specs.Prelude.{slice_get, ◌==◌, ◌&&◌, is_some, IsSome}
 use Rattle.std.proofs.lemmas.List.{append-nil}
 use Rattle.std.proofs.lemmas.Bool.{eqb-true, eq-eqb, ne_eqb, and_parts, true≢false, cases_Bool, cases_eq, cases_lt}
 use Rattle.ballot.specs.Lists.{IsIn}
@@ -13,7 +13,7 @@ use Rattle.audit.specs.declared.placement.Placement.{Placement}
 use Rattle.audit.specs.declared.placement.Source.{Source}
 use Rattle.audit.specs.declared.placement.Source.TheVariants.{Own, Last, Message, FromSession}
 use Rattle.audit.specs.Events.{Talk, kinds, said, unsaid, goes_on, gone_on, begs, behind, kind_of, asking as asks_on, asked_on, events_of, talks_after, events_from, all_go_on, all_gone_on}
-use Rattle.audit.specs.Order.{Awaited, Session, World, Runs, Submits, Agrees, Happens, Leads, Ends, NothingAwaited, SessionEnds, IsNamedOnce, IsLegalOrder}
+use Rattle.audit.specs.Order.{Awaited, Session, World, Runs, Submits, Agrees, Happens, Leads, Ends, NothingAwaited, SessionEnds, IsNamedOnce, AreTicketed, IsLegalOrder}
 use Rattle.audit.specs.Laws.{Laws, AllBegin}
 use Rattle.audit.specs.Right.{IsRight, HasNoLine, AreRight, NoneWrong}
 use Rattle.audit.proofs.Basics.{in_left, in_right, in_either, all_in, put_each, answer_more, some_of, IsBelow, put_here}
@@ -66,7 +66,7 @@ module _ {S I E K O L : Type 0} (a : Case S I E K O L) (laws : Laws a) (begins :
   event_happens : (w w' : World I E K O L) (i n : ℕ) (u : Option L) → Submits a w i n u w' → (w.sessions i).node ≡ Some n → Runs a w n → (w.sessions i).awaits ≡ None → Happens a w (asked_event i u) w'
   event_happens = sound.event_happens a laws begins at right
 
-  session_ends : (p : ℕ → ℕ) → ((n : ℕ) → p n ≡ used n) → (i : ℕ) (ts : List (Turn I K O L)) → slice_get a.scripts i ≡ Some (Some ts) → (s : Session I K O L) → Synced a p (at i) ts s → Caught a p s → (s.done ≡ ts) × (s.left ≡ []) × NothingAwaited a s.awaits
+  session_ends : (p : ℕ → ℕ) → ((n : ℕ) → p n ≡ used n) → (i : ℕ) (ts : List (Turn I K O L)) → slice_get a.scripts i ≡ Some (Some ts) → (s : Session I K O L) → Synced a p (at i) ts s → Caught a p s → (s.done ≡ ts) × (s.left ≡ []) × NothingAwaited a s.awaits × IsSome s.node
   session_ends = sound.session_ends a laws begins at right
 
   named_once : (ns : List ℕ) (p : ℕ → ℕ) → IsPlacing a ns p → ((n : ℕ) → p n ≡ used n) → IsNamedOnce a
@@ -789,10 +789,10 @@ module _ {S I E K O L : Type 0} (a : Case S I E K O L) (laws : Laws a) (begins :
   as_placing (p ∷ ps) q sent (x, is, can, from, rest) order placing = as_placing ps (more q p.node) _ rest (p.node ∷ order) (q, placing, can, refl)
 
   -- what is written down is a legal order
-  pub written : (ps : List Placement) → ArePlaced a (λ n. 0) [] ps → IsLegalOrder a (written_order a at ps)
-  written ps h =
+  pub written : AreTicketed a → (ps : List Placement) → ArePlaced a (λ n. 0) [] ps → IsLegalOrder a (written_order a at ps)
+  written ticketed ps h =
       let c = connected a begins at right (length a.scripts) in
       let st = at_first c.sessions (λ i ts e. c.begun i (got_below a.scripts i (Some ts) e) ts e) in
       let r = goes ps (λ n. 0) [] c.sessions (first_talks a) st h in
       let w = as_placing ps (λ n. 0) [] h [] refl in
-      (named_once w.0 w.1 w.2 w.3, (r.world, leads_on a _ _ _ _ _ c.leads r.leads, r.ends))
+      (named_once w.0 w.1 w.2 w.3, ticketed, (r.world, leads_on a _ _ _ _ _ c.leads r.leads, r.ends))

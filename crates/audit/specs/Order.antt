@@ -1,6 +1,6 @@
 -- A legal order of logs and transcripts.
 use mathlib.Core.Logic.{◌⊎◌}
-use Rattle.std.specs.Prelude.{◌≡◌, ℕ, suc, length, List, [], ◌∷◌, ◌++◌, Option, Some, None, true, slice_get}
+use Rattle.std.specs.Prelude.{◌≡◌, ℕ, suc, length, List, [], ◌∷◌, ◌++◌, Option, Some, None, IsSome, true, false, slice_get}
 use Rattle.audit.specs.Case.{Turn, Plain, Asks, Case, next, state_at, asked, count_in, keys_among}
 use Rattle.audit.specs.Placing.{put}
 use Rattle.audit.specs.declared.event.Event.{Event}
@@ -94,7 +94,7 @@ module _ {S I E K O L : Type 0} (a : Case S I E K O L) where
   Leads w [] w' = w' ≡ w
   Leads w (e ∷ es) w' = (v : World I E K O L) × Happens w e v × Leads v es w'
 
-  -- at the end each log is used up, and each transcript, its outcomes found
+  -- at the end each log is used up, and each transcript that has begun, its outcomes found
   abbrev pub NothingAwaited : Option (Awaited K O) → Type 0
   NothingAwaited None = Unit {0}
   NothingAwaited (Some y) = y.outcome ≡ None
@@ -102,7 +102,7 @@ module _ {S I E K O L : Type 0} (a : Case S I E K O L) where
   abbrev pub SessionEnds : Option (Option (List (Turn I K O L))) → Session I K O L → Type 0
   SessionEnds None s = Unit {0}
   SessionEnds (Some None) s = Unit {0}
-  SessionEnds (Some (Some ts)) s = (s.done ≡ ts) × (s.left ≡ []) × NothingAwaited s.awaits
+  SessionEnds (Some (Some ts)) s = (s.done ≡ ts) × (s.left ≡ []) × NothingAwaited s.awaits × IsSome s.node
 
   abbrev pub Ends : World I E K O L → Type 0
   Ends w = ((n : ℕ) → w.placed n ≡ length (a.logs n)) × ((i : ℕ) → SessionEnds (slice_get a.scripts i) (w.sessions i))
@@ -111,5 +111,9 @@ module _ {S I E K O L : Type 0} (a : Case S I E K O L) where
   abbrev pub IsNamedOnce : Type 0
   IsNamedOnce = (n k : ℕ) (x : I) (key : K) → next a n k ≡ Some x → asked a (state_at a n k) x ≡ Some key → count_in a key (keys_among a a.scripts) ≡ 1
 
+  -- no transcript has an outcome without a ticket
+  abbrev pub AreTicketed : Type 0
+  AreTicketed = (i : ℕ) (script : Option (List (Turn I K O L))) → slice_get a.scripts i ≡ Some script → a.loose i ≡ false
+
   abbrev pub IsLegalOrder : List Event → Type 0
-  IsLegalOrder es = IsNamedOnce × ((w : World I E K O L) × Leads opening es w × Ends w)
+  IsLegalOrder es = IsNamedOnce × AreTicketed × ((w : World I E K O L) × Leads opening es w × Ends w)
