@@ -3,3 +3,4 @@ pub mod Faults
 pub mod Answers
 pub mod Examples
 pub mod Verdicts
+pub mod Keys

@@ -15,9 +15,6 @@ use std::{io, thread};
 /// How many milliseconds are waited before a port is tried again.
 const PAUSE_MS: u64 = 10;
 
-/// How often a port is tried.
-const TRIES: u32 = 1_000;
-
 /// The transcripts of the sessions that have ended.
 #[derive(Drop)]
 struct Kept {
@@ -27,13 +24,24 @@ struct Kept {
     is_short: bool,
 }
 
-/// What all threads of a service share: who may log in, whether the service stops, and what its sessions left.
+/// How far a service has come.
+#[derive(Clone, Copy, Debug, PartialEq, Eq)]
+enum Stage {
+    /// Connections are taken.
+    Serving,
+    /// No connection is taken any more, and the sessions go on to their ends, for which their nodes need time.
+    Stopping,
+    /// All sessions have ended.
+    Ended,
+}
+
+/// What all threads of a service share: who may log in, how far the service has come, and what its sessions left.
 #[derive(Drop)]
 pub(crate) struct Board {
     accounts: Accounts,
     host: Items<u8>,
-    stopping: Mutex<bool>,
-    stops: Condvar,
+    stage: Mutex<Stage>,
+    ends: Condvar,
     connections: AtomicU64,
     kept: Mutex<Kept>,
 }
@@ -48,8 +56,8 @@ impl Board {
         Board {
             accounts,
             host,
-            stopping: Mutex::new(false),
-            stops: Condvar::new(),
+            stage: Mutex::new(Stage::Serving),
+            ends: Condvar::new(),
             connections: AtomicU64::new(0),
             kept: Mutex::new(kept),
         }
@@ -95,34 +103,39 @@ impl Board {
         Some(std::mem::replace(&mut kept.transcripts, Vec::new(alloc)))
     }
 
-    /// Whether the service stops.
+    /// Whether the service stops, or has ended.
     pub(crate) fn is_stopping<R: Wait>(&self, rt: &R) -> bool {
-        *self.stopping.lock(rt)
+        !matches!(*self.stage.lock(rt), Stage::Serving)
     }
 
-    /// Waits so long, or until the service stops. Gives whether it stops.
+    /// Waits so long, or until the sessions have ended. Gives whether they have.
     pub(crate) fn pauses<R: Wait + Clock>(&self, rt: &R, time: Duration) -> bool {
-        let guard = self.stopping.lock(rt);
-        let (stopping, _) = self
-            .stops
-            .wait_timeout_while(rt, guard, time, |stopping| !*stopping);
-        *stopping
+        let guard = self.stage.lock(rt);
+        let (stage, _) = self
+            .ends
+            .wait_timeout_while(rt, guard, time, |stage| !matches!(*stage, Stage::Ended));
+        matches!(*stage, Stage::Ended)
     }
 
     /// Lets the service stop, and wakes who listens at these ports.
     pub(crate) fn stop<R: Net + Wait + Clock>(&self, rt: &R, ports: &[u16]) {
-        *self.stopping.lock(rt) = true;
-        self.stops.notify_all();
+        *self.stage.lock(rt) = Stage::Stopping;
         for port in ports {
             wake(rt, *port);
         }
+    }
+
+    /// The sessions of a service that stops have ended: its nodes need no more time.
+    pub(crate) fn end<R: Wait>(&self, rt: &R) {
+        *self.stage.lock(rt) = Stage::Ended;
+        self.ends.notify_all();
     }
 }
 
 /// Wakes who listens at a port, by a connection. Where there is no descriptor for one it is tried again, since who
 /// listens has none either, or may get the next.
-fn wake<R: Net + Clock>(rt: &R, port: u16) {
-    for _ in 0..TRIES {
+fn wake<R: Net + Wait + Clock>(rt: &R, port: u16) {
+    for _ in rt.forever() {
         match rt.connect(local(port)) {
             Ok(_) => return,
             Err(error) if error.kind() == io::ErrorKind::ConnectionRefused => return,

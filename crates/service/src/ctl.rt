@@ -32,6 +32,68 @@ fn is_refusal(line: &[u8]) -> bool
         || line == b"down".as_slice()
 }
 
+/// How an answer ends, as far as it was read.
+#[derive(Clone, Copy, Debug, PartialEq, Eq)]
+pub enum Ending {
+    /// In the middle, or by what doesn't answer the request.
+    Broken,
+    /// By a line that says that what was asked wasn't done.
+    Refused,
+    /// By the last line of an answer to the request.
+    Done,
+}
+
+impl Ending {
+    /// The exit status that the answer brings.
+    fn status(self) -> Result<u8, Fault>
+        ensures status { result ≡ spec.status_of self }
+        ensures statuses { IfOk result (λ status. (status ≡ 0) ⊎ (status ≡ 3)) }
+    {
+        match self {
+            Ending::Broken => Err(Fault::Read),
+            Ending::Refused => Ok(REFUSED),
+            Ending::Done => Ok(0),
+        }
+    }
+}
+
+/// Whether a line is the last one of an answer to a request that isn't refused.
+fn ends_request(request: &Request, line: &[u8]) -> bool
+    ensures { result ≡ spec.ends_request request.now line.now }
+{
+    match request {
+        Request::Deliver { .. } | Request::Status => line == b"end".as_slice(),
+        Request::Break { .. } => {
+            line == b"done".as_slice() || line == b"no such user".as_slice()
+        }
+        Request::Crash { .. } => line == b"crashed".as_slice(),
+        Request::Stop => line == b"stopping".as_slice(),
+    }
+}
+
+/// Whether a line is the last one of an answer to an instruction that isn't refused.
+fn ends_answer(instruction: &Instruction<'_>, line: &[u8]) -> bool
+    ensures { result ≡ spec.ends_answer instruction.now line.now }
+{
+    match instruction {
+        Instruction::Deliver { .. } => line == b"end".as_slice(),
+        Instruction::Ask(request) => ends_request(request, line),
+    }
+}
+
+/// How an answer to an instruction ends whose last line this is, without its line feed.
+fn ending_by(instruction: &Instruction<'_>, line: &[u8]) -> Ending
+    ensures { result ≡ spec.ending_by instruction.now line.now }
+{
+    if is_refusal(line) {
+        Ending::Refused
+    } else if ends_answer(instruction, line) {
+        Ending::Done
+    } else {
+        Ending::Broken
+    }
+}
+
 /// The bytes of a file.
 fn read_file<R: Files>(rt: &R, alloc: Global, path: &[u8]) -> Result<Vec<u8>, Fault> {
     let Ok(path) = std::str::from_utf8(path) else {
@@ -91,31 +153,33 @@ fn send(stream: &TcpStream, message: &Message) {
     let _closed = stream.shutdown(Shutdown::Write);
 }
 
-/// Prints the lines of the answer. Gives the exit status that they bring.
-fn print_answer<W: Write>(alloc: Global, stream: &TcpStream, writer: &mut W) -> Result<u8, Fault>
-    ensures { IfOk result (λ status. (status ≡ 0) ⊎ (status ≡ 3)) }
-{
+/// Prints the lines of the answer to an instruction. Gives how it ends. A service without memory closes the connection
+/// without an answer.
+fn print_answer<W: Write>(
+    alloc: Global,
+    stream: &TcpStream,
+    writer: &mut W,
+    instruction: &Instruction<'_>,
+) -> Result<Ending, Fault> {
     let Ok(mut reader) = BufReader::new(alloc, stream) else {
         return Err(Fault::Memory);
     };
     let mut line = Vec::new(alloc);
-    let mut is_refused = false;
-    for lines in 0..u64::MAX {
+    let mut ending = Ending::Broken;
+    for _ in 0..u64::MAX {
         line.clear();
         match reader.read_until(b'\n', &mut line) {
-            // A service without memory closes the connection without an answer.
-            Ok(0) if lines == 0 => return Err(Fault::Read),
-            Ok(0) => return Ok(if is_refused { REFUSED } else { 0 }),
+            Ok(0) => return Ok(ending),
             Ok(_) => {}
             Err(_) => return Err(Fault::Read),
         }
-        if writer.write_all(line.as_slice()).is_err() {
-            return Err(Fault::Write);
-        }
-        let text = line.as_slice();
-        is_refused = is_refused || is_refusal(text.strip_suffix(b"\n").unwrap_or(text));
+        say(writer, line.as_slice())?;
+        ending = match line.as_slice().strip_suffix(b"\n") {
+            Some(text) => ending_by(instruction, text),
+            None => Ending::Broken,
+        };
     }
-    Err(Fault::Read)
+    Ok(Ending::Broken)
 }
 
 /// Asks the service, and prints its answer. Gives the exit status that it brings.
@@ -133,7 +197,7 @@ fn ask<R: Net<Listener = TcpListener, Stream = TcpStream> + Files, W: Write>(
         return Err(Fault::Reach(port));
     };
     send(&stream, &message);
-    print_answer(alloc, &stream, writer)
+    print_answer(alloc, &stream, writer, instruction)?.status()
 }
 
 fn run<R: Net<Listener = TcpListener, Stream = TcpStream> + Files, W: Write>(
@@ -169,8 +233,8 @@ fn run<R: Net<Listener = TcpListener, Stream = TcpStream> + Files, W: Write>(
 
 /// Makes an operator's request to the service at a port of this machine, and prints its answer: `deliver NODE USER FILE`,
 /// with a key behind it or without, `break NODE USER`, `crash NODE`, `status` or `stop`. Gives the exit status: 0 after
-/// an answer, 3 where that says `bad request`, `bad mbox` or `down`, 1 after a fault of memory, reading, writing or the
-/// network, 2 for words or a port that are none. A fault is told on standard error.
+/// a whole answer, 3 where that says `bad request`, `bad mbox` or `down`, 1 where it breaks off or after another fault of
+/// memory, reading, writing or the network, 2 for words or a port that are none. A fault is told on standard error.
 pub fn ctl_run<R: Net<Listener = TcpListener, Stream = TcpStream> + Files + Eprint, W: Write>(
     rt: &R,
     alloc: Global,

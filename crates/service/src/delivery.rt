@@ -1,8 +1,9 @@
 //! Mail that an operator delivers.
 ghost use Rattle.std.specs.Prelude.{◌≡◌};
+ghost use Rattle.service.specs.Keys.{key_at};
 
 use crate::fault::Fault;
-use crate::operator::say;
+use crate::operator::{say, say_now};
 use maildrop::{Key, Name, Op, Outcome, Text};
 use mboxrd::{MboxError, Reader};
 use script::{KeyPrefix, LAST_MESSAGE, put_outcome};
@@ -80,14 +81,16 @@ pub(crate) fn texts_in<S: Read>(
 
 /// The key of the text at a place of its file, counted from 0, if there are keys. A file of 2^30 bytes has fewer texts than
 /// there are numbers.
-fn key_of(prefix: &Option<KeyPrefix>, place: usize) -> Option<Key> {
+fn key_of(prefix: &Option<KeyPrefix>, place: usize) -> Option<Key>
+    ensures { result ≡ key_at prefix.now place }
+{
     match (prefix, u32::try_from(place)) {
         (Some(prefix), Ok(place)) if place < LAST_MESSAGE => Some(prefix.numbered(place + 1)),
         _ => None,
     }
 }
 
-/// Has the texts delivered in order, and tells the outcome of each. The key of each, if there are keys, is the prefix
+/// Has the texts delivered in order, and tells the outcome of each as soon as it is there. The key of each, if there are keys, is the prefix
 /// with the number of the text behind it, counted from 1. Ends with `down` where the node stops.
 pub(crate) fn deliver<D: Desk<Op, Outcome>, W: Write>(
     alloc: Global,
@@ -105,7 +108,7 @@ pub(crate) fn deliver<D: Desk<Op, Outcome>, W: Write>(
         };
         line.clear();
         put_outcome(&mut line, &user, ticket, &outcome)?;
-        say(writer, line.as_slice())?;
+        say_now(writer, line.as_slice())?;
     }
     say(writer, b"end\n")
 }

@@ -22,7 +22,6 @@ mod verdict;
 
 pub use ctl::ctl_run;
 pub use fault::Fault;
-pub use options::{
-    SERVE_IDS, SERVE_MESSAGES, SERVE_NODES, SERVE_OCTETS, SERVE_TICK_MS, SERVE_WINDOW, ServeOptions,
-};
+pub use options::ServeOptions;
 pub use serve::serve_run;
+pub use verdict::{Verdict, verdict_of};

@@ -1,5 +1,6 @@
 //! The operator's port.
-ghost use Rattle.std.specs.Prelude.{◌≤◌, IfSome};
+ghost use Rattle.std.specs.Prelude.{◌≤◌, IfSome, OnOk};
+ghost use Rattle.std.specs.Io.KnownBytes.{Appends};
 ghost use Rattle.script.specs.Requests.{longest_request};
 
 use crate::board::Board;
@@ -52,8 +53,19 @@ fn read_line<S: Read>(reader: &mut S, line: &mut [u8; LONGEST_REQUEST]) -> Optio
 }
 
 /// Says a line.
-pub(crate) fn say<W: Write>(writer: &mut W, line: &[u8]) -> Result<(), Fault> {
+pub(crate) fn say<W: Write>(writer: &mut W, line: &[u8]) -> Result<(), Fault>
+    ensures { OnOk result (Appends (W.contents writer.old) (W.contents writer.new) line.now) }
+{
     match writer.write_all(line) {
+        Ok(()) => Ok(()),
+        Err(_) => Err(Fault::Write),
+    }
+}
+
+/// Says a line at once.
+pub(crate) fn say_now<W: Write>(writer: &mut W, line: &[u8]) -> Result<(), Fault> {
+    say(writer, line)?;
+    match writer.flush() {
         Ok(()) => Ok(()),
         Err(_) => Err(Fault::Write),
     }

@@ -8,24 +8,6 @@ use ballot::{Cluster, Items};
 use maildrop::Limits;
 use std::alloc::Global;
 
-/// How many nodes a service has, if its options don't say.
-pub const SERVE_NODES: u64 = 3;
-
-/// For how many slots a node proposes at a time, if the options don't say.
-pub const SERVE_WINDOW: u64 = 10;
-
-/// How many messages a maildrop may hold, if the options don't say.
-pub const SERVE_MESSAGES: u64 = 10_000;
-
-/// How many octets the messages of a maildrop may have together, if the options don't say.
-pub const SERVE_OCTETS: u64 = 50_000_000;
-
-/// The highest unique id that a maildrop may give, if the options don't say.
-pub const SERVE_IDS: u64 = 1_000_000_000;
-
-/// How many milliseconds lie between two ticks of a node, if the options don't say.
-pub const SERVE_TICK_MS: u64 = 200;
-
 /// The widest window.
 const WIDEST_WINDOW: u64 = 1_000;
 

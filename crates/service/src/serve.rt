@@ -1,20 +1,26 @@
 //! `maildropd serve`: nodes, sessions and an operator's port in one process.
-ghost use Rattle.std.specs.Prelude.{◌≡◌, ◌≤◌, IsTrue, IsErrOf, IfOk};
+ghost use Rattle.std.specs.Prelude.{◌≡◌, ◌≤◌, ◌++◌, ◌∷◌, [], IsTrue, IsErrOf, IfOk, OnOk, map};
+ghost use Rattle.std.specs.Io.KnownBytes.{Appends};
 ghost use Rattle.service.specs.Options as spec;
 ghost use Rattle.service.specs.Verdicts as verdicts;
+ghost use Rattle.std.specs.List.{All};
+ghost use Rattle.cluster.specs.Members.{IsLogOf};
+ghost use Rattle.apop.specs.Accounts.{name_of};
 ghost use Rattle.maildrop.specs.Name.{are_different};
 
 use crate::board::Board;
 use crate::fault::Fault;
 use crate::operator::say;
 use crate::options::{ServeOptions, Settings, settings_of};
-use crate::serving::{Ports, serve_nodes};
+use crate::serving;
+use crate::serving::{Ports, ServiceThreads, join_all};
 use crate::system::System;
 use crate::verdict::{Verdict, verdict_of};
 use apop::{Accounts, AccountsError};
 use ballot::{Items, NodeId};
 use cluster::{Cluster, Deployment, InboxLink, NodeDesk, Setup, StartError};
 use maildrop::are_different;
+use node::NodeLog;
 use std::alloc::Global;
 use std::io;
 use std::io::{Eprint, Read, Write};
@@ -50,15 +56,17 @@ fn accounts_of<R: Files>(rt: &R, alloc: Global, path: &str) -> Result<Accounts, 
 }
 
 /// What the nodes begin with.
-fn setup_of(alloc: Global, settings: &Settings, accounts: &Accounts) -> Result<Setup, Fault> {
-    let mut names = Items::new(alloc);
-    for name in accounts.names() {
-        names.push(*name)?;
-    }
+fn setup_of(alloc: Global, settings: &Settings, accounts: &Accounts) -> Result<Setup, Fault>
+    ensures cluster { IfOk result (λ setup. setup.cluster ≡ settings.now.cluster) }
+    ensures window { IfOk result (λ setup. setup.window ≡ settings.now.window) }
+    ensures limits { IfOk result (λ setup. setup.limits ≡ settings.now.limits) }
+    ensures names { IfOk result (λ setup. setup.names ≡ map name_of accounts.now) }
+{
+    let names = Vec::from_slice(alloc, accounts.names())?;
     Ok(Setup {
         cluster: settings.cluster,
         window: settings.window,
-        names,
+        names: Items::from_vec(names),
         limits: settings.limits,
     })
 }
@@ -102,12 +110,36 @@ fn serve_cluster<D: Deployment + Send + Sync + 'static, R: System>(
         cluster.campaign(leader);
     }
     let tick = Duration::from_millis(settings.tick_ms);
-    serve_nodes(rt, alloc, desks, ports, board, tick)?;
-    let logs = cluster.stop();
+    let (threads, started) = serving::start(rt, alloc, desks, ports, board, tick);
+    let logs = end_of(&rt, cluster, threads, board);
+    started?;
     match board.take_transcripts(&rt, alloc) {
         Some(transcripts) => Ok(verdict_of(alloc, &logs, &transcripts)),
         None => Ok(Verdict::Memory),
     }
+}
+
+/// Waits until the sessions have ended, and then stops the nodes. Gives their logs. Operators who wait for a node until
+/// then are told that it has stopped.
+fn end_of<D: Deployment + Send + Sync + 'static, R: System>(
+    rt: &R,
+    cluster: Cluster<D, R, InboxLink<R>>,
+    threads: ServiceThreads,
+    board: &Board,
+) -> Vec<NodeLog>
+    ensures { All (λ log. IsLogOf D.setup log.opening.me log) result.items }
+{
+    let ServiceThreads {
+        sessions,
+        tickers,
+        operators,
+    } = threads;
+    join_all(rt, sessions);
+    board.end(rt);
+    join_all(rt, tickers);
+    let logs = cluster.stop();
+    join_all(rt, operators);
+    logs
 }
 
 /// Runs a service with these settings and the accounts of a file.
@@ -144,7 +176,8 @@ fn run<R: System + Files>(
 
 /// Writes the line that tells a verdict, and gives the exit status.
 fn tell<W: Write>(alloc: Global, writer: &mut W, verdict: &Verdict) -> Result<u8, Fault>
-    ensures { IfOk result (λ status. status ≡ verdicts.status_of verdict.now) }
+    ensures status { IfOk result (λ status. status ≡ verdicts.status_of verdict.now) }
+    ensures written { OnOk result (Appends (W.contents writer.old) (W.contents writer.new) (verdicts.text_of verdict.now ++ 10 ∷ [])) }
 {
     let line = verdict.line(alloc)?;
     say(writer, line.as_bytes())?;

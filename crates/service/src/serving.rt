@@ -13,7 +13,7 @@ use maildrop::{Op, Outcome};
 use session::Desk;
 use std::alloc::Global;
 use std::sync::Arc;
-use std::thread::{JoinHandle, Threads};
+use std::thread::JoinHandle;
 use std::time::Duration;
 
 /// The most POP3 connections at a node at a time.
@@ -53,85 +53,93 @@ impl Ports {
 
 /// The threads of a service.
 #[derive(Drop)]
-struct Running {
-    listeners: Vec<JoinHandle<()>>,
-    tickers: Vec<JoinHandle<()>>,
+pub(crate) struct ServiceThreads {
+    /// Those that take the connections of POP3 clients. Each ends once the sessions at its port have ended.
+    pub(crate) sessions: Vec<JoinHandle<()>>,
+    pub(crate) tickers: Vec<JoinHandle<()>>,
+    /// The one that takes the connections of operators. It ends once these have ended.
+    pub(crate) operators: Vec<JoinHandle<()>>,
 }
 
-/// Serves the nodes at their ports, until an operator stops the service and its sessions have ended.
-pub(crate) fn serve_nodes<
-    R: System,
-    N: ServedNode + Desk<Op, Outcome> + Send + Sync + Drop + 'static,
->(
+/// Serves the nodes at their ports. Where a thread can't be had, those that run are told to stop.
+pub(crate) fn start<R: System, N: ServedNode + Desk<Op, Outcome> + Send + Sync + Drop + 'static>(
     rt: R,
     alloc: Global,
     nodes: Arc<Vec<N>>,
     ports: Ports,
     board: &Arc<Board>,
     tick: Duration,
-) -> Result<(), Fault> {
-    let mut threads = Running {
-        listeners: Vec::new(alloc),
+) -> (ServiceThreads, Result<(), Fault>) {
+    let mut threads = ServiceThreads {
+        sessions: Vec::new(alloc),
         tickers: Vec::new(alloc),
+        operators: Vec::new(alloc),
     };
-    let numbers = Arc::try_clone(&ports.numbers)?;
-    let started = start_all(rt, alloc, nodes, ports, board, tick, &mut threads);
+    let Ports { numbers, pop, ctl } = ports;
+    let started = start_sessions(rt, alloc, &nodes, pop, board, tick, &mut threads);
+    let started = match started {
+        Ok(()) => start_operators(rt, alloc, nodes, &numbers, ctl, board, &mut threads),
+        Err(fault) => Err(fault),
+    };
     if started.is_err() {
         board.stop(&rt, &numbers);
     }
-    join_all(&rt, threads);
-    started
+    (threads, started)
 }
 
-fn start_all<R: System, N: ServedNode + Desk<Op, Outcome> + Send + Sync + Drop + 'static>(
+/// Starts what nodes and their sessions need.
+fn start_sessions<R: System, N: ServedNode + Desk<Op, Outcome> + Send + Sync + Drop + 'static>(
     rt: R,
     alloc: Global,
-    nodes: Arc<Vec<N>>,
-    ports: Ports,
+    nodes: &[N],
+    ports: Vec<Port>,
     board: &Arc<Board>,
     tick: Duration,
-    threads: &mut Running,
+    threads: &mut ServiceThreads,
 ) -> Result<(), Fault> {
-    let Ports { numbers, pop, ctl } = ports;
-    for node in nodes.iter() {
+    for (node, port) in nodes.iter().zip(ports) {
         threads.tickers.reserve(1)?;
-        let board = Arc::try_clone(board)?;
-        let ticker = ticker::start(rt, node.share()?, board, tick)?;
+        threads.sessions.reserve(1)?;
+        let ticker = ticker::start(rt, node.share()?, Arc::try_clone(board)?, tick)?;
         threads.tickers.push_reserved(ticker);
-    }
-    for (node, port) in nodes.iter().zip(pop) {
-        threads.listeners.reserve(1)?;
         let host = PopHost {
             rt,
             alloc,
             node: node.share()?,
             board: Arc::try_clone(board)?,
         };
-        let board = Arc::try_clone(board)?;
-        let listener = port.start(rt, alloc, host, board)?;
-        threads.listeners.push_reserved(listener);
+        let listener = port.start(rt, alloc, host, Arc::try_clone(board)?)?;
+        threads.sessions.push_reserved(listener);
     }
-    threads.listeners.reserve(1)?;
+    Ok(())
+}
+
+/// Starts what operators need.
+fn start_operators<R: System, N: ServedNode + Desk<Op, Outcome> + Send + Sync + Drop + 'static>(
+    rt: R,
+    alloc: Global,
+    nodes: Arc<Vec<N>>,
+    numbers: &Arc<Vec<u16>>,
+    port: Port,
+    board: &Arc<Board>,
+    threads: &mut ServiceThreads,
+) -> Result<(), Fault> {
+    threads.operators.reserve(1)?;
     let host = OperatorHost {
         rt,
         alloc,
         nodes,
         board: Arc::try_clone(board)?,
-        ports: numbers,
+        ports: Arc::try_clone(numbers)?,
     };
-    let board = Arc::try_clone(board)?;
-    let listener = ctl.start(rt, alloc, host, board)?;
-    threads.listeners.push_reserved(listener);
+    let listener = port.start(rt, alloc, host, Arc::try_clone(board)?)?;
+    threads.operators.push_reserved(listener);
     Ok(())
 }
 
-/// Waits until all threads have ended.
-fn join_all<R: Threads>(rt: &R, threads: Running) {
-    let Running { listeners, tickers } = threads;
-    for listener in listeners {
-        listener.join(rt);
-    }
-    for ticker in tickers {
-        ticker.join(rt);
+/// Waits until these threads have ended.
+pub(crate) fn join_all<R: System>(rt: &R, threads: Vec<JoinHandle<()>>) {
+    for thread in threads {
+        thread.join(rt);
     }
 }

@@ -9,7 +9,8 @@ use std::thread;
 use std::thread::{JoinHandle, Threads};
 use std::time::{Clock, Duration};
 
-/// Tells a node on a thread of its own that time has passed, again and again, until the node or the service stops.
+/// Tells a node on a thread of its own that time has passed, again and again, until the node stops or the
+/// sessions have ended.
 pub(crate) fn start<
     R: Threads + Wait + Clock + Copy + Send + 'static,
     N: ServedNode + Send + Drop + 'static,

@@ -11,7 +11,7 @@ use std::alloc::{AllocError, Global};
 
 /// What is told of a run once it has ended.
 #[derive(Clone, Copy, Debug, PartialEq, Eq)]
-pub(crate) enum Verdict {
+pub enum Verdict {
     /// What the nodes logged and the sessions were told can have come in an order that is legal.
     Legal,
     /// It can't, and this is the least node that has an input which can't come.
@@ -25,7 +25,7 @@ pub(crate) enum Verdict {
 
 impl Verdict {
     /// The line that tells it, with its line feed.
-    pub(crate) fn line(&self, alloc: Global) -> Result<String, Memory>
+    pub fn line(&self, alloc: Global) -> Result<String, Memory>
         ensures { IfOk result (λ line. string_bytes line ≡ spec.text_of self.now ++ 10 ∷ []) }
     {
         match self {
@@ -42,7 +42,7 @@ impl Verdict {
     }
 
     /// The exit status: 0 where the audit found all in order, else 1.
-    pub(crate) fn status(&self) -> u8
+    pub fn status(&self) -> u8
         ensures { result ≡ spec.status_of self.now }
     {
         match self {
@@ -64,7 +64,7 @@ fn verdict_by(error: AuditError) -> Verdict
 }
 
 /// What an audit says of these logs of nodes and these transcripts of sessions.
-pub(crate) fn verdict_of(alloc: Global, logs: &[NodeLog], transcripts: &[Transcript]) -> Verdict
+pub fn verdict_of(alloc: Global, logs: &[NodeLog], transcripts: &[Transcript]) -> Verdict
     ensures { IsVerdict logs.now transcripts.now result }
 {
     match audit(alloc, logs, transcripts) {
