@@ -1,5 +1,8 @@
--- Worked examples of nodes that wait in vain.
+-- Worked examples of nodes that run together, and of nodes that wait in vain.
 use Rattle.std.specs.Prelude.{◌≡◌, refl, ℕ, List, [], ◌∷◌, ◌++◌, replicate, Bool, true, false}
+use Rattle.maildrop.specs.Limits.{Limits}
+use Rattle.cluster.specs.Starts.{all_nodes, can_run}
+use Rattle.cluster.specs.declared.setup.Setup.{Setup}
 use Rattle.cluster.specs.declared.status.Status.{Status}
 use Rattle.cluster.specs.Patience.{patience_of, new_patience, campaigns_at}
 
@@ -30,3 +33,19 @@ a_decided_slot = refl
 -- where nothing is awaited it never asks
 nothing_awaited : campaigns_at (new_patience 1) (replicate 7 (waits_at 1) ++ idle_at 1 ∷ replicate 8 (waits_at 1)) ≡ replicate 15 false ++ true ∷ []
 nothing_awaited = refl
+
+all_of_three : all_nodes 3 ≡ 1 ∷ 2 ∷ 3 ∷ []
+all_of_three = refl
+
+module _ (names : List (List ℕ)) (limits : Limits) where
+  abbrev three_nodes : Setup
+  three_nodes = record { cluster = 3; window = 10; names = names; limits = limits }
+
+  two_of_three : can_run three_nodes (3 ∷ 1 ∷ []) ≡ true
+  two_of_three = refl
+
+  one_twice : can_run three_nodes (2 ∷ 1 ∷ 2 ∷ []) ≡ false
+  one_twice = refl
+
+  not_in_the_cluster : can_run three_nodes (4 ∷ []) ≡ false
+  not_in_the_cluster = refl

@@ -1,19 +1,37 @@
 -- What is known of a node of a cluster by whoever gets its lock, or got it.
-use Rattle.std.specs.Prelude.{◌≡◌, ℕ, Bool, true, List, Option, Some, None, is_none, IfSome}
+use Rattle.std.specs.Prelude.{◌≡◌, ℕ, Bool, true, List, [], Option, Some, None, is_none, IfSome}
 use Rattle.std.specs.declared.alloc.Global.{Global}
+use Rattle.std.specs.List.{list_any}
+use Rattle.std.specs.Ordering.{is_eq}
+use Rattle.maildrop.specs.CommandId.{CommandId, compare_ids}
 use Rattle.maildrop.specs.Ticket.{Ticket}
 use Rattle.maildrop.specs.declared.op.Op.{Op}
 use Rattle.maildrop.specs.declared.outcome.Outcome.{Outcome}
 use Rattle.leader.specs.Leaders.{phase_is_active}
 use Rattle.replica.specs.Replicas.{is_waiting}
 use Rattle.node.specs.Replay.{NodeState, replayed}
-use Rattle.node.specs.Nodes.{answered}
+use Rattle.node.specs.Nodes.{NodeValue, Awaited, answered}
 use Rattle.node.specs.declared.log.NodeLog.{NodeLog}
 use Rattle.node.specs.declared.log.Opening.{Opening}
+use Rattle.node.specs.declared.stopped.Stopped.{Stopped}
 use Rattle.session.specs.Desks.{Given}
 use Rattle.cluster.specs.Fits.{may_answer}
 use Rattle.cluster.specs.declared.setup.Setup.{Setup}
 use Rattle.cluster.specs.declared.status.Status.{Status}
+
+-- a node under its lock: its log, why it has stopped, what is awaited of it, and the commands whose answers nobody awaits
+pub record MemberValue : Type 0 where
+  pub log : NodeLog Global
+  pub stopped : Option Stopped
+  pub awaited : Awaited Global
+  pub told : List CommandId
+
+abbrev pub member_of : NodeValue Global → MemberValue
+member_of node = record { log = node.log; stopped = node.stopped; awaited = node.awaited; told = [] }
+
+-- whether the command is one of those
+abbrev pub is_told : CommandId → List CommandId → Bool
+is_told id told = list_any (λ other. is_eq (compare_ids other id)) told
 
 -- what the node of this number begins with
 abbrev pub opening_of : Setup → ℕ → Opening Global

@@ -1,9 +1,12 @@
 //! A cluster of nodes, each with a thread of its own.
-ghost use Rattle.std.specs.Prelude.{◌≡◌, ◌≤◌, [], IsTrue, IfOk, IfSome, length, vec_len, vec_capacity};
+ghost use Rattle.std.specs.Prelude.{◌≡◌, ◌≤◌, [], ◌∷◌, ◌++◌, false, None, Ok, Err, is_some, map, IsTrue, IfOk, OnOk, IfSome, length, vec_capacity};
 ghost use Rattle.std.specs.List.{All};
+ghost use Rattle.ballot.specs.Nodes.{is_among};
 ghost use Rattle.maildrop.specs.Name.{are_different};
 ghost use Rattle.node.specs.Nodes.{opened};
-ghost use Rattle.cluster.specs.Members.{opening_of, IsLogOf, IsStatusOf};
+ghost use Rattle.cluster.specs.Members.{member_of, opening_of, IsLogOf, IsStatusOf};
+ghost use Rattle.cluster.specs.Starts as spec;
+ghost use Rattle.cluster.specs.Starts.{all_nodes};
 
 use crate::desk::NodeDesk;
 use crate::handle::NodeHandle;
@@ -13,17 +16,20 @@ use crate::member::Member;
 use crate::outbox::Outbox;
 use crate::setup::{Deployment, Setup};
 use crate::start_error::StartError;
+use crate::start_links::{can_run, has_window};
 use crate::status::Status;
-use ballot::{Envelope, Memory, NodeId};
+use ballot::{Cluster as Size, Envelope, Memory, NodeId};
 use maildrop::SharedCommand;
 use node::{Input, Node, NodeLog};
 use std::alloc::Global;
+use std::marker::Model;
 use std::sync::{Arc, Wait};
 use std::thread;
 use std::thread::{JoinHandle, Threads};
 
 /// Nodes of a cluster that run here, each with a thread of its own, which hears what comes to the node's inbox. It stays
-/// on the thread that started it. One that is let go ends its threads, as `stop` does.
+/// on the thread that started it. One that is let go ends its threads, as `stop` does. Contracts see it as the numbers of
+/// its nodes, in the order in which they were started.
 pub struct Cluster<D: Deployment, R: Threads + Wait, L: Link> {
     rt: R,
     alloc: Global,
@@ -32,8 +38,16 @@ pub struct Cluster<D: Deployment, R: Threads + Wait, L: Link> {
     threads: Vec<JoinHandle<()>>,
     /// Room for the logs of all nodes.
     logs: Vec<NodeLog>,
-    ghost none: { logs.items ≡ [] },
-    ghost room: { vec_len nodes ≤ vec_capacity logs },
+}
+
+impl<D: Deployment, R: Threads + Wait, L: Link> Model for Cluster<D, R, L> {
+    ghost use Rattle.std.specs.Prelude.{◌≡◌, ◌≤◌, ℕ, List, [], vec_len, vec_capacity};
+
+    ghost Value = { List ℕ };
+
+    ghost view = { λ c. c.nodes.items };
+
+    ghost invariant = { λ c. (c.logs.items ≡ []) × (vec_len c.nodes ≤ vec_capacity c.logs) };
 }
 
 /// The thread of a node: hears what comes to the inbox, until the node has stopped or nobody can put anything in there.
@@ -61,7 +75,7 @@ fn new_member<D: Deployment>(
 ) -> Result<Member<D>, StartError>
     requires deployment { setup.now ≡ D.setup }
     requires names { IsTrue (are_different setup.now.names) }
-    ensures { IfOk result (λ member. member ≡ opened (opening_of setup.now me)) }
+    ensures { IfOk result (λ member. member ≡ member_of (opened (opening_of setup.now me))) }
 {
     match Node::new(
         alloc,
@@ -71,29 +85,48 @@ fn new_member<D: Deployment>(
         setup.names.get(),
         setup.limits,
     )? {
-        Some(node) => Ok(Member::new(node)),
+        Some(node) => Ok(Member::new(alloc, node)),
         None => Err(StartError::Setup),
     }
+}
+
+/// A link for each node of the cluster, to the inboxes of them all.
+fn inbox_links<R: Wait + Copy>(
+    rt: R,
+    alloc: Global,
+    cluster: Size,
+    hub: &Arc<Hub>,
+) -> Result<Vec<(NodeId, InboxLink<R>)>, Memory>
+    ensures { IfOk result (λ links. map (λ link. link.0) links.items ≡ all_nodes cluster) }
+{
+    let mut links = Vec::new(alloc);
+    for before in 0..cluster.get() {
+        let Some(node) = NodeId::new(before + 1) else {
+            unreachable!()
+        };
+        let link = InboxLink::new(rt, Arc::try_clone(hub)?);
+        links.push((node, link))?;
+    }
+    Ok(links)
 }
 
 impl<
     D: Deployment + Send + Sync + 'static,
     R: Threads + Wait + Copy + Send + Sync + 'static,
 > Cluster<D, R, InboxLink<R>> {
-    /// Starts all nodes of the cluster, which send to one another's inboxes.
+    /// Starts all nodes of the cluster, which send to one another's inboxes. `Setup` where its window isn't 1 to
+    /// `WIDEST_WINDOW`.
     pub fn start(rt: R, alloc: Global, setup: &Setup) -> Result<Self, StartError>
         requires deployment { setup.now ≡ D.setup }
         requires names { IsTrue (are_different setup.now.names) }
+        ensures nodes { IfOk result (λ cluster. cluster ≡ all_nodes setup.now.cluster) }
+        ensures setup { spec.has_window setup.now ≡ false → result ≡ Err StartError.Setup }
     {
-        let hub = Hub::new(alloc)?;
-        let mut links = Vec::new(alloc);
-        for number in 1..=setup.cluster.get() {
-            let Some(node) = NodeId::new(number) else {
-                return Err(StartError::Setup);
-            };
-            let link = InboxLink::new(rt, Arc::try_clone(&hub)?);
-            links.push((node, link))?;
+        if !has_window(setup) {
+            return Err(StartError::Setup);
         }
+        let hub = Hub::new(alloc)?;
+        let links = inbox_links(rt, alloc, setup.cluster, &hub)?;
         Cluster::start_on(rt, alloc, setup, hub, links)
     }
 }
@@ -103,7 +136,8 @@ impl<
     R: Threads + Wait + Copy + Send + Sync + 'static,
     L: Link + Drop + Send + Sync + 'static,
 > Cluster<D, R, L> {
-    /// Starts these nodes of the cluster alone, each of which sends by its link.
+    /// Starts these nodes of the cluster alone, each of which sends by its link. `Setup` where one of them can't begin,
+    /// or is there twice.
     pub fn start_over(
         rt: R,
         alloc: Global,
@@ -112,7 +146,12 @@ impl<
     ) -> Result<Self, StartError>
         requires deployment { setup.now ≡ D.setup }
         requires names { IsTrue (are_different setup.now.names) }
+        ensures nodes { IfOk result (λ cluster. cluster ≡ map (λ link. link.0) links.items) }
+        ensures setup { spec.can_run setup.now (map (λ link. link.0) links.items) ≡ false → result ≡ Err StartError.Setup }
     {
+        if !can_run(setup, &links) {
+            return Err(StartError::Setup);
+        }
         let hub = Hub::new(alloc)?;
         Cluster::start_on(rt, alloc, setup, hub, links)
     }
@@ -126,6 +165,7 @@ impl<
     ) -> Result<Self, StartError>
         requires deployment { setup.now ≡ D.setup }
         requires names { IsTrue (are_different setup.now.names) }
+        ensures { IfOk result (λ cluster. cluster ≡ map (λ link. link.0) links.items) }
     {
         let mut cluster = Cluster {
             rt,
@@ -148,10 +188,8 @@ impl<
     fn start_node(&mut self, setup: &Setup, me: NodeId, link: L) -> Result<(), StartError>
         requires deployment { setup.now ≡ D.setup }
         requires names { IsTrue (are_different setup.now.names) }
+        ensures { OnOk result (self.new ≡ self.old ++ me ∷ []) }
     {
-        if self.find(me).is_some() {
-            return Err(StartError::Setup);
-        }
         let member = new_member(self.alloc, setup, me)?;
         let node = NodeHandle::new(self.alloc, me, member, link)?;
         let theirs = node.share()?;
@@ -172,13 +210,17 @@ impl<
 
     /// Puts an envelope into its addressee's inbox. Gives whether it is in there: not where that node doesn't run here,
     /// where it has stopped, or without memory.
-    pub fn arrive(&self, envelope: Envelope<SharedCommand>) -> bool {
-        self.hub.deliver(&self.rt, envelope)
+    pub fn arrive(&self, envelope: Envelope<SharedCommand>) -> bool
+        ensures { is_among envelope.to self.now ≡ false → result ≡ false }
+    {
+        self.find(envelope.to).is_some() && self.hub.deliver(&self.rt, envelope)
     }
 
     /// The desk of a node, if that node is here.
     pub fn desk(&self, node: NodeId) -> Result<Option<NodeDesk<D, R, L>>, Memory>
-        ensures { IfOk result (λ desk. IfSome desk (λ desk. desk ≡ node)) }
+        ensures here { IfOk result (λ desk. is_some desk ≡ is_among node self.now) }
+        ensures none { is_among node self.now ≡ false → result ≡ Ok None }
+        ensures node { IfOk result (λ desk. IfSome desk (λ desk. desk ≡ node)) }
     {
         let Some(handle) = self.find(node) else {
             return Ok(None);
@@ -189,7 +231,9 @@ impl<
     }
 
     /// The node stops, for good. Gives whether it was here and up until now.
-    pub fn crash(&self, node: NodeId) -> bool {
+    pub fn crash(&self, node: NodeId) -> bool
+        ensures { is_among node self.now ≡ false → result ≡ false }
+    {
         match self.find(node) {
             None => false,
             Some(handle) => handle.crash(&self.rt),
@@ -214,15 +258,17 @@ impl<
 
     /// How a node stands, if it is here.
     pub fn status(&self, node: NodeId) -> Option<Status>
-        ensures { IfSome result (λ status. IsStatusOf D.setup node status) }
+        ensures here { is_among node self.now ≡ false → result ≡ None }
+        ensures logged { IfSome result (λ status. IsStatusOf D.setup node status) }
     {
         self.find(node)?.status(&self.rt)
     }
 
     fn find(&self, node: NodeId) -> Option<&NodeHandle<D, L>>
-        ensures { IfSome result (λ handle. handle.now.me ≡ node) }
+        ensures here { is_some result ≡ is_among node self.now }
+        ensures node { IfSome result (λ handle. handle.now ≡ node) }
     {
-        self.nodes.iter().find(|handle| handle.me() == node)
+        find_node(&self.nodes, node)
     }
 
     pub(crate) fn runtime(&self) -> R {
@@ -264,6 +310,24 @@ impl<D: Deployment, R: Threads + Wait + Drop, L: Link + Drop> Drop for Cluster<D
         end_threads(&rt, alloc, &hub, threads);
         drop(retire_all(&rt, &nodes, logs));
     }
+}
+
+/// The node of this number among these.
+fn find_node<D: Deployment, L: Link>(
+    nodes: &[NodeHandle<D, L>],
+    node: NodeId,
+) -> Option<&NodeHandle<D, L>>
+    ensures here { is_some result ≡ is_among node nodes.now }
+    ensures node { IfSome result (λ handle. handle.now ≡ node) }
+{
+    let mut rest = nodes;
+    while let Some((handle, others)) = rest.split_first() {
+        if node == handle.me() {
+            return Some(handle);
+        }
+        rest = others;
+    }
+    None
 }
 
 /// Closes the inboxes, so that each node's thread finds the end of its own, and joins the threads.

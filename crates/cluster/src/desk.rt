@@ -1,5 +1,5 @@
 //! A node's desk.
-ghost use Rattle.std.specs.Prelude.{◌≡◌, IfOk, IfSome};
+ghost use Rattle.std.specs.Prelude.{◌≡◌, true, IfOk, IfSome};
 ghost use Rattle.session.specs.Desks.{given_by_ask, given_by_tell};
 ghost use Rattle.cluster.specs.Members.{IsGiven, IsStatusOf};
 
@@ -30,12 +30,12 @@ impl<D: Deployment, R: Wait, L: Link> Model for NodeDesk<D, R, L> {
 
     ghost Value = { ℕ };
 
-    ghost view = { λ d. d.node.me };
+    ghost view = { λ d. d.node };
 }
 
 impl<D: Deployment, R: Wait, L: Link> NodeDesk<D, R, L> {
     pub(crate) fn new(rt: R, node: NodeHandle<D, L>, hub: Arc<Hub>) -> Self
-        ensures { result ≡ node.me }
+        ensures { result ≡ node }
     {
         NodeDesk { rt, node, hub }
     }
@@ -71,7 +71,9 @@ impl<D: Deployment, R: Wait, L: Link> NodeDesk<D, R, L> {
 
     /// Puts an envelope into the node's inbox. Gives whether it is in there: not where the envelope is to another node,
     /// where the node has stopped, or without memory.
-    pub fn arrive(&self, envelope: Envelope<SharedCommand>) -> bool {
+    pub fn arrive(&self, envelope: Envelope<SharedCommand>) -> bool
+        ensures { result ≡ true → envelope.to ≡ self.now }
+    {
         envelope.to == self.node.me() && self.hub.deliver(&self.rt, envelope)
     }
 }
@@ -107,11 +109,12 @@ impl<D: Deployment, R: Wait, L: Link> Desk<Op, Outcome> for NodeDesk<D, R, L> {
         }
     }
 
-    /// Submits the operation.
+    /// Submits the operation, and lets its outcome go once it is there.
     fn tell(&mut self, name: Name, op: Op) -> Result<Ticket, DeskStopped> {
-        match self.node.submit(&self.rt, name, op) {
-            Some(ticket) => Ok(ticket),
-            None => Err(DeskStopped { ticket: None }),
-        }
+        let Some(ticket) = self.node.submit(&self.rt, name, op) else {
+            return Err(DeskStopped { ticket: None });
+        };
+        self.node.tell(&self.rt, name, ticket);
+        Ok(ticket)
     }
 }

@@ -13,6 +13,7 @@ use ballot::{Envelope, Memory, NodeId};
 use maildrop::{Name, Op, Outcome, SharedCommand, Ticket};
 use node::{Input, NodeLog, Outputs, SharedOp};
 use std::alloc::Global;
+use std::marker::Model;
 use std::sync::{Arc, Mutex, Wait};
 
 /// How many envelopes a node hears at most under one lock, so that others get it in between.
@@ -29,11 +30,19 @@ struct Shared<D: Deployment, L: Link> {
 }
 
 /// A node's number, with what its threads share. Each of its calls is one step under the lock, or a look; what the step
-/// sends is sent once the lock is free.
+/// sends is sent once the lock is free. Contracts see it as the number.
 #[derive(Drop)]
 pub(crate) struct NodeHandle<D: Deployment, L: Link> {
     me: NodeId,
     shared: Arc<Shared<D, L>>,
+}
+
+impl<D: Deployment, L: Link> Model for NodeHandle<D, L> {
+    ghost use Rattle.std.specs.Prelude.{ℕ};
+
+    ghost Value = { ℕ };
+
+    ghost view = { λ h. h.me };
 }
 
 /// What steps under the lock gave.
@@ -48,7 +57,7 @@ struct Stepped {
 
 impl<D: Deployment, L: Link + Drop> NodeHandle<D, L> {
     pub(crate) fn new(alloc: Global, me: NodeId, member: Member<D>, link: L) -> Result<Self, Memory>
-        ensures { IfOk result (λ handle. handle.me ≡ me) }
+        ensures { IfOk result (λ handle. handle ≡ me) }
     {
         let shared = Shared {
             member: Mutex::new(Some(member)),
@@ -64,7 +73,7 @@ impl<D: Deployment, L: Link + Drop> NodeHandle<D, L> {
 impl<D: Deployment, L: Link> NodeHandle<D, L> {
     /// Another handle of the same node.
     pub(crate) fn share(&self) -> Result<Self, Memory>
-        ensures { IfOk result (λ handle. handle.me ≡ self.now.me) }
+        ensures { IfOk result (λ handle. handle ≡ self.now) }
     {
         let shared = Arc::try_clone(&self.shared)?;
         Ok(NodeHandle {
@@ -75,7 +84,7 @@ impl<D: Deployment, L: Link> NodeHandle<D, L> {
 
     /// The node's number.
     pub(crate) fn me(&self) -> NodeId
-        ensures { result ≡ self.now.me }
+        ensures { result ≡ self.now }
     {
         self.me
     }
@@ -83,7 +92,7 @@ impl<D: Deployment, L: Link> NodeHandle<D, L> {
     /// An operation for a user is submitted. Gives the ticket of its command, or nothing where the node has stopped: it
     /// stops too where there is no memory for the operation.
     pub(crate) fn submit<R: Wait>(&self, rt: &R, user: Name, op: Op) -> Option<Ticket>
-        ensures { IfSome result (λ ticket. ticket.node ≡ self.now.me) }
+        ensures { IfSome result (λ ticket. ticket.node ≡ self.now) }
     {
         let Ok(op) = SharedOp::new(self.shared.alloc, op) else {
             let _was_up = self.crash(rt);
@@ -94,7 +103,7 @@ impl<D: Deployment, L: Link> NodeHandle<D, L> {
 
     /// One step of the node. Gives the ticket of the command that it submits, if it does.
     pub(crate) fn step<R: Wait>(&self, rt: &R, input: Input) -> Option<Ticket>
-        ensures { IfSome result (λ ticket. ticket.node ≡ self.now.me) }
+        ensures { IfSome result (λ ticket. ticket.node ≡ self.now) }
     {
         let Stepped {
             ticket,
@@ -107,7 +116,7 @@ impl<D: Deployment, L: Link> NodeHandle<D, L> {
     }
 
     fn step_locked<R: Wait>(&self, rt: &R, input: Input) -> Stepped
-        ensures { IfSome result.ticket (λ ticket. ticket.node ≡ self.now.me) }
+        ensures { IfSome result.ticket (λ ticket. ticket.node ≡ self.now) }
     {
         let mut sends = self.new_outbox();
         let mut guard = self.shared.member.lock(rt);
@@ -160,6 +169,7 @@ impl<D: Deployment, L: Link> NodeHandle<D, L> {
         let Some(member) = &mut *guard else {
             return (false, Groups::NONE);
         };
+        member.forget_first();
         let performed = member.performed();
         let mut next = first;
         for _ in 1..BATCH {
@@ -173,9 +183,17 @@ impl<D: Deployment, L: Link> NodeHandle<D, L> {
         (member.is_up(), woken_by(member, performed))
     }
 
+    /// Nobody awaits the answer to this command, which is let go once it is there.
+    pub(crate) fn tell<R: Wait>(&self, rt: &R, user: Name, ticket: Ticket) {
+        if let Some(member) = &mut *self.shared.member.lock(rt) {
+            member.tell(user, ticket);
+            member.forget_first();
+        }
+    }
+
     /// Waits until the answer to a command is there. Gives nothing where the node has stopped.
     pub(crate) fn wait_for<R: Wait>(&self, rt: &R, user: Name, ticket: Ticket) -> Option<Outcome>
-        ensures { IfSome result (λ outcome. IsAnswered D.setup self.now.me user ticket outcome) }
+        ensures { IfSome result (λ outcome. IsAnswered D.setup self.now user ticket outcome) }
     {
         let mut guard = self.shared.member.lock(rt);
         for _ in rt.forever() {
@@ -205,7 +223,7 @@ impl<D: Deployment, L: Link> NodeHandle<D, L> {
 
     /// How the node stands, or nothing where it is no more.
     pub(crate) fn status<R: Wait>(&self, rt: &R) -> Option<Status>
-        ensures { IfSome result (λ status. IsStatusOf D.setup self.now.me status) }
+        ensures { IfSome result (λ status. IsStatusOf D.setup self.now status) }
     {
         match &*self.shared.member.lock(rt) {
             Some(member) if member.me() == self.me => Some(member.status()),

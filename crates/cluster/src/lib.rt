@@ -15,6 +15,7 @@ mod patience;
 mod sessions;
 mod setup;
 mod start_error;
+mod start_links;
 mod status;
 mod waiters;
 

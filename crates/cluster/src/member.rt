@@ -1,17 +1,19 @@
 //! A node of a cluster, as it lies under its lock.
-ghost use Rattle.std.specs.Prelude.{◌≡◌, ℕ, [], false, IsSome, OnOk, IfOk, IfErr, IfSome, is_none, Some, None};
+ghost use Rattle.std.specs.Prelude.{◌≡◌, ◌⊎◌, ◌++◌, ◌∷◌, ℕ, [], true, false, IsSome, OnOk, IfOk, IfErr, IfSome, is_none, Some, None};
 ghost use Rattle.std.specs.Ordering.{is_eq};
 ghost use Rattle.maildrop.specs.CommandId.{CommandId, compare_ids};
 ghost use Rattle.node.specs.Replay.{sends_of, ticket_of};
 ghost use Rattle.node.specs.Nodes.{logged, stops_after, answer_of, answer_after, answered, IsKnown};
-ghost use Rattle.cluster.specs.Members.{IsLogOf, IsAnswered, IsStatusOf, status_of};
+ghost use Rattle.cluster.specs.Members.{member_of, is_told, IsLogOf, IsAnswered, IsStatusOf, status_of};
 
 use crate::setup::Deployment;
 use crate::status::Status;
 use crate::waiters::Groups;
 use ballot::NodeId;
-use maildrop::{Name, Outcome, Ticket};
+use maildrop::{CommandId, Name, Outcome, Ticket};
 use node::{Input, Node, NodeLog, Outputs, Stopped};
+use std::alloc::Global;
+use std::collections::VecDeque;
 use std::marker::{Model, PhantomData};
 
 /// A node of the deployment. Whoever gets its lock knows with what it began, and by its own type that what it is
@@ -19,28 +21,30 @@ use std::marker::{Model, PhantomData};
 #[derive(Drop)]
 pub(crate) struct Member<D: Deployment> {
     node: Node,
+    /// The commands whose answers nobody awaits, and which may not be there yet. One for which there is no room is
+    /// missing, and its answer stays.
+    told: VecDeque<CommandId>,
     of: PhantomData<D>,
 }
 
 impl<D: Deployment> Model for Member<D> {
-    ghost use Rattle.std.specs.declared.alloc.Global.{Global};
-    ghost use Rattle.node.specs.Nodes.{NodeValue};
-    ghost use Rattle.cluster.specs.Members.{IsLogOf};
+    ghost use Rattle.cluster.specs.Members.{MemberValue, IsLogOf};
 
-    ghost Value = { NodeValue Global };
+    ghost Value = { MemberValue };
 
-    ghost view = { λ m. m.node };
+    ghost view = { λ m. record { log = m.node.log; stopped = m.node.stopped; awaited = m.node.awaited; told = m.told.items } };
 
     ghost invariant = { λ m. IsLogOf D.setup m.node.log.opening.me m.node.log };
 }
 
 impl<D: Deployment> Member<D> {
-    pub(crate) fn new(node: Node) -> Self
+    pub(crate) fn new(alloc: Global, node: Node) -> Self
         requires { IsLogOf D.setup node.log.opening.me node.log }
-        ensures { result ≡ node }
+        ensures { result ≡ member_of node }
     {
         Member {
             node,
+            told: VecDeque::new(alloc),
             of: PhantomData,
         }
     }
@@ -66,7 +70,8 @@ impl<D: Deployment> Member<D> {
         ensures ticket { IfOk result (λ outputs. outputs.ticket ≡ ticket_of self.old.log input) }
         ensures stops { OnOk result (self.new.stopped ≡ stops_after input) }
         ensures answers { OnOk result (stops_after input ≡ None → (id : CommandId) → answer_of id self.new.awaited ≡ answer_after self.old.log input id (answer_of id self.old.awaited)) }
-        ensures err { IfErr result (λ stop. self.new ≡ record { log = self.old.log; stopped = Some stop; awaited = [] }) }
+        ensures err { IfErr result (λ stop. self.new ≡ record { log = self.old.log; stopped = Some stop; awaited = []; told = self.old.told }) }
+        ensures told { self.new.told ≡ self.old.told }
         ensures opening { self.new.log.opening ≡ self.old.log.opening }
     {
         self.node.step(input)
@@ -93,9 +98,33 @@ impl<D: Deployment> Member<D> {
             → answer_of id self.new.awaited ≡ answer_of id self.old.awaited }
         ensures log { self.new.log ≡ self.old.log }
         ensures stopped { self.new.stopped ≡ self.old.stopped }
+        ensures told { self.new.told ≡ self.old.told }
     {
         let _ = &self.of;
         self.node.take_answer(user, ticket)
+    }
+
+    /// Nobody awaits the answer to this command. It is let go once it is there.
+    pub(crate) fn tell(&mut self, user: Name, ticket: Ticket)
+        ensures told { (self.new.told ≡ self.old.told ++ record { user = user; ticket = ticket } ∷ []) ⊎ (self.new.told ≡ self.old.told) }
+        ensures node { self.new ≡ record { log = self.old.log; stopped = self.old.stopped; awaited = self.old.awaited; told = self.new.told } }
+    {
+        let _no_room = self.told.push_back(CommandId::new(user, ticket));
+    }
+
+    /// Lets go the answer to the first of the commands whose answers nobody awaits, if it is there.
+    pub(crate) fn forget_first(&mut self)
+        ensures others { (id : CommandId) → is_told id self.old.told ≡ false → answer_of id self.new.awaited ≡ answer_of id self.old.awaited }
+        ensures log { self.new.log ≡ self.old.log }
+        ensures stopped { self.new.stopped ≡ self.old.stopped }
+    {
+        let Some(first) = self.told.front() else {
+            return;
+        };
+        let (name, ticket) = first.get();
+        if self.node.take_answer(name, ticket).is_some() {
+            self.told.pop_front();
+        }
     }
 
     /// How many commands the node has performed.

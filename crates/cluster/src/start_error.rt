@@ -32,12 +32,22 @@ impl From<Memory> for StartError {
 }
 
 impl From<AllocError> for StartError {
+    ghost use Rattle.std.specs.Prelude.{◌≡◌};
+    ghost use Rattle.cluster.specs.declared.start_error.StartError.TheVariants as start;
+
+    ghost from_gives = { λ _ e. e ≡ start.Memory };
+
     fn from(_error: AllocError) -> StartError {
         StartError::Memory
     }
 }
 
 impl<T: Drop> From<AllocFailed<T>> for StartError {
+    ghost use Rattle.std.specs.Prelude.{◌≡◌};
+    ghost use Rattle.cluster.specs.declared.start_error.StartError.TheVariants as start;
+
+    ghost from_gives = { λ _ e. e ≡ start.Memory };
+
     fn from(_error: AllocFailed<T>) -> StartError {
         StartError::Memory
     }
