@@ -3,9 +3,9 @@ use Rattle.std.specs.Prelude.{◌≡◌, refl, true, false, codes}
 use Rattle.script.specs.declared.instruction.Instruction.TheVariants.{Ask}
 use Rattle.script.specs.declared.request.Request.TheVariants as request
 use Rattle.service.specs.Answers.{is_refusal, ending_by}
-use Rattle.service.specs.Verdicts.{text_of, status_of}
+use Rattle.service.specs.Verdicts.{status_of}
 use Rattle.service.specs.declared.ctl.Ending.TheVariants.{Broken, Refused, Done}
-use Rattle.service.specs.declared.verdict.Verdict.TheVariants.{Legal, NoOrder, WrongAnswer, Memory}
+use Rattle.service.specs.declared.verdict.Verdict.TheVariants.{Legal, Memory}
 
 refused : is_refusal (codes "bad mbox") ≡ true
 refused = refl
@@ -33,12 +33,6 @@ one_line = refl
 -- a node's POP3 port was asked to stop
 another_server : ending_by (Ask request.Stop) (codes "-ERR unknown command") ≡ Broken
 another_server = refl
-
-no_order : text_of (NoOrder 2) ≡ codes "audit no order at node 2"
-no_order = refl
-
-wrong_answer : text_of (WrongAnswer 0) ≡ codes "audit wrong answer in session 0"
-wrong_answer = refl
 
 all_in_order : status_of Legal ≡ 0
 all_in_order = refl
