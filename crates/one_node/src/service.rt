@@ -1,4 +1,4 @@
-//! A node that is a service of its own: it is handed its own messages.
+//! The service.
 use ballot::Envelope;
 use maildrop::{Name, Op, Outcome, Shared, SharedCommand, Ticket};
 use node::{Input, Node, Stopped};
@@ -54,8 +54,8 @@ impl<A: Allocator + Copy> OneNode<A> {
         Some(())
     }
 
-    /// Hands the node its messages until the answer is there.
-    fn await_answer(&mut self, name: Name, ticket: Ticket) -> Option<Outcome<A>> {
+    /// Hands the node its messages until the answer is there, and takes it.
+    pub fn await_answer(&mut self, name: Name, ticket: Ticket) -> Option<Outcome<A>> {
         for _ in 0..MOST_MESSAGES {
             let answer = self.node.take_answer(name, ticket);
             if answer.is_some() {
@@ -66,13 +66,13 @@ impl<A: Allocator + Copy> OneNode<A> {
         None
     }
 
-    /// Has an operation submitted.
+    /// Has an operation submitted. Gives its ticket, or nothing where the node has stopped.
     pub fn submit(&mut self, name: Name, op: Op<A>) -> Option<Ticket> {
         let op = Shared::new(self.alloc, op).ok()?;
         self.take(Input::Submit(name, op)).ok()?
     }
 
-    /// Has an operation performed.
+    /// Has an operation performed, and awaits its outcome.
     pub fn perform(&mut self, name: Name, op: Op<A>) -> Option<(Ticket, Outcome<A>)> {
         let ticket = self.submit(name, op)?;
         let outcome = self.await_answer(name, ticket)?;

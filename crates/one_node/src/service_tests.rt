@@ -1,6 +1,6 @@
 //! What a node shows of itself, where it is a service of its own.
 
-use crate::one_node::OneNode;
+use crate::service::OneNode;
 use maildrop::{Op, Outcome, Ticket};
 use samples::{alice, check};
 use std::alloc::Global;
