@@ -12,7 +12,9 @@ use std::marker::Model;
 /// What an acceptor keeps for a slot: the command that it accepted there with the highest ballot.
 #[derive(Drop)]
 pub struct Accepted<C> {
+    /// The highest ballot that it accepted there.
     pub ballot: Ballot,
+    /// The command of that ballot.
     pub command: C,
 }
 

@@ -21,7 +21,9 @@ const FIRST_BEYOND_ASCII: u8 = 0x80;
 /// The parts of a row `name method secret`.
 #[derive(Drop)]
 pub struct Row<'a> {
+    /// The user.
     pub name: Name,
+    /// How the user logs in.
     pub method: Method,
     /// 1 to 255 bytes of 0x20 to 0x7E or 0x80 to 0xFF.
     pub secret: &'a [u8],

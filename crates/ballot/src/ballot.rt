@@ -9,7 +9,9 @@ use std::marker::Model;
 /// a tie the higher leader.
 #[derive(Clone, Copy, Debug, PartialEq, Eq, PartialOrd, Ord, Hash)]
 pub struct Ballot {
+    /// The round, 0 to 2^64 - 1.
     pub round: u64,
+    /// The node that opened it.
     pub leader: NodeId,
 }
 

@@ -42,6 +42,7 @@ impl<C: Payload, A: Allocator + Copy> Promise<C, A> {
 pub struct Vote {
     /// The ballot that was asked for.
     pub asked: Ballot,
+    /// The slot of the pvalue that it was asked to accept.
     pub slot: Slot,
     /// The acceptor's ballot, which is at least the asked one.
     pub ballot: Ballot,
@@ -85,8 +86,11 @@ impl<C: Payload, A: Allocator + Copy> Message<C, A> {
 /// A message with its sender and its addressee.
 #[derive(Drop)]
 pub struct Envelope<C, A: Allocator = Global> {
+    /// The sender.
     pub from: NodeId,
+    /// The addressee.
     pub to: NodeId,
+    /// What is sent.
     pub message: Message<C, A>,
 }
 

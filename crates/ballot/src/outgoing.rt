@@ -13,7 +13,9 @@ use std::alloc::{Allocator, Global};
 /// A message and its addressee.
 #[derive(Drop)]
 pub struct Outgoing<C, A: Allocator = Global> {
+    /// The addressee.
     pub to: NodeId,
+    /// What is sent.
     pub message: Message<C, A>,
 }
 

@@ -12,8 +12,11 @@ use std::alloc::Allocator;
 /// A command that the leader of a ballot proposed for a slot.
 #[derive(Drop)]
 pub struct PValue<C> {
+    /// The ballot under which it is proposed.
     pub ballot: Ballot,
+    /// The slot that it is proposed for.
     pub slot: Slot,
+    /// The proposed command.
     pub command: C,
 }
 

@@ -18,10 +18,13 @@ use std::thread::{JoinHandle, Threads};
 pub struct Job<I, O, G> {
     /// The node whose desk it asks.
     pub node: NodeId,
+    /// Where its lines come from.
     pub reader: I,
+    /// Where its replies go.
     pub writer: O,
     /// The timestamp of its greeting.
     pub stamp: Stamp,
+    /// What it passes around each line.
     pub gate: G,
 }
 

@@ -23,12 +23,17 @@ pub enum Phase<C, A: Allocator> {
 /// A leader that isn't spent.
 #[derive(Drop)]
 pub struct State<C, A: Allocator> {
+    /// Its node.
     pub me: NodeId,
+    /// The nodes that it asks.
     pub cluster: Cluster,
+    /// The ballot that it has, asks for or would ask for next.
     pub ballot: Ballot,
     /// What it proposes for each slot. A proposal is replaced at an adoption alone, and never
     /// taken out.
     pub proposals: BTreeMap<Slot, C, A>,
+    /// What it is doing.
     pub phase: Phase<C, A>,
+    /// Where its memory comes from.
     pub alloc: A,
 }

@@ -9,7 +9,9 @@ use std::alloc::{Allocator, Global};
 /// A message in a maildrop, with the unique id that it keeps (RFC 1939 section 7, UIDL).
 #[derive(Drop)]
 pub struct Message<A: Allocator = Global> {
+    /// The unique id: given once in a maildrop, and never again.
     pub uid: u64,
+    /// Its lines.
     pub text: Text<A>,
 }
 

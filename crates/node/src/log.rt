@@ -24,6 +24,8 @@ pub struct Opening<A: Allocator = Global> {
 /// it is, but for the answers that were taken of it and for a stop without memory or tickets.
 #[derive(Drop)]
 pub struct NodeLog<A: Allocator = Global> {
+    /// What the node began with.
     pub opening: Opening<A>,
+    /// What it took, the oldest first.
     pub inputs: Items<Input<A>, A>,
 }

@@ -12,7 +12,9 @@ pub type Envelopes<A = Global> = Items<Envelope<SharedCommand<A>, A>, A>;
 /// What a step gives: what the node sends, and after a `Submit` the ticket of its command.
 #[derive(Drop)]
 pub struct Outputs<A: Allocator = Global> {
+    /// What the node sends, in its order.
     pub sends: Envelopes<A>,
+    /// The ticket of the submitted command, after a `Submit` alone.
     pub ticket: Option<Ticket>,
 }
 

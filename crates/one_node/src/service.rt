@@ -13,6 +13,7 @@ const MOST_MESSAGES: u32 = 100;
 /// The only node of its cluster, and what it has sent itself, the oldest first.
 #[derive(Drop)]
 pub struct OneNode<A: Allocator + Copy> {
+    /// The node.
     pub node: Node<A>,
     sent: VecDeque<Envelope<SharedCommand<A>, A>, A>,
     alloc: A,

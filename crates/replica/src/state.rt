@@ -12,7 +12,9 @@ pub type Awaited<I, R, A> = BTreeMap<I, Option<R>, A>;
 /// A replica that isn't spent.
 #[derive(Drop)]
 pub struct State<M: Machine, A: Allocator> {
+    /// Its node.
     pub me: NodeId,
+    /// The nodes whose leaders it asks.
     pub cluster: Cluster,
     /// How many slots it proposes for ahead of what is performed.
     pub window: u64,
@@ -20,15 +22,19 @@ pub struct State<M: Machine, A: Allocator> {
     pub slot_in: u64,
     /// The next slot that it performs, 1 to 2^63.
     pub slot_out: u64,
+    /// What performs the commands.
     pub machine: M,
     /// What waits for a slot.
     pub requests: VecDeque<M::Command, A>,
+    /// What it proposed in each slot that it has not performed yet.
     pub proposals: BTreeMap<Slot, M::Command, A>,
     /// Every decision, also those that are performed.
     pub decisions: Decisions<M::Command, A>,
+    /// What was performed, in the order of the slots.
     pub performed: Performed<M::Command, A>,
     /// What was requested here, each with its answer once it is performed, until that is taken.
     pub awaited: Awaited<<M::Command as Payload>::Id, M::Answer, A>,
+    /// Where its memory comes from.
     pub alloc: A,
 }
 

@@ -11,7 +11,9 @@ use std::alloc::{Allocator, Global};
 /// An office that one session asks, and the number of the next ticket.
 #[derive(Drop)]
 pub struct LoneDesk<A: Allocator = Global> {
+    /// The maildrops.
     pub office: Office<A>,
+    /// The number of the next ticket.
     pub next: u64,
 }
 

@@ -25,9 +25,13 @@ const PIECE: usize = 4096;
 /// Answers operators: one request a connection.
 #[derive(Drop)]
 pub(crate) struct OperatorHost<R, N: ServedNode> {
+    /// The system: random bytes, and waits.
     pub rt: R,
+    /// Where its memory comes from.
     pub alloc: Global,
+    /// The nodes of the service.
     pub nodes: Arc<Vec<N>>,
+    /// What all threads of the service see.
     pub board: Arc<Board>,
     /// All ports of the service, which are woken when it stops.
     pub ports: Arc<Vec<u16>>,

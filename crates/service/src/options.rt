@@ -51,13 +51,19 @@ pub struct ServeOptions<'a> {
 /// What the options of a service say, once each is in its range.
 #[derive(Drop)]
 pub(crate) struct Settings {
+    /// The nodes.
     pub cluster: Cluster,
+    /// For how many slots a node proposes at a time: 1 to 1,000.
     pub window: u64,
+    /// The limits of each maildrop.
     pub limits: Limits,
+    /// What stands behind the `@` of the greetings' timestamps.
     pub host: Items<u8>,
     /// The ports of the nodes lie above this one: port `pop_port` + n is node n's.
     pub pop_port: u16,
+    /// The port that takes the operator's requests.
     pub ctl_port: u16,
+    /// How many milliseconds lie between two ticks of a node: 1 to 1,000,000.
     pub tick_ms: u64,
 }
 

@@ -15,9 +15,13 @@ use std::sync::{Arc, Wait};
 /// Serves POP3 sessions (RFC 1939) at a node.
 #[derive(Drop)]
 pub(crate) struct PopHost<R, N: ServedNode> {
+    /// The system: random bytes, and waits.
     pub rt: R,
+    /// Where its memory comes from.
     pub alloc: Global,
+    /// The node that the sessions ask.
     pub node: N,
+    /// What all threads of the service see.
     pub board: Arc<Board>,
 }
 

@@ -65,6 +65,10 @@ abbrev pub refusal_after_login : LineFault → List ℕ
 refusal_after_login Unknown = reply.unknown_command
 refusal_after_login (Arguments word) = argument_refusal (is_valid_after_login word)
 
+-- how many invalid logins a session goes on after
+abbrev pub forgiven_logins : ℕ
+forgiven_logins = 2
+
 module _ {A : Type 0} where
   abbrev pub say : List ℕ → State A → Turn A
   say bytes state = record { step = Say bytes; state = state }
@@ -78,7 +82,7 @@ module _ {A : Type 0} where
   -- the third invalid login closes
   abbrev pub invalid_login : ℕ → Turn A
   invalid_login invalid =
-      if nat_lt invalid 2
+      if nat_lt invalid forgiven_logins
       then say reply.invalid_login (Authorization None (invalid + 1))
       else say_and_close reply.invalid_login
 

@@ -12,6 +12,9 @@ use maildrop::{Name, Op};
 use pop3_wire::{Keyword, LineFault, Reply, Verb};
 use std::alloc::Allocator;
 
+/// How many invalid logins a session goes on after: the next one closes it.
+const FORGIVEN_LOGINS: u8 = 2;
+
 fn is_valid(user: &Option<Name>, keyword: Keyword) -> bool
     ensures { result ≡ spec.is_valid_before_login user.now keyword }
 {
@@ -33,7 +36,7 @@ fn invalid_login<A: Allocator + Copy>(alloc: A, invalid: u8) -> Result<Turn<A>, 
     ensures turn { IfOk result (λ turn. turn ≡ spec.invalid_login invalid) }
     ensures sure { spec.takes_no_memory (spec.invalid_login {A = A} invalid).step ≡ true → IsOk result }
 {
-    if invalid < 2 {
+    if invalid < FORGIVEN_LOGINS {
         say_and_forget(alloc, &Reply::InvalidLogin, invalid + 1)
     } else {
         say_and_close(alloc, &Reply::InvalidLogin)

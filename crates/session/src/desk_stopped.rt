@@ -7,5 +7,6 @@ use thiserror::Error;
 #[derive(Debug, Drop, PartialEq, Eq, Error)]
 #[error("the desk has stopped")]
 pub struct DeskStopped {
+    /// The ticket of the operation, if it had got one.
     pub ticket: Option<Ticket>,
 }

@@ -22,16 +22,22 @@ const FIRST_ENTRIES: usize = 3;
 /// entry more, the Free of a hangup.
 #[derive(Drop)]
 pub(crate) struct Dialogue<A: Allocator = Global> {
+    /// The session.
     pub session: Session<A>,
+    /// The lines that it heard.
     pub lines: HeardLines<A>,
+    /// What it asked.
     pub asked: Vec<Asked<A>, A>,
+    /// How many bytes it said.
     pub count: u128,
 }
 
 /// What the session says to a line.
 #[derive(Drop)]
 pub(crate) struct Saying<A: Allocator = Global> {
+    /// What the session says.
     pub bytes: Items<u8, A>,
+    /// Whether it is over then.
     pub closes: bool,
 }
 

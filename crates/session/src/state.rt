@@ -52,7 +52,9 @@ pub enum Step<A: Allocator = Global> {
 /// What a session does, and where it is then.
 #[derive(Drop)]
 pub struct Turn<A: Allocator = Global> {
+    /// What it does.
     pub step: Step<A>,
+    /// Where it is then.
     pub state: State<A>,
 }
 

@@ -27,10 +27,13 @@ pub enum End {
 pub struct Asked<A: Allocator = Global> {
     /// The line that asked, counted from 0, or none for the Free of a hangup.
     pub line: Option<u64>,
+    /// Whose maildrop the operation is for.
     pub name: Name,
+    /// The operation.
     pub op: Op<A>,
     /// What the desk gave: both, or a ticket alone where it stopped or where no outcome was awaited, or nothing.
     pub ticket: Option<Ticket>,
+    /// What came of it, if that was told.
     pub outcome: Option<Outcome<A>>,
 }
 
@@ -45,5 +48,6 @@ pub struct Transcript<A: Allocator = Global> {
     pub asked: Items<Asked<A>, A>,
     /// How many bytes of its replies were written.
     pub count: u128,
+    /// Why it was served no longer.
     pub end: End,
 }

@@ -16,6 +16,7 @@ use std::alloc::Global;
 pub(crate) struct Run {
     script: Script,
     play: Option<Play>,
+    /// What is still to be written.
     pub report: Report,
 }
 

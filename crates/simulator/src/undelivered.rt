@@ -9,8 +9,11 @@ use world::Sent;
 /// The messages of one kind from one node to another.
 #[derive(Clone, Copy)]
 pub(crate) struct Route {
+    /// The sender.
     pub from: NodeId,
+    /// The addressee.
     pub to: NodeId,
+    /// The kind of the messages.
     pub kind: MessageKind,
 }
 
