@@ -2,6 +2,7 @@
 ghost use Rattle.std.specs.Prelude.{◌≡◌, IsTrue};
 ghost use Rattle.maildrop.specs.Name.{are_different};
 
+use crate::audits::{Remains, all_of, check_legal};
 use crate::clients::{new_accounts, new_client, new_page};
 use crate::services::{TURNS, alone, node, setup_of, wait_a_turn};
 use cluster::{Cluster, Deployment, InboxLink, NodeDesk, Setup};
@@ -35,7 +36,7 @@ fn crash_once_waiting<D: Deployment, R: Wait + Clock>(rt: &R, desk: &DeskOf<D, R
     was_up && !desk.crash()
 }
 
-/// Serves a client at a node that never leads, and crashes that node.
+/// Serves a client at a node that never leads, and crashes that node. What is left is legal.
 fn waits_in_vain<
     D: Deployment + Send + Sync + 'static,
     R: Threads + Wait + Clock + Copy + Send + Sync + 'static,
@@ -52,10 +53,12 @@ fn waits_in_vain<
     let operator = thread::spawn(&rt, move || crash_once_waiting(&rt, &desk))?;
     let transcripts = cluster.sessions(jobs, &accounts);
     check(operator.join(&rt), "the node was down, or is up")?;
-    match transcripts?.pop().ok_or("no answer")? {
-        Some(transcript) => check_unanswered(&transcript),
-        None => Err("no thread".into()),
-    }
+    let remains = Remains {
+        transcripts: all_of(alloc, transcripts?)?,
+        logs: cluster.stop(),
+    };
+    check_unanswered(remains.transcripts.first().ok_or("no answer")?)?;
+    check_legal(alloc, &remains)
 }
 
 /// What was asked got a ticket, and no outcome.

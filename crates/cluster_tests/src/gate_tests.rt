@@ -2,6 +2,7 @@
 ghost use Rattle.std.specs.Prelude.{◌≡◌, IsTrue};
 ghost use Rattle.maildrop.specs.Name.{are_different};
 
+use crate::audits::{Remains, all_of, check_legal};
 use crate::clients::{At, Turns, new_accounts, new_client, new_page};
 use crate::services::{Flag, deliver, end_watch, new_flag, node, setup_of, start_watch};
 use cluster::{Cluster, Deployment, InboxLink, Setup};
@@ -26,12 +27,7 @@ type Nodes<D, R> = Cluster<D, R, InboxLink<R>>;
 fn served<
     D: Deployment + Send + Sync + 'static,
     R: Threads + Wait + Clock + Copy + Send + Sync + 'static,
->(
-    rt: R,
-    alloc: Global,
-    cluster: &Nodes<D, R>,
-    gave_up: &Flag,
-) -> Result<Vec<Option<Transcript>>, Fail> {
+>(rt: R, alloc: Global, cluster: &Nodes<D, R>, gave_up: &Flag) -> Result<Vec<Transcript>, Fail> {
     let accounts = new_accounts(alloc)?;
     let page = new_page(alloc)?;
     let retrieved = new_flag(alloc)?;
@@ -65,22 +61,23 @@ fn served<
     let mut jobs = Vec::new(alloc);
     jobs.push(new_client(rt, node(1)?, ALICE, &page, first)?)?;
     jobs.push(new_client(rt, node(3)?, BOB, &page, second)?)?;
-    Ok(cluster.sessions(jobs, &accounts)?)
+    all_of(alloc, cluster.sessions(jobs, &accounts)?)
 }
 
 fn mailed_and_served<
     D: Deployment + Send + Sync + 'static,
     R: Threads + Wait + Clock + Copy + Send + Sync + 'static,
->(rt: R, alloc: Global, cluster: &Nodes<D, R>) -> Result<(), Fail> {
+>(rt: R, alloc: Global, cluster: &Nodes<D, R>) -> Result<Vec<Transcript>, Fail> {
     let mut desk = cluster.desk(node(1)?)?.ok_or("no desk")?;
     desk.campaign();
     deliver(alloc, &mut desk, "alice", &["hi"], 1)?;
     let gave_up = new_flag(alloc)?;
-    for transcript in &served(rt, alloc, cluster, &gave_up)? {
-        let is_closed = matches!(transcript, Some(transcript) if transcript.end == End::Closed);
-        check(is_closed, "a session ends otherwise")?;
+    let transcripts = served(rt, alloc, cluster, &gave_up)?;
+    for transcript in &transcripts {
+        check(transcript.end == End::Closed, "a session ends otherwise")?;
     }
-    check(!*gave_up.lock(&rt), "a session waits for the other in vain")
+    check(!*gave_up.lock(&rt), "a session waits for the other in vain")?;
+    Ok(transcripts)
 }
 
 fn lives<
@@ -94,7 +91,11 @@ fn lives<
     let watch = start_watch(rt, alloc, &cluster)?;
     let outcome = mailed_and_served(rt, alloc, &cluster);
     end_watch(&rt, watch);
-    outcome
+    let remains = Remains {
+        transcripts: outcome?,
+        logs: cluster.stop(),
+    };
+    check_legal(alloc, &remains)
 }
 
 /// One session after the other would wait in vain, in either order.

@@ -2,6 +2,7 @@
 ghost use Rattle.std.specs.Prelude.{◌≡◌, IsTrue};
 ghost use Rattle.maildrop.specs.Name.{are_different};
 
+use crate::audits::{Remains, all_of, check_legal, check_other_outcome, check_without_p2a};
 use crate::clients::{Page, new_accounts, new_client, new_page};
 use crate::services::{alone, deliver, end_watch, node, setup_of, start_watch};
 use cluster::{Cluster, Deployment, InboxLink, NodeDesk, Setup};
@@ -48,44 +49,43 @@ fn mailed<D: Deployment, R: Wait>(
     deliver(alloc, one, "alice", &["Subject: a3", "", "three"], 3)
 }
 
-/// Serves the client at node 2. Gives what it gets, and how its session ends.
+/// Serves the client at node 2. Gives what it gets, and its session's transcript.
 fn served<D: Deployment + Send + Sync + 'static, R: Threads + Wait + Copy + Send + Sync + 'static>(
     rt: R,
     alloc: Global,
     cluster: &Nodes<D, R>,
-) -> Result<(Page, Option<Transcript>), Fail> {
+) -> Result<(Page, Vec<Transcript>), Fail> {
     let accounts = new_accounts(alloc)?;
     let page = new_page(alloc)?;
     let job = new_client(rt, node(2)?, LINES, &page, OpenGate)?;
-    let transcript = cluster
-        .sessions(alone(alloc, job)?, &accounts)?
-        .pop()
-        .ok_or("no answer")?;
-    Ok((page, transcript))
+    let transcripts = cluster.sessions(alone(alloc, job)?, &accounts)?;
+    Ok((page, all_of(alloc, transcripts)?))
 }
 
-/// Mail and a session over a cluster, which is watched.
+/// Mail and a session over a cluster, which is watched. Gives the session's transcript.
 fn mail_and_session<
     D: Deployment + Send + Sync + 'static,
     R: Threads + Wait + Copy + Send + Sync + 'static,
->(rt: R, alloc: Global, cluster: &Nodes<D, R>) -> Result<(), Fail> {
+>(rt: R, alloc: Global, cluster: &Nodes<D, R>) -> Result<Vec<Transcript>, Fail> {
     let mut one = cluster.desk(node(1)?)?.ok_or("no desk")?;
     let mut two = cluster.desk(node(2)?)?.ok_or("no desk")?;
     mailed(alloc, &mut one, &mut two)?;
-    let (page, transcript) = served(rt, alloc, cluster)?;
-    let transcript = transcript.ok_or("no thread")?;
-    check(transcript.end == End::Closed, "the session ends otherwise")?;
+    let (page, transcripts) = served(rt, alloc, cluster)?;
+    for transcript in &transcripts {
+        check(transcript.end == End::Closed, "the session ends otherwise")?;
+    }
     check(
         page.lock(&rt).as_slice() == REPLIES.as_bytes(),
         "other replies",
-    )
+    )?;
+    Ok(transcripts)
 }
 
-/// A cluster from its start to its end, with mail and a session in between.
+/// A cluster from its start to its end, with mail and a session in between. What is left of it is legal.
 fn lives<
     D: Deployment + Send + Sync + 'static,
     R: Threads + Wait + Clock + Copy + Send + Sync + 'static,
->(rt: R, alloc: Global, setup: &Setup) -> Result<(), Fail>
+>(rt: R, alloc: Global, setup: &Setup) -> Result<Remains, Fail>
     requires deployment { setup.now ≡ D.setup }
     requires names { IsTrue (are_different setup.now.names) }
 {
@@ -93,8 +93,13 @@ fn lives<
     let watch = start_watch(rt, alloc, &cluster)?;
     let outcome = mail_and_session(rt, alloc, &cluster);
     end_watch(&rt, watch);
-    outcome?;
-    check(cluster.stop().len() == 3, "a log is missing")
+    let remains = Remains {
+        transcripts: outcome?,
+        logs: cluster.stop(),
+    };
+    check(remains.logs.len() == 3, "a log is missing")?;
+    check_legal(alloc, &remains)?;
+    Ok(remains)
 }
 
 fn lives_often<
@@ -105,13 +110,14 @@ fn lives_often<
     requires names { IsTrue (are_different setup.now.names) }
 {
     for _ in 0..CLUSTERS {
-        lives::<D, R>(rt, alloc, setup)?;
+        drop(lives::<D, R>(rt, alloc, setup)?);
     }
-    Ok(())
+    check_without_p2a(alloc, lives::<D, R>(rt, alloc, setup)?)?;
+    check_other_outcome(alloc, lives::<D, R>(rt, alloc, setup)?)
 }
 
 /// Mail at two nodes of three, and a session at the second, without a tick: the client gets the very bytes that a lone
-/// server of its user gives, each time.
+/// server of its user gives, and an audit finds nothing wrong, each time. It does where a log or an outcome is changed.
 #[test]
 fn a_session_over_three_nodes(rt: HostRuntime) -> Result<(), Fail> {
     let setup = setup_of(rt.alloc(), 3)?;

@@ -2,6 +2,7 @@
 ghost use Rattle.std.specs.Prelude.{◌≡◌, IsTrue};
 ghost use Rattle.maildrop.specs.Name.{are_different};
 
+use crate::audits::{Remains, all_of, check_legal};
 use crate::clients::{At, Page, Turns, new_accounts, new_client, new_page};
 use crate::services::{
     Flag, TURNS, alone, deliver, end_watch, new_flag, node, setup_of, start_watch, wait_a_turn,
@@ -114,7 +115,7 @@ fn crash_leader<D: Deployment, R: Wait + Clock>(
 fn served<
     D: Deployment + Send + Sync + 'static,
     R: Threads + Wait + Clock + Copy + Send + Sync + 'static,
->(rt: R, alloc: Global, cluster: &Nodes<D, R>, page: &Page) -> Result<Option<Transcript>, Fail> {
+>(rt: R, alloc: Global, cluster: &Nodes<D, R>, page: &Page) -> Result<Vec<Transcript>, Fail> {
     let leader = cluster.desk(node(1)?)?.ok_or("no desk")?;
     let other = cluster.desk(node(2)?)?.ok_or("no desk")?;
     let course = Course::new(alloc)?;
@@ -127,23 +128,26 @@ fn served<
     *course.done.lock(&rt) = true;
     check(operator.join(&rt), "the leader was down")?;
     check(!*course.gave_up.lock(&rt), "the gate let go")?;
-    Ok(transcripts?.pop().ok_or("no answer")?)
+    all_of(alloc, transcripts?)
 }
 
 fn mailed_and_served<
     D: Deployment + Send + Sync + 'static,
     R: Threads + Wait + Clock + Copy + Send + Sync + 'static,
->(rt: R, alloc: Global, cluster: &Nodes<D, R>) -> Result<(), Fail> {
+>(rt: R, alloc: Global, cluster: &Nodes<D, R>) -> Result<Vec<Transcript>, Fail> {
     let mut desk = cluster.desk(node(1)?)?.ok_or("no desk")?;
     desk.campaign();
     deliver(alloc, &mut desk, "alice", &["hi"], 1)?;
     let page = new_page(alloc)?;
-    let transcript = served(rt, alloc, cluster, &page)?.ok_or("no thread")?;
-    check(transcript.end == End::Closed, "the session ends otherwise")?;
+    let transcripts = served(rt, alloc, cluster, &page)?;
+    for transcript in &transcripts {
+        check(transcript.end == End::Closed, "the session ends otherwise")?;
+    }
     check(
         page.lock(&rt).as_slice() == REPLIES.as_bytes(),
         "other replies",
-    )
+    )?;
+    Ok(transcripts)
 }
 
 fn lives<
@@ -157,7 +161,11 @@ fn lives<
     let watch = start_watch(rt, alloc, &cluster)?;
     let outcome = mailed_and_served(rt, alloc, &cluster);
     end_watch(&rt, watch);
-    outcome
+    let remains = Remains {
+        transcripts: outcome?,
+        logs: cluster.stop(),
+    };
+    check_legal(alloc, &remains)
 }
 
 /// The other nodes of three end the session of a client, whose leader is gone.
