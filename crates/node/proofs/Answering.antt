@@ -42,7 +42,7 @@ module _ {A : Type 0} where
         submitted = λ id some. let found = h.submitted id some in (found.0, submitted_later (record { opening = o; inputs = before }) more id found.0 found.1);
       }
 
-  same_awaited : (x : Option (Outcome A)) (w : Option (Option (Outcome A))) → is_some (answered_with x w) ≡ is_some w
+  pub same_awaited : (x : Option (Outcome A)) (w : Option (Option (Outcome A))) → is_some (answered_with x w) ≡ is_some w
   same_awaited x None = refl
   same_awaited x (Some None) = refl
   same_awaited x (Some (Some a)) = refl
@@ -93,7 +93,7 @@ module _ {A : Type 0} where
   acts_holds o before n Campaign h = holds_later o before (Campaign ∷ []) _ (record { answers = h.answers; submitted = h.submitted })
   acts_holds o before n Crash h = holds_later o before (Crash ∷ []) n h
 
-  takes_holds : (o : Opening A) (before : List (Input A)) (n : NodeState A) (i : Input A) → Holds o before n → Holds o (before ++ i ∷ []) (takes o.me before n i).node
+  pub takes_holds : (o : Opening A) (before : List (Input A)) (n : NodeState A) (i : Input A) → Holds o before n → Holds o (before ++ i ∷ []) (takes o.me before n i).node
   takes_holds o before n i h =
       go (list_any is_crash before)
     where

@@ -28,7 +28,7 @@ module _ {A : Type 0} where
   pub crash_answers : (log : NodeLog A) (id : CommandId) → answered (logged log Crash) id ≡ answered log id
   crash_answers log id = ap (λ (n : NodeState A). answer_of id n.replica.awaited) (replayed-push log Crash ∙ ap (λ (m : Move A). m.node) (idle log.opening.me log.inputs (replayed log)))
 
-  behind : (me : ℕ) (before : List (Input A)) (n : NodeState A) (is : List (Input A)) → list_any is_crash before ≡ true → takes_all me before n is ≡ n
+  pub behind : (me : ℕ) (before : List (Input A)) (n : NodeState A) (is : List (Input A)) → list_any is_crash before ≡ true → takes_all me before n is ≡ n
   behind me before n [] h = refl
   behind me before n (i ∷ is) h =
       ap (λ (m : Move A). takes_all me (before ++ i ∷ []) m.node is) unmoved

@@ -12,3 +12,5 @@ pub mod Answering
 pub mod OwnOutcomes
 pub mod Crashing
 pub mod Lasting
+pub mod Fronts
+pub mod Awaiting

@@ -4,5 +4,6 @@ pub mod Replay
 pub mod Roles
 pub mod Nodes
 pub mod Submits
+pub mod Told
 pub mod Outcomes
 pub mod Examples

@@ -15,6 +15,10 @@ module _ {A : Type 0} where
     pub inputs : log.inputs ≡ before ++ Submit id.user op ∷ after
     pub ticket : id.ticket ≡ next_ticket log.opening.me id.user before
 
+  -- the log with these inputs alone
+  abbrev pub log_until : NodeLog A → List (Input A) → NodeLog A
+  log_until log inputs = record { opening = log.opening; inputs = inputs }
+
   -- the identity of an operation for the user that is submitted next
   abbrev pub next_id : ℕ → List ℕ → List (Input A) → CommandId
   next_id me user before = record { user = user; ticket = next_ticket me user before }

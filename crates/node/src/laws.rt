@@ -1,13 +1,15 @@
 //! Laws of logs, and of what they lead to. Each is a function that does nothing: its contract is the law.
-ghost use Rattle.std.specs.Prelude.{◌≡◌, ◌↔◌, ◌≤◌, ℕ, List, [], length, Some, true};
+ghost use Rattle.std.specs.Prelude.{◌≡◌, ◌↔◌, ◌≤◌, ℕ, List, [], length, Some, is_some, true, false};
 ghost use Rattle.std.specs.List.{list_any};
 ghost use Rattle.maildrop.specs.CommandId.{CommandId};
 ghost use Rattle.maildrop.specs.declared.op.Op.{Op};
 ghost use Rattle.maildrop.specs.declared.outcome.Outcome.{Outcome};
-ghost use Rattle.node.specs.Replay.{is_crash, new_node, replayed, sends_of, ticket_of, last_ticket};
+ghost use Rattle.replica.specs.Replicas.{IsFrontOf, has_identity};
+ghost use Rattle.node.specs.Replay.{mail_rules, is_crash, new_node, replayed, sends_of, ticket_of, last_ticket};
 ghost use Rattle.node.specs.Nodes.{logged, lengthened, answered, user_of, no_ticket_for};
 ghost use Rattle.node.specs.Tickets.{LAST_TICKET};
-ghost use Rattle.node.specs.Submits.{IsSubmitted, next_id, op_of};
+ghost use Rattle.node.specs.Submits.{IsSubmitted, log_until, next_id, op_of};
+ghost use Rattle.node.specs.Told.{told_decisions};
 ghost use Rattle.node.specs.Outcomes.{IsOutcomeOf};
 ghost use Rattle.node.specs.declared.input.Input.{Input};
 ghost use Rattle.node.specs.declared.input.Input.TheVariants.{Submit, Crash};
@@ -35,6 +37,20 @@ pub fn answers_are_of_submits<A: Allocator>()
 pub fn answers_are_outcomes<A: Allocator>()
     ensures { (log : NodeLog A) (id : CommandId) (answer : Outcome A) →
         answered log id ≡ Some answer → IsOutcomeOf log.opening (replayed log).replica.performed id answer }
+{}
+
+/// Whatever a node took, and in whatever order and however often decisions came: it has performed the whole gapless front
+/// of the decisions that it was told, each identity once.
+pub fn nodes_perform_the_front<A: Allocator>()
+    ensures { (log : NodeLog A) → IsFrontOf mail_rules (told_decisions log.opening.me log.inputs) (replayed log).replica }
+{}
+
+/// A command that was submitted has its answer once it is performed. The log of a node alone doesn't say that a command
+/// isn't performed before it is submitted: this is supposed here.
+pub fn performed_commands_are_answered<A: Allocator>()
+    ensures { (log : NodeLog A) (id : CommandId) (op : Op A) (submit : IsSubmitted log id op) →
+        has_identity mail_rules id (replayed (log_until log submit.before)).replica.performed ≡ false
+        → has_identity mail_rules id (replayed log).replica.performed ≡ true → is_some (answered log id) ≡ true }
 {}
 
 /// A node gives a ticket of a user once, to one operation, which the ticket names from then on.
