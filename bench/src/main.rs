@@ -1,9 +1,11 @@
 //! Measures calls of this repository beside a plain Rust version of each, in one run.
 mod audits;
 mod decisions;
+mod deliveries;
 mod mailbox;
 mod measure;
 mod nodes;
+mod promises;
 mod shared;
 mod wire;
 
@@ -15,7 +17,9 @@ fn main() {
         [word] if word == "audits" => audits::tell(),
         [reader, ..] => mailbox::measure(reader),
         [] => {
+            promises::compare_all();
             decisions::compare_all();
+            deliveries::compare_all();
             nodes::tell();
             audits::tell();
             wire::compare_all();

@@ -1,50 +1,12 @@
 //! Runs of a replica's calls.
-ghost use Rattle.std.specs.Prelude.{◌≡◌, ◌==◌, ℕ};
-ghost use Rattle.std.proofs.Common.{rules};
 
-use ballot::{Cluster, Machine, Memory, NodeId, Payload, Slot};
+use crate::number::Number;
+use ballot::{Cluster, Machine, Memory, NodeId, Slot};
 use replica::Replica;
 use std::alloc::Global;
-use std::marker::Model;
 
 /// How many slots the replica proposes for ahead of what is performed.
 const WINDOW: u64 = 10;
-
-/// A command that is its own identity.
-#[derive(Clone, Copy)]
-struct Number {
-    value: u64,
-}
-
-impl Model for Number {
-    ghost Value = { ℕ };
-
-    ghost view = { λ number. number.value };
-
-    ghost inverse = { λ value. record { value = value } };
-}
-
-impl Payload for Number {
-    type Id = u64;
-
-    ghost identity = { λ number. number };
-
-    ghost equal = { λ x y. x == y };
-
-    ghost equality = { Prim.search rules };
-
-    fn copy(&self) -> Result<Self, Memory> {
-        Ok(*self)
-    }
-
-    fn same(&self, other: &Self) -> bool {
-        self.value == other.value
-    }
-
-    fn id(&self) -> u64 {
-        self.value
-    }
-}
 
 /// A machine that answers each command by its number.
 #[derive(Drop)]

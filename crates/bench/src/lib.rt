@@ -3,7 +3,10 @@
 
 mod audits;
 mod decisions;
+mod deliveries;
 mod mailbox;
 mod nodes;
+mod number;
+mod promises;
 mod value;
 mod wire;
