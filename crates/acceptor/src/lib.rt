@@ -6,4 +6,6 @@ mod acceptor;
 mod laws;
 
 pub use acceptor::Acceptor;
-pub use laws::{acceptors_reach_what_they_keep, what_is_kept_stays_or_is_topped};
+pub use laws::{
+    acceptors_keep_the_highest, acceptors_reach_what_they_keep, what_is_kept_stays_or_is_topped,
+};

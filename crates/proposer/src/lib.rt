@@ -8,5 +8,8 @@ mod scout;
 mod union;
 
 pub use commander::{Commander, Verdict};
-pub use laws::{commanders_count_votes, scouts_adopt_what_a_majority_told, scouts_count_promises};
+pub use laws::{
+    commanders_count_votes, commanders_decide_what_a_majority_voted,
+    scouts_adopt_what_a_majority_told, scouts_count_promises,
+};
 pub use scout::{Progress, Scout};
