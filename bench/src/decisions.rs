@@ -1,6 +1,7 @@
 //! A replica's calls.
-use crate::measure::{compare, timed};
+use crate::measure::{compare, processor_time, timed};
 use std::collections::{BTreeMap, BTreeSet, VecDeque};
+use std::hint::black_box;
 
 const WINDOW: u64 = 10;
 const NODES: u8 = 3;
@@ -133,4 +134,33 @@ pub fn compare_all() {
             || timed(|| rust_decisions(count, block)),
         );
     }
+    let here = by_performed(|count| unsafe { bench_decisions(count, 1) });
+    let rust = by_performed(|count| rust_decisions(count, 1));
+    println!(
+        "{:<40} rattle {:>6.0} ns, from the 100,000th on {:>6.0} ns   rust {:>6.0} ns, {:>6.0} ns",
+        "A decision, up to 100 performed", here.0, here.1, rust.0, rust.1
+    );
+}
+
+/// How many decisions replicas take that have performed few commands, and one that has performed many.
+const FEW: u64 = 100;
+const MANY: u64 = 100_000;
+
+/// The nanoseconds of processor time of a decision: of the first 100 of each of many replicas, and of those from the
+/// 100,000th on of one. A run takes so many decisions of one replica.
+fn by_performed(run: impl Fn(u64) -> u64) -> (f64, f64) {
+    let few = least(|| (0..MANY / FEW).map(|_| run(FEW)).sum());
+    let many = least(|| run(MANY));
+    let more = least(|| run(2 * MANY));
+    (few / MANY as f64, (more - many) / MANY as f64)
+}
+
+/// The nanoseconds of processor time of a run, the least of five.
+fn least(run: impl Fn() -> u64) -> f64 {
+    let time = || {
+        let start = processor_time();
+        black_box(run());
+        (processor_time() - start).as_nanos() as f64
+    };
+    (0..5).map(|_| time()).fold(f64::MAX, f64::min)
 }
