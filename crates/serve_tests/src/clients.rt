@@ -9,6 +9,9 @@ use std::time::Duration;
 /// How many seconds a client waits for what it is told. A test that meets this bound fails.
 const PATIENCE: u64 = 30;
 
+/// What each greeting begins with.
+pub const GREETING: &[u8] = b"+OK POP3 server ready <";
+
 /// The address of a port of this machine.
 pub fn local(port: u16) -> SocketAddr {
     SocketAddr::from((Ipv4Addr::LOCALHOST, port))
@@ -78,7 +81,7 @@ pub fn replies<R: Net<Stream = TcpStream>>(
     let (greeting, replies) = said
         .as_slice()
         .split_at(said.iter().position(|byte| *byte == b'\n').unwrap_or(0));
-    if !greeting.starts_with(b"+OK POP3 server ready <") {
+    if !greeting.starts_with(GREETING) {
         return Err(Fail::from("no greeting"));
     }
     let mut behind = Vec::new(alloc);

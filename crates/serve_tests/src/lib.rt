@@ -8,6 +8,12 @@ mod hostile_tests;
 #[cfg(test)]
 mod operator_tests;
 #[cfg(test)]
+mod plays;
+#[cfg(test)]
 mod running;
 #[cfg(test)]
 mod session_tests;
+#[cfg(test)]
+mod start_tests;
+#[cfg(test)]
+mod text_tests;

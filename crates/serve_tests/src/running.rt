@@ -40,8 +40,8 @@ pub fn options<'a>(accounts: &'a str, pop_port: u16, ctl_port: u16) -> ServeOpti
         ctl_port: u64::from(ctl_port),
         nodes: 3,
         window: 10,
-        messages: 10_000,
-        octets: 50_000_000,
+        messages: 3,
+        octets: 1_000_000,
         ids: 1_000_000_000,
         host: b"localhost",
         tick_ms: 20,
@@ -217,6 +217,11 @@ impl Running {
         if told.lines.as_slice() != b"stopping\n".as_slice() {
             return Err(Fail::from("not stopping"));
         }
-        Ok(self.thread.join(rt))
+        Ok(self.end(rt))
+    }
+
+    /// Waits until the service has ended, and gives its exit status and what it wrote.
+    pub fn end<R: Threads>(self, rt: &R) -> (u8, Vec<u8>) {
+        self.thread.join(rt)
     }
 }

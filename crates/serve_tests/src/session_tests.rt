@@ -1,83 +1,340 @@
-//! Sessions at nodes that agree.
+//! What POP3 clients are told at nodes that agree: of mail that is delivered, of locks that are broken, where nodes stop.
 
-use crate::clients::{connect, line_after, replies, send};
-use crate::running::{file, remove, start};
+use crate::plays::Row::{Asks, Comes, Ctl, Ends, Goes, Operator, Says, Shows};
+use crate::plays::{STOP, Scene, play};
+use crate::running::start;
 use std::test::*;
 
 /// A mailbox file with one message of 30 octets.
-const MAILBOX: &[u8] = b"From a@b Thu Jan  1 00:00:00 1970\nSubject: x\n\nhi\n.\n>From me\n\n";
+const MAILBOX: &str = "From a@b Thu Jan  1 00:00:00 1970\nSubject: x\n\nhi\n.\n>From me\n\n";
+
+/// A mailbox file with two messages of 18 octets each.
+const TWO: &str =
+    "From a@b Thu Jan  1 00:00:00 1970\nSubject: x\n\nhi\n\nFrom a@b Thu Jan  1 00:00:00 1970\nSubject: y\n\nyo\n";
+
+const ACCOUNTS: &str = "alice pass s3\nbob pass s4\n";
+
+/// What alice sends to log in.
+const ALICE: &str = "USER alice\r\nPASS s3\r\n";
+
+/// What bob sends to log in.
+const BOB: &str = "USER bob\r\nPASS s4\r\n";
+
+/// What a user is told at the login who has no mail.
+const EMPTY: &str = "+OK send PASS\r\n+OK maildrop has 0 messages (0 octets)\r\n";
+
+/// What a user is told at the login who has the message of `MAILBOX`.
+const ONE: &str = "+OK send PASS\r\n+OK maildrop has 1 messages (30 octets)\r\n";
+
+/// What a user is told at the login whose maildrop another session holds.
+const LOCKED: &str = "+OK send PASS\r\n-ERR [IN-USE] maildrop already locked\r\n";
+
+/// What a client sends to quit, and is told.
+const QUIT: &str = "QUIT\r\n";
+
+const BYE: &str = "+OK signing off\r\n";
+
+const ONE_MESSAGE: Scene = Scene {
+    accounts: ACCOUNTS,
+    mailbox: MAILBOX,
+    rows: &[
+        Ctl("deliver 1 alice FILE", 0, "op alice 1/1 stored 1\nend\n"),
+        Comes(2),
+        Says(0, ALICE, ONE),
+        Says(0, "DELE 1\r\n", "+OK message 1 deleted\r\n"),
+        Says(0, QUIT, BYE),
+        Ends(0),
+        Ctl("crash 3", 0, "crashed\n"),
+        Ctl("crash 3", 3, "down\n"),
+        Comes(1),
+        Says(1, ALICE, EMPTY),
+        Says(1, QUIT, BYE),
+        Ends(1),
+        STOP,
+    ],
+};
 
 #[test]
 fn a_message_is_delivered_read_and_removed(rt: HostRuntime) -> Result<(), Fail> {
     let alloc = rt.alloc();
-    let mailbox = file(&rt, alloc, "mailbox", MAILBOX)?;
-    let service = start!(rt, alloc, "alice pass s3\n");
-    let told = service.ctl(&rt, alloc, &["deliver", "1", "alice", mailbox.as_str()]);
-    assert!(rt; told.is(0, b"op alice 1/1 stored 1\nend\n"));
-    remove(&rt, mailbox.as_str());
-    let lines = b"USER alice\r\nPASS s3\r\nDELE 1\r\nQUIT\r\n";
-    let said = replies(&rt, alloc, service.node(2), lines)?;
-    assert_eq!(rt;
-        said.as_slice(),
-        b"+OK send PASS\r\n+OK maildrop has 1 messages (30 octets)\r\n+OK message 1 deleted\r\n+OK signing off\r\n".as_slice()
-    );
-    let told = service.ctl(&rt, alloc, &["crash", "3"]);
-    assert!(rt; told.is(0, b"crashed\n"));
-    let told = service.ctl(&rt, alloc, &["crash", "3"]);
-    assert!(rt; told.is(3, b"down\n"));
-    let lines = b"USER alice\r\nPASS s3\r\nQUIT\r\n";
-    let said = replies(&rt, alloc, service.node(1), lines)?;
-    assert_eq!(rt;
-        said.as_slice(),
-        b"+OK send PASS\r\n+OK maildrop has 0 messages (0 octets)\r\n+OK signing off\r\n".as_slice()
-    );
-    let (status, written) = service.stop(&rt, alloc)?;
-    assert_eq!(rt; status, 0);
-    assert_eq!(rt; written.as_slice(), b"audit ok\n".as_slice());
-    Ok(())
+    let service = start!(rt, alloc, ONE_MESSAGE.accounts);
+    play(&rt, alloc, service, &ONE_MESSAGE)
 }
 
+/// Neither a client that is logged in nor an operator says anything, and another client is answered.
+const SILENCE: Scene = Scene {
+    accounts: ACCOUNTS,
+    mailbox: "",
+    rows: &[
+        Comes(1),
+        Says(0, ALICE, EMPTY),
+        Operator,
+        Comes(1),
+        Says(2, BOB, EMPTY),
+        Says(2, "STAT\r\n", "+OK 0 0\r\n"),
+        Says(2, QUIT, BYE),
+        Ends(2),
+        Goes(0),
+        STOP,
+        Says(1, "", "bad request\n"),
+        Ends(1),
+    ],
+};
+
 #[test]
-fn a_silent_client_holds_up_nobody(rt: HostRuntime) -> Result<(), Fail> {
+fn the_silent_hold_up_nobody(rt: HostRuntime) -> Result<(), Fail> {
     let alloc = rt.alloc();
-    let service = start!(rt, alloc, "alice pass s3\nbob pass s4\n");
-    let silent = connect(&rt, service.node(1))?;
-    send(&silent, b"USER alice\r\nPASS s3\r\n")?;
-    let ready = line_after(alloc, &silent, 3)?;
-    assert_eq!(rt;
-        ready.as_slice(),
-        b"+OK maildrop has 0 messages (0 octets)\r\n".as_slice()
-    );
-    let lines = b"USER bob\r\nPASS s4\r\nSTAT\r\nQUIT\r\n";
-    let said = replies(&rt, alloc, service.node(1), lines)?;
-    assert_eq!(rt;
-        said.as_slice(),
-        b"+OK send PASS\r\n+OK maildrop has 0 messages (0 octets)\r\n+OK 0 0\r\n+OK signing off\r\n".as_slice()
-    );
-    drop(silent);
-    let (status, _) = service.stop(&rt, alloc)?;
-    assert_eq!(rt; status, 0);
-    Ok(())
+    let service = start!(rt, alloc, SILENCE.accounts);
+    play(&rt, alloc, service, &SILENCE)
 }
+
+/// A file is delivered under one key again and again: at each node, for another user, and after its messages were removed.
+const KEYS: Scene = Scene {
+    accounts: ACCOUNTS,
+    mailbox: TWO,
+    rows: &[
+        Ctl(
+            "deliver 1 alice FILE monday",
+            0,
+            "op alice 1/1 stored 1\nop alice 1/2 stored 2\nend\n",
+        ),
+        Ctl(
+            "deliver 1 alice FILE monday",
+            0,
+            "op alice 1/3 stored 1\nop alice 1/4 stored 2\nend\n",
+        ),
+        Ctl(
+            "deliver 2 alice FILE monday",
+            0,
+            "op alice 2/1 stored 1\nop alice 2/2 stored 2\nend\n",
+        ),
+        Ctl(
+            "deliver 1 bob FILE monday",
+            0,
+            "op bob 1/1 stored 1\nop bob 1/2 stored 2\nend\n",
+        ),
+        Comes(3),
+        Says(
+            0,
+            ALICE,
+            "+OK send PASS\r\n+OK maildrop has 2 messages (36 octets)\r\n",
+        ),
+        Says(
+            0,
+            "DELE 1\r\nDELE 2\r\n",
+            "+OK message 1 deleted\r\n+OK message 2 deleted\r\n",
+        ),
+        Says(0, QUIT, BYE),
+        Ends(0),
+        Ctl(
+            "deliver 3 alice FILE monday",
+            0,
+            "op alice 3/3 stored 1\nop alice 3/4 stored 2\nend\n",
+        ),
+        Comes(1),
+        Says(1, ALICE, EMPTY),
+        Says(1, QUIT, BYE),
+        Ends(1),
+        Ctl(
+            "deliver 1 alice FILE tuesday",
+            0,
+            "op alice 1/7 stored 3\nop alice 1/8 stored 4\nend\n",
+        ),
+        // A key of 54 characters, the longest.
+        Ctl(
+            "deliver 1 alice FILE 012345678901234567890123456789012345678901234567890123",
+            0,
+            "op alice 1/9 stored 5\nop alice 1/10 full\nend\n",
+        ),
+        Ctl(
+            "deliver 1 alice FILE 0123456789012345678901234567890123456789012345678901234",
+            3,
+            "bad request\n",
+        ),
+        STOP,
+    ],
+};
 
 #[test]
 fn a_delivery_under_a_key_is_stored_once(rt: HostRuntime) -> Result<(), Fail> {
     let alloc = rt.alloc();
-    let mailbox = file(&rt, alloc, "keyed", MAILBOX)?;
-    let service = start!(rt, alloc, "alice pass s3\n");
-    let words = ["deliver", "1", "alice", mailbox.as_str(), "monday"];
-    let told = service.ctl(&rt, alloc, &words);
-    assert!(rt; told.is(0, b"op alice 1/1 stored 1\nend\n"));
-    let told = service.ctl(&rt, alloc, &words);
-    assert!(rt; told.is(0, b"op alice 1/2 stored 1\nend\n"));
-    remove(&rt, mailbox.as_str());
-    let lines = b"USER alice\r\nPASS s3\r\nSTAT\r\nQUIT\r\n";
-    let said = replies(&rt, alloc, service.node(3), lines)?;
-    assert_eq!(rt;
-        said.as_slice(),
-        b"+OK send PASS\r\n+OK maildrop has 1 messages (30 octets)\r\n+OK 1 30\r\n+OK signing off\r\n".as_slice()
-    );
-    let (status, _) = service.stop(&rt, alloc)?;
-    assert_eq!(rt; status, 0);
-    Ok(())
+    let service = start!(rt, alloc, KEYS.accounts);
+    play(&rt, alloc, service, &KEYS)
+}
+
+/// A lock is taken away: the next session gets it, and the one that had it goes on and removes nothing.
+const LOCKS: Scene = Scene {
+    accounts: ACCOUNTS,
+    mailbox: MAILBOX,
+    rows: &[
+        Ctl("deliver 1 alice FILE", 0, "op alice 1/1 stored 1\nend\n"),
+        Comes(1),
+        Says(0, ALICE, ONE),
+        Comes(2),
+        Says(1, ALICE, LOCKED),
+        Ends(1),
+        Ctl("break 3 alice", 0, "done\n"),
+        Comes(2),
+        Says(2, ALICE, ONE),
+        Says(
+            0,
+            "STAT\r\nDELE 1\r\n",
+            "+OK 1 30\r\n+OK message 1 deleted\r\n",
+        ),
+        Says(0, QUIT, "-ERR some deleted messages not removed\r\n"),
+        Ends(0),
+        Comes(3),
+        Says(3, ALICE, LOCKED),
+        Ends(3),
+        Says(2, "STAT\r\n", "+OK 1 30\r\n"),
+        Says(2, QUIT, BYE),
+        Ends(2),
+        Ctl("break 1 alice", 0, "done\n"),
+        Comes(1),
+        Says(4, ALICE, ONE),
+        Says(4, QUIT, BYE),
+        Ends(4),
+        STOP,
+    ],
+};
+
+#[test]
+fn a_lock_is_broken(rt: HostRuntime) -> Result<(), Fail> {
+    let alloc = rt.alloc();
+    let service = start!(rt, alloc, LOCKS.accounts);
+    play(&rt, alloc, service, &LOCKS)
+}
+
+/// A node stops that isn't the leader. Its sessions go on until they need it.
+const CRASH: Scene = Scene {
+    accounts: ACCOUNTS,
+    mailbox: MAILBOX,
+    rows: &[
+        Ctl("deliver 1 alice FILE", 0, "op alice 1/1 stored 1\nend\n"),
+        Comes(2),
+        Says(0, ALICE, ONE),
+        Comes(2),
+        Ctl("crash 2", 0, "crashed\n"),
+        Ctl("crash 2", 3, "down\n"),
+        Ctl("break 2 alice", 3, "down\n"),
+        Ctl("deliver 2 alice FILE", 3, "down\n"),
+        Ctl("deliver 2 alice FILE monday", 3, "down\n"),
+        Asks("deliver 2 alice 0\n", "end\n"),
+        Asks("deliver 2 alice 5\nhello", "bad mbox\n"),
+        Shows("\nnode 2 down\nnode 3 up "),
+        Says(
+            0,
+            "RETR 1\r\n",
+            "+OK 30 octets\r\nSubject: x\r\n\r\nhi\r\n..\r\nFrom me\r\n.\r\n",
+        ),
+        Says(0, "DELE 1\r\n", "+OK message 1 deleted\r\n"),
+        Says(0, QUIT, ""),
+        Ends(0),
+        Says(1, BOB, "+OK send PASS\r\n"),
+        Ends(1),
+        Comes(2),
+        Says(2, BOB, "+OK send PASS\r\n"),
+        Ends(2),
+        Comes(1),
+        Says(3, ALICE, LOCKED),
+        Ends(3),
+        Ctl("break 3 alice", 0, "done\n"),
+        Comes(1),
+        Says(4, ALICE, ONE),
+        Says(4, QUIT, BYE),
+        Ends(4),
+        STOP,
+    ],
+};
+
+#[test]
+fn a_node_stops(rt: HostRuntime) -> Result<(), Fail> {
+    let alloc = rt.alloc();
+    let service = start!(rt, alloc, CRASH.accounts);
+    play(&rt, alloc, service, &CRASH)
+}
+
+/// The leader stops, and another node leads: what was stored is there, and more is.
+const LEADER: Scene = Scene {
+    accounts: ACCOUNTS,
+    mailbox: MAILBOX,
+    rows: &[
+        Ctl("deliver 1 alice FILE", 0, "op alice 1/1 stored 1\nend\n"),
+        Ctl("crash 1", 0, "crashed\n"),
+        Ctl("deliver 2 alice FILE", 0, "op alice 2/1 stored 2\nend\n"),
+        Comes(3),
+        Says(
+            0,
+            ALICE,
+            "+OK send PASS\r\n+OK maildrop has 2 messages (60 octets)\r\n",
+        ),
+        Says(0, QUIT, BYE),
+        Ends(0),
+        STOP,
+    ],
+};
+
+#[test]
+fn the_leader_stops(rt: HostRuntime) -> Result<(), Fail> {
+    let alloc = rt.alloc();
+    let service = start!(rt, alloc, LEADER.accounts);
+    play(&rt, alloc, service, &LEADER)
+}
+
+/// Two of three nodes stop, and nothing is agreed on. Who waits is told that the last one has stopped.
+const NOBODY: Scene = Scene {
+    accounts: ACCOUNTS,
+    mailbox: "",
+    rows: &[
+        Comes(1),
+        Says(0, "USER alice\r\n", "+OK send PASS\r\n"),
+        Ctl("crash 2", 0, "crashed\n"),
+        Ctl("crash 3", 0, "crashed\n"),
+        Says(0, "PASS s3\r\n", ""),
+        Operator,
+        Says(1, "break 1 bob\n", ""),
+        Operator,
+        Says(2, "deliver 1 bob 5\nFrom ", ""),
+        Ctl("crash 1", 0, "crashed\n"),
+        Ends(0),
+        Says(1, "", "down\n"),
+        Ends(1),
+        Says(2, "", "down\n"),
+        Ends(2),
+        Ctl("status", 0, "node 1 down\nnode 2 down\nnode 3 down\nend\n"),
+        STOP,
+    ],
+};
+
+#[test]
+fn all_nodes_stop(rt: HostRuntime) -> Result<(), Fail> {
+    let alloc = rt.alloc();
+    let service = start!(rt, alloc, NOBODY.accounts);
+    play(&rt, alloc, service, &NOBODY)
+}
+
+/// A session that is open when the service is stopped goes on to its end.
+const STILL_OPEN: Scene = Scene {
+    accounts: ACCOUNTS,
+    mailbox: MAILBOX,
+    rows: &[
+        Ctl("deliver 3 alice FILE", 0, "op alice 3/1 stored 1\nend\n"),
+        Comes(1),
+        Says(0, ALICE, ONE),
+        STOP,
+        Says(
+            0,
+            "STAT\r\nDELE 1\r\n",
+            "+OK 1 30\r\n+OK message 1 deleted\r\n",
+        ),
+        Says(0, QUIT, BYE),
+        Ends(0),
+    ],
+};
+
+#[test]
+fn an_open_session_ends_after_the_stop(rt: HostRuntime) -> Result<(), Fail> {
+    let alloc = rt.alloc();
+    let service = start!(rt, alloc, STILL_OPEN.accounts);
+    play(&rt, alloc, service, &STILL_OPEN)
 }

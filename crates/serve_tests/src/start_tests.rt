@@ -1,0 +1,242 @@
+//! What a service and an operator's request begin with.
+
+use crate::clients::local;
+use crate::running::{file, free_ports, options, remove};
+use service::{ServeOptions, ctl_run, serve_run};
+use std::alloc::Global;
+use std::io::Eprint;
+use std::net::{Net, TcpListener, TcpStream};
+use std::random::RandomSource;
+use std::rt::Files;
+use std::sync::Wait;
+use std::test::*;
+use std::thread::Threads;
+use std::time::Clock;
+
+/// The path of a file that isn't there.
+const ABSENT: &str = "/tmp/none/such";
+
+/// An option of a service.
+#[derive(Clone, Copy, Debug)]
+enum Choice {
+    PopPort,
+    CtlPort,
+    Nodes,
+    Window,
+    TickMs,
+    Messages,
+    Octets,
+    Ids,
+}
+
+/// Values at the ends of their ranges, and the exit status of a service with them whose accounts file can't be read: 1,
+/// or 2 where the value is out of its range. Node 3 is at the third port above `PopPort`.
+const EDGES: &[(Choice, u64, u8)] = &[
+    (Choice::PopPort, 0, 1),
+    (Choice::PopPort, 65_532, 1),
+    (Choice::PopPort, 65_533, 2),
+    (Choice::PopPort, 65_535, 2),
+    (Choice::PopPort, u64::MAX, 2),
+    (Choice::CtlPort, 0, 2),
+    (Choice::CtlPort, 1, 1),
+    (Choice::CtlPort, 65_535, 1),
+    (Choice::CtlPort, 65_536, 2),
+    (Choice::Nodes, 0, 2),
+    (Choice::Nodes, 1, 1),
+    (Choice::Nodes, 9, 1),
+    (Choice::Nodes, 10, 2),
+    (Choice::Nodes, 257, 2),
+    (Choice::Window, 0, 2),
+    (Choice::Window, 1, 1),
+    (Choice::Window, 1_000, 1),
+    (Choice::Window, 1_001, 2),
+    (Choice::TickMs, 0, 2),
+    (Choice::TickMs, 1, 1),
+    (Choice::TickMs, 1_000_000, 1),
+    (Choice::TickMs, 1_000_001, 2),
+    (Choice::Messages, 0, 1),
+    (Choice::Messages, 999_999_999, 1),
+    (Choice::Messages, 1_000_000_000, 2),
+    (Choice::Octets, 0, 1),
+    (Choice::Octets, 1_099_511_627_776, 1),
+    (Choice::Octets, 1_099_511_627_777, 2),
+    (Choice::Ids, 0, 1),
+    (Choice::Ids, 9_223_372_036_854_775_808, 1),
+    (Choice::Ids, 9_223_372_036_854_775_809, 2),
+];
+
+/// The options with this one changed.
+fn changed<'a>(options: &ServeOptions<'a>, choice: Choice, value: u64) -> ServeOptions<'a> {
+    let mut changed = *options;
+    match choice {
+        Choice::PopPort => changed.pop_port = value,
+        Choice::CtlPort => changed.ctl_port = value,
+        Choice::Nodes => changed.nodes = value,
+        Choice::Window => changed.window = value,
+        Choice::TickMs => changed.tick_ms = value,
+        Choice::Messages => changed.messages = value,
+        Choice::Octets => changed.octets = value,
+        Choice::Ids => changed.ids = value,
+    }
+    changed
+}
+
+#[test]
+fn options_are_in_their_ranges(rt: HostRuntime) -> Result<(), Fail> {
+    let mut out = Vec::new(rt.alloc());
+    let any = options(ABSENT, 10_000, 10_009);
+    for (choice, value, status) in EDGES {
+        let options = changed(&any, *choice, *value);
+        let given = serve_run(rt, rt.alloc(), &mut out, &options);
+        assert_eq!(rt; given, *status, "{choice:?} {value}");
+    }
+    assert!(rt; out.is_empty());
+    Ok(())
+}
+
+/// Words of `maildropd ctl`, with `/` between two, and the exit status where nobody listens at the port and no file can
+/// be read: 1, or 2 for words that are none, or 3 for a key that is none.
+const WORDS: &[(&str, u8)] = &[
+    ("", 2),
+    ("status", 1),
+    ("status/1", 2),
+    ("Status", 2),
+    ("stop", 1),
+    ("halt", 2),
+    ("crash", 2),
+    ("crash/0", 2),
+    ("crash/1", 1),
+    ("crash/9", 1),
+    ("crash/10", 2),
+    ("crash/01", 2),
+    ("crash/-1", 2),
+    ("crash/one", 2),
+    ("break/1", 2),
+    ("break/1/alice", 1),
+    ("break/1/-x", 1),
+    ("break/1/", 2),
+    ("break/1/a b", 2),
+    ("break/0/alice", 2),
+    ("break/1/0123456789012345678901234567890123456789", 1),
+    ("break/1/01234567890123456789012345678901234567890", 2),
+    ("deliver/1/alice", 2),
+    ("deliver/1/alice/absent", 1),
+    ("deliver/0/alice/absent", 2),
+    ("deliver/1/alice/absent/", 3),
+    ("deliver/1/alice/absent/a b", 3),
+    ("deliver/0/alice/absent/a b", 2),
+    ("deliver/1/a b/absent/a b", 2),
+    (
+        "deliver/1/alice/absent/012345678901234567890123456789012345678901234567890123",
+        1,
+    ),
+    (
+        "deliver/1/alice/absent/0123456789012345678901234567890123456789012345678901234",
+        3,
+    ),
+    ("deliver/1/alice/absent/k/k", 2),
+];
+
+/// The exit status of `maildropd ctl` with these words. It prints `bad request` where the status is 3, and else nothing.
+fn status_of<R: Net<Listener = TcpListener, Stream = TcpStream> + Files + Eprint>(
+    rt: &R,
+    alloc: Global,
+    port: u64,
+    words: &str,
+) -> Result<u8, Fail> {
+    let mut parts = Vec::new(alloc);
+    for word in words.split('/') {
+        parts.push(word)?;
+    }
+    let mut printed = Vec::new(alloc);
+    let status = ctl_run(rt, alloc, &mut printed, port, parts.as_slice());
+    let wanted = if status == 3 { "bad request\n" } else { "" };
+    if printed.as_slice() != wanted.as_bytes() {
+        return Err(Fail::from("other lines"));
+    }
+    Ok(status)
+}
+
+#[test]
+fn words_are_refused(rt: HostRuntime) -> Result<(), Fail> {
+    let nobody = u64::from(free_ports(&rt)?);
+    for (words, status) in WORDS {
+        assert_eq!(rt;
+            status_of(&rt, rt.alloc(), nobody, words)?,
+            *status,
+            "{words}"
+        );
+    }
+    for (port, status) in [(0, 2), (nobody, 1), (65_536, 2), (u64::MAX, 2)] {
+        assert_eq!(rt;
+            status_of(&rt, rt.alloc(), port, "status")?,
+            status,
+            "{port}"
+        );
+    }
+    Ok(())
+}
+
+/// The exit status of a service with this accounts file.
+fn status_with<
+    R: Net<Listener = TcpListener, Stream = TcpStream>
+        + Threads
+        + Wait
+        + Clock
+        + RandomSource
+        + Copy
+        + Send
+        + Sync
+        + 'static
+        + Files
+        + Eprint,
+>(rt: R, alloc: Global, bytes: &[u8]) -> Result<u8, Fail> {
+    let path = file(&rt, alloc, "accounts", bytes)?;
+    let port = free_ports(&rt)?;
+    let mut out = Vec::new(alloc);
+    // The last node's port, so that a good file comes to nothing either.
+    let options = options(path.as_str(), port, port.saturating_add(3));
+    let status = serve_run(rt, alloc, &mut out, &options);
+    remove(&rt, path.as_str());
+    if !out.is_empty() {
+        return Err(Fail::from("a verdict"));
+    }
+    Ok(status)
+}
+
+/// Accounts files, and the exit status of a service that has one port twice: 1, or 2 where the file is none.
+const ACCOUNTS: &[(&str, u8)] = &[
+    ("alice pass s3\n", 1),
+    ("alice pass s3\n\nbob apop s4", 1),
+    ("-x pass s3\n", 1),
+    ("alice pass\n", 2),
+    ("alice PASS s3\n", 2),
+    ("alice pass s3\nalice apop s4\n", 2),
+];
+
+#[test]
+fn accounts_are_read(rt: HostRuntime) -> Result<(), Fail> {
+    for (file, status) in ACCOUNTS {
+        assert_eq!(rt;
+            status_with(rt, rt.alloc(), file.as_bytes())?,
+            *status,
+            "{file}"
+        );
+    }
+    Ok(())
+}
+
+#[test]
+fn a_port_is_in_use(rt: HostRuntime) -> Result<(), Fail> {
+    let alloc = rt.alloc();
+    let mut out = Vec::new(alloc);
+    let port = free_ports(&rt)?;
+    let path = file(&rt, alloc, "good", b"alice pass s3\n")?;
+    let options = options(path.as_str(), port, port.saturating_add(4));
+    let taken = TcpListener::bind(&rt, local(port.saturating_add(2)))?;
+    assert_eq!(rt; serve_run(rt, alloc, &mut out, &options), 1);
+    drop(taken);
+    remove(&rt, path.as_str());
+    assert!(rt; out.is_empty());
+    Ok(())
+}

@@ -1,0 +1,50 @@
+//! What is told of a run, and of what ends it before its end.
+
+use ballot::NodeId;
+use service::{Fault, Verdict};
+use std::test::*;
+
+#[test]
+fn verdicts_are_told(rt: HostRuntime) -> Result<(), Fail> {
+    let node = NodeId::new(9).ok_or("no node")?;
+    for (verdict, line, status) in [
+        (Verdict::Legal, "audit ok\n", 0),
+        (Verdict::NoOrder(node), "audit no order at node 9\n", 1),
+        (
+            Verdict::WrongAnswer(0),
+            "audit wrong answer in session 0\n",
+            1,
+        ),
+        (
+            Verdict::WrongAnswer(1_234),
+            "audit wrong answer in session 1234\n",
+            1,
+        ),
+        (Verdict::Memory, "audit no memory\n", 1),
+    ] {
+        assert_eq!(rt; verdict.line(rt.alloc())?.as_str(), line);
+        assert_eq!(rt; verdict.status(), status);
+    }
+    Ok(())
+}
+
+/// What the program says on standard error, and its exit status.
+const FAULTS: &[(Fault, &str, u8)] = &[
+    (Fault::Value, "bad value", 2),
+    (Fault::Account(12), "accounts line 12", 2),
+    (Fault::NameTwice(2), "accounts line 2: name twice", 2),
+    (Fault::Listen(65_535), "cannot listen on 127.0.0.1:65535", 1),
+    (Fault::Reach(1), "cannot reach 127.0.0.1:1", 1),
+    (Fault::Memory, "no memory", 1),
+    (Fault::Read, "read failed", 1),
+    (Fault::Write, "write failed", 1),
+];
+
+#[test]
+fn faults_are_told(rt: HostRuntime) -> Result<(), Fail> {
+    for (fault, text, status) in FAULTS {
+        assert_eq!(rt; format!(in rt.alloc(); "{fault}")?.as_str(), *text);
+        assert_eq!(rt; fault.status(), *status);
+    }
+    Ok(())
+}
