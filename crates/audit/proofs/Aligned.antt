@@ -1,6 +1,6 @@
 -- Where a script's next entry stands in a session that keeps step.
 use Rattle.std.proofs.Common.{◌≡◌, ℕ, List, [], ◌∷◌, ◌++◌, Option, None, refl, sym, ap, ◌∙◌, subst, inl, inr}
-use Rattle.audit.specs.Case.{Turn, Plain, Asks, Case, key_in}
+use Rattle.audit.specs.Case.{Turn, Plain, Asks, EndsIfHangup, Case, key_in}
 use Rattle.ballot.specs.Lists.{IsIn}
 use Rattle.audit.specs.Right.{IsRight, HasNoLine, AreRight}
 use Rattle.audit.proofs.Basics.{in_left}
@@ -66,7 +66,7 @@ module _ {S I E K O L : Type 0} (a : Case S I E K O L) where
   at_once (Plain l ∷ us) t after h s = absurd s
   at_once (Asks l x k o ∷ us) t after h s = absurd h
 
-  pub right_at : (n : ℕ) (us : List (Turn I K O L)) (l : Option L) (x : I) (k : K) (o : Option O) (after : List (Turn I K O L)) → AreRight a n (us ++ Asks l x k o ∷ after) → IsRight a n x k o × (o ≡ None → HasNoLine a after) × AreRight a n after
+  pub right_at : (n : ℕ) (us : List (Turn I K O L)) (l : Option L) (x : I) (k : K) (o : Option O) (after : List (Turn I K O L)) → AreRight a n (us ++ Asks l x k o ∷ after) → IsRight a n x k o × (o ≡ None → HasNoLine a after) × EndsIfHangup l o after × AreRight a n after
   right_at n [] l x k o after h = h
   right_at n (Plain l' ∷ us) l x k o after h = right_at n us l x k o after h
-  right_at n (Asks l' x' k' o' ∷ us) l x k o after h = right_at n us l x k o after h.2
+  right_at n (Asks l' x' k' o' ∷ us) l x k o after h = right_at n us l x k o after h.3

@@ -2,15 +2,16 @@
 use Rattle.std.proofs.Common.{◌≡◌, ◌⊎◌, ℕ, suc, ◌<◌, ◌≤◌, length, List, [], ◌∷◌, ◌++◌, Bool, true, false, Option, Some, None, refl, sym, ap, ◌∙◌, subst, inl, inr, ⊎_elim, cond, arith, append_assoc}
 use Rattle.std.specs.Prelude.{slice_get, is_some}
 use Rattle.std.proofs.lemmas.Bool.{eq-eqb, and_from, true≢false, cases_eq, cases_lt}
-use Rattle.audit.specs.Case.{Plain, Asks, Case, next, sends_next, state_at, sent_at, asked, key_in, count_in, keys_among, earlier_among}
+use Rattle.audit.specs.Case.{Turn, Plain, Asks, EndsIfHangup, Case, next, sends_next, state_at, sent_at, asked, key_in, count_in, keys_among, earlier_among}
 use Rattle.audit.specs.Placing.{put, was_sent, is_answered, all_answered, message_there, turn_there, is_met, can_place, is_stuck}
 use Rattle.audit.specs.declared.event.Event.{Event}
 use Rattle.audit.specs.declared.event.Event.TheVariants.{Connect, Line, Hangup, Collect, Given, Arrive}
-use Rattle.audit.specs.Order.{Awaited, Session, World, opening, Takes, Submits, IsAt, Says, Happens, Leads, IsNamedOnce, IsLegalOrder}
+use Rattle.audit.specs.Order.{Awaited, awaited_by, Session, World, opening, Takes, Submits, IsAt, Says, Happens, Leads, IsNamedOnce, IsLegalOrder}
 use Rattle.ballot.specs.Lists.{IsIn}
 use Rattle.audit.specs.Laws.{Laws}
 use Rattle.audit.proofs.Basics.{in_right, in_either, all_in, put_here, in_got, all_from, put_each, sent_more, answered_more, sent_from, IsBelow}
 use Rattle.audit.proofs.Earlier.{earlier_is, keys_both}
+use Rattle.audit.proofs.Walk.{awaited_is}
 
 both : (j k : ℕ) → j ≤ k → k ≤ j → j ≡ k
 both j k l h = omega arith
@@ -22,7 +23,7 @@ module _ {S I E K O L : Type 0} (a : Case S I E K O L) where
   -- what always holds of a session
   record GoodSession (p : ℕ → ℕ) (i : ℕ) (s : Session I K O L) : Type 0 where
     script : (n : ℕ) → s.node ≡ Some n → slice_get a.scripts i ≡ Some (Some (s.done ++ s.left))
-    answered : (k : K) → IsIn k (key_in a s.done) → AwaitsKey s.awaits k ⊎ (is_answered a p k ≡ true)
+    answered : (k : K) → IsIn k (key_in a s.done) → AwaitsKey s.awaits k ⊎ ((is_answered a p k ≡ true) ⊎ (s.left ≡ []))
     at_home : (n : ℕ) (y : Awaited K O) → s.node ≡ Some n → s.awaits ≡ Some y → a.home y.key ≡ n
 
   record Good (w : World I E K O L) : Type 0 where
@@ -33,7 +34,7 @@ module _ {S I E K O L : Type 0} (a : Case S I E K O L) where
   session_on laws p q below i s g =
       record {
         script = g.script;
-        answered = λ k h. ⊎_elim (λ l. inl l) (λ r. inr (answered_more a laws p q below k r)) (g.answered k h);
+        answered = λ k h. ⊎_elim (λ l. inl l) (λ r. inr (⊎_elim (λ t. inl (answered_more a laws p q below k t)) (λ t. inr t) r)) (g.answered k h);
         at_home = g.at_home;
       }
 
@@ -94,43 +95,50 @@ module _ {S I E K O L : Type 0} (a : Case S I E K O L) where
       go true h = h
       go false h = absurd (cc)
 
-  -- where a session awaits nothing, all that it asked is answered
-  all_there : (p : ℕ → ℕ) (i : ℕ) (s : Session I K O L) → GoodSession p i s → s.awaits ≡ None → (k : K) → IsIn k (key_in a s.done) → is_answered a p k ≡ true
-  all_there p i s g none k h = ⊎_elim (λ (l : AwaitsKey s.awaits k). absurd (neither l.0 (sym none ∙ l.1))) (λ r. r) (g.answered k h)
+  -- where a session awaits nothing, and has a turn left, all that it asked is answered
+  all_there : (p : ℕ → ℕ) (i : ℕ) (s : Session I K O L) → GoodSession p i s → s.awaits ≡ None → (t : Turn I K O L) (ts : List (Turn I K O L)) → s.left ≡ t ∷ ts → (k : K) → IsIn k (key_in a s.done) → is_answered a p k ≡ true
+  all_there p i s g none t ts more k h =
+      ⊎_elim
+      (λ (l : AwaitsKey s.awaits k). absurd (neither l.0 (sym none ∙ l.1)))
+      (λ r. ⊎_elim (λ (there : is_answered a p k ≡ true). there) (λ (over : s.left ≡ []). absurd (apart t ts (sym more ∙ over))) r)
+      (g.answered k h)
     where
+      apart : (t : Turn I K O L) (ts : List (Turn I K O L)) → t ∷ ts ≡ [] → ⊥
+      apart t ts e = absurd (cc)
+
       neither : (y : Awaited K O) → None ≡ Some y → ⊥
       neither y e = absurd (cc)
 
   submitted : (laws : Laws a) → IsNamedOnce a → (w w' : World I E K O L) (p : ℕ → ℕ) (i n : ℕ) (line : Option L) → ((m : ℕ) → can_place a p m ≡ true → ⊥) → Good w → IsBelow w.placed p → IsAt a w i n → Submits a w i n line w' → Good w' × IsBelow w'.placed p
-  submitted laws once w w' p i n line stuck g below at (x, k, o, ts, left, brings, asks, takes) =
+  submitted laws once w w' p i n line stuck g below at (x, k, o, ts, left, brings, asks, takes, ends) =
       let old = g.sessions_good i in
       let script : slice_get a.scripts i ≡ Some (Some ((w.sessions i).done ++ Asks line x k o ∷ ts)) = subst (λ us. slice_get a.scripts i ≡ Some (Some ((w.sessions i).done ++ us))) left (old.script n at.0) in
       let one : count_in a k (keys_among a a.scripts) ≡ 1 = once n (w.placed n) x k takes.0 asks in
       let first : earlier_among a k a.scripts ≡ Some (key_in a (w.sessions i).done) = earlier_is a laws k a.scripts i (w.sessions i).done ts line x o script one in
-      let there : (key : K) → IsIn key (key_in a (w.sessions i).done) → is_answered a w.placed key ≡ true = all_there w.placed i (w.sessions i) old at.2 in
+      let there : (key : K) → IsIn key (key_in a (w.sessions i).done) → is_answered a w.placed key ≡ true = all_there w.placed i (w.sessions i) old at.2 (Asks line x k o) ts left in
       let placed' = put w.placed n (suc (w.placed n)) in
       let up : IsBelow w.placed placed' = below_put w.placed n in
       let turn : turn_there a p (Some k) ≡ true = ap (all_answered a p) first ∙ all_from (λ key. is_answered a p key) (key_in a (w.sessions i).done) (λ key h. answered_more a laws w.placed p below key (there key h)) in
       let met : Met p (state_at a n (w.placed n)) n x = record { up = takes.1; message = ap (message_there a p n) brings; turn = ap (turn_there a p) asks ∙ turn } in
       let home : a.home k ≡ n = laws.home n (w.placed n) x k takes.0 (asked_key (state_at a n (w.placed n)) x k asks) in
-      let new : GoodSession placed' i (record { node = Some n; done = (w.sessions i).done ++ Asks line x k o ∷ []; left = ts; awaits = Some (record { key = k; outcome = o }) }) =
+      let new : GoodSession placed' i (record { node = Some n; done = (w.sessions i).done ++ Asks line x k o ∷ []; left = ts; awaits = awaited_by line k o }) =
       record {
         script = λ m e. script ∙ ap (λ us. Some (Some us)) (sym (append_assoc (w.sessions i).done (Asks line x k o ∷ []) ts));
         answered = λ key h. ⊎_elim
-            (λ (l : IsIn key (key_in a (w.sessions i).done)). inr (answered_more a laws w.placed placed' up key (there key l)))
-            (λ (r : IsIn key (k ∷ [])). ⊎_elim (λ (e : k ≡ key). inl (record { key = k; outcome = o }, refl, e)) (λ e. absurd e) r)
+            (λ (l : IsIn key (key_in a (w.sessions i).done)). inr (inl (answered_more a laws w.placed placed' up key (there key l))))
+            (λ (r : IsIn key (k ∷ [])). ⊎_elim (λ (e : k ≡ key). awaited_or_over line key o ts e ends) (λ e. absurd e) r)
             (in_either key (key_in a (w.sessions i).done) (k ∷ []) (subst (λ ks. IsIn key ks) (keys_both a (w.sessions i).done (Asks line x k o ∷ [])) h));
-        at_home = λ m y e f. let q : m ≡ n = same_number m n e in let r : y.key ≡ k = same_awaited k y o f in ap a.home r ∙ home ∙ sym q;
+        at_home = λ m y e f. let q : m ≡ n = same_number m n e in let r : y.key ≡ k = sym (ap (λ (z : Awaited K O). z.key) (awaited_is line k o y f)) in ap a.home r ∙ home ∙ sym q;
       } in
       took laws w w' p n x _ stuck g below takes met (put_each (GoodSession placed') w.sessions i _ new (λ j. session_on laws w.placed placed' up j (w.sessions j) (g.sessions_good j)))
     where
       same_number : (m n : ℕ) → Some n ≡ Some m → m ≡ n
       same_number m n e = cc
 
-      same_awaited : (k : K) (y : Awaited K O) (o : Option O) → Some (record { key = k; outcome = o }) ≡ Some y → y.key ≡ k
-      same_awaited k y o e =
-          let f : record { key = k; outcome = o } ≡ y = cc in
-          sym (ap (λ (z : Awaited K O). z.key) f)
+      -- what a line asked is awaited, and after a hangup nothing is left
+      awaited_or_over : (line : Option L) (key : K) (o : Option O) (ts : List (Turn I K O L)) → k ≡ key → EndsIfHangup line o ts → AwaitsKey (awaited_by line k o) key ⊎ ((is_answered a (put w.placed n (suc (w.placed n))) key ≡ true) ⊎ (ts ≡ []))
+      awaited_or_over (Some l) key o ts e ends = inl (record { key = k; outcome = o }, refl, e)
+      awaited_or_over None key o ts e ends = inr (inr ends.1)
 
   step : (laws : Laws a) → IsNamedOnce a → (w w' : World I E K O L) (p : ℕ → ℕ) (e : Event) → ((m : ℕ) → can_place a p m ≡ true → ⊥) → Good w → IsBelow w.placed p → Happens a w e w' → Good w' × IsBelow w'.placed p
   step laws once w w' p (Connect i number) stuck g below (n, named, ts, at, inside, fresh, up, is) =
@@ -142,6 +150,7 @@ module _ {S I E K O L : Type 0} (a : Case S I E K O L) where
       ⊎_elim
       (λ (said : (l : L) × Says a w i n l w').
       let l = said.0 in
+      let says_what = said.0 in
       let says = said.1 in
       let ts = says.0 in
       let old = g.sessions_good i in
@@ -150,7 +159,7 @@ module _ {S I E K O L : Type 0} (a : Case S I E K O L) where
       let new : GoodSession w.placed i s = record {
         script = λ m e. script ∙ ap (λ us. Some (Some us)) (sym (append_assoc (w.sessions i).done (Plain l ∷ []) ts));
         answered = λ key k. ⊎_elim
-            (λ (l : IsIn key (key_in a (w.sessions i).done)). inr (all_there w.placed i (w.sessions i) old at.2 key l))
+            (λ (l : IsIn key (key_in a (w.sessions i).done)). inr (inl (all_there w.placed i (w.sessions i) old at.2 (Plain says_what) ts says.1 key l)))
             (λ (r : IsIn key []). absurd r)
             (in_either key (key_in a (w.sessions i).done) [] (subst (λ ks. IsIn key ks) (keys_both a (w.sessions i).done (Plain l ∷ [])) k));
         at_home = λ m y e f. absurd (cc);
@@ -169,7 +178,7 @@ module _ {S I E K O L : Type 0} (a : Case S I E K O L) where
       let new : GoodSession w.placed i s = record {
         script = λ m e. old.script n node;
         answered = λ key k. ⊎_elim
-            (λ (l : AwaitsKey (w.sessions i).awaits key). inr (subst (λ z. is_answered a w.placed z ≡ true) (same y l.0 key (sym awaits ∙ l.1) l.2) there))
+            (λ (l : AwaitsKey (w.sessions i).awaits key). inr (inl (subst (λ z. is_answered a w.placed z ≡ true) (same y l.0 key (sym awaits ∙ l.1) l.2) there)))
             (λ r. inr r)
             (old.answered key k);
         at_home = λ m z e f. absurd (cc);

@@ -114,7 +114,7 @@ module _ {S I E K O L : Type 0} (a : Case S I E K O L) (laws : Laws a) where
   are_right n seen (Plain l ∷ ts) g s once = are_right n seen ts g s once
   are_right n seen (Asks l x k o ∷ ts) g s once =
       let p = and_parts (is_good a n seen x k o) (are_good a n (k ∷ seen) ts) g in
-      (is_right n seen x k o p.0 s.0 s.1 (once k (inl refl)), s.2, are_right n (k ∷ seen) ts p.1 s.3 (λ k' h. once k' (inr h)))
+      (is_right n seen x k o p.0 s.0 s.1 (once k (inl refl)), s.2, s.3, are_right n (k ∷ seen) ts p.1 s.4 (λ k' h. once k' (inr h)))
 
   good_at : (i : ℕ) (seen : List K) (ss : List (Option (List (Turn I K O L)))) → first_wrong a i seen ss ≡ None → (j : ℕ) (s : Option (List (Turn I K O L))) → slice_get ss j ≡ Some s → (seen' : List K) × (are_good a (node_of a (turns_of a s)) seen' (turns_of a s) ≡ true)
   good_at i seen [] = λ h j s e. absurd (cc)

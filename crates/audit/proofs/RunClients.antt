@@ -98,9 +98,15 @@ module _ {A : Type 0} (accounts : List Account) (stamp : Stamp) (t : Transcript 
     pub its_tickets : c.tickets ≡ line_tickets t.asked
     pub its_replies : IsPrefix all_told c.replies
 
+  -- a session that awaits an answer of which its transcript tells nothing
+  pub record AwaitsMore (up : Type 0) (left : Turns A) (key : CommandId) (c : Client A) : Type 0 where
+    pub state : State A
+    pub over : IsDone left c
+    pub stands : up → c.standing ≡ Waits state key
+
   abbrev pub StandsFor : Type 0 → Turns A → CommandId → Client A → Option (Outcome A) → Type 0
-  StandsFor up left key c None = IsDone left c
-  StandsFor up left key c (Some outcome) = AwaitsIt up left key outcome c ⊎ IsDone left c
+  StandsFor up left key c None = AwaitsMore up left key c
+  StandsFor up left key c (Some outcome) = AwaitsIt up left key outcome c ⊎ AwaitsMore up left key c
 
   abbrev pub StandsAs : Type 0 → Turns A → Option (Awaited CommandId (Outcome A)) → Client A → Type 0
   StandsAs up left None c = Goes up left c ⊎ IsDone left c
@@ -141,14 +147,17 @@ module _ {A : Type 0} (accounts : List Account) (stamp : Stamp) (t : Transcript 
     stands = λ h. g.stands (before h);
   }
 
+  more_later : (up later : Type 0) → (later → up) → (left : Turns A) (key : CommandId) (c : Client A) → AwaitsMore up left key c → AwaitsMore later left key c
+  more_later up later before left key c g = record { state = g.state; over = g.over; stands = λ h. g.stands (before h) }
+
   pub stands_later : (up later : Type 0) → (later → up) → (left : Turns A) (awaits : Option (Awaited CommandId (Outcome A))) (c : Client A) → StandsAs up left awaits c → StandsAs later left awaits c
   stands_later up later before left None c h = ⊎_elim (λ g. inl (goes_later up later before left c g)) (λ d. inr d) h
   stands_later up later before left (Some y) c h =
       go y.outcome h
     where
       go : (outcome : Option (Outcome A)) → StandsFor up left y.key c outcome → StandsFor later left y.key c outcome
-      go None d = d
-      go (Some outcome) d = ⊎_elim (λ g. inl (awaits_later up later before left y.key outcome c g)) (λ e. inr e) d
+      go None d = more_later up later before left y.key c d
+      go (Some outcome) d = ⊎_elim (λ g. inl (awaits_later up later before left y.key outcome c g)) (λ e. inr (more_later up later before left y.key c e)) d
 
   -- however it stands where its node is down
   goes_down : (up later : Type 0) → (later → ⊥) → (left : Turns A) (c : Client A) (standing : Standing A) → Goes up left c → Goes later left (standing_as c standing)
@@ -188,14 +197,17 @@ module _ {A : Type 0} (accounts : List Account) (stamp : Stamp) (t : Transcript 
   done_as : (left : Turns A) (c : Client A) (standing : Standing A) → IsDone left c → IsDone left (standing_as c standing)
   done_as left c standing d = record { no_turn = d.no_turn; its_lines = d.its_lines; its_tickets = d.its_tickets; its_replies = d.its_replies }
 
+  more_down : (up later : Type 0) → (later → ⊥) → (left : Turns A) (key : CommandId) (c : Client A) (standing : Standing A) → AwaitsMore up left key c → AwaitsMore later left key (standing_as c standing)
+  more_down up later down left key c standing g = record { state = g.state; over = done_as left c standing g.over; stands = λ h. absurd (down h) }
+
   pub stands_down : (up later : Type 0) → (later → ⊥) → (left : Turns A) (awaits : Option (Awaited CommandId (Outcome A))) (c : Client A) (standing : Standing A) → StandsAs up left awaits c → StandsAs later left awaits (standing_as c standing)
   stands_down up later down left None c standing h = ⊎_elim (λ g. inl (goes_down up later down left c standing g)) (λ d. inr (done_as left c standing d)) h
   stands_down up later down left (Some y) c standing h =
       go y.outcome h
     where
       go : (outcome : Option (Outcome A)) → StandsFor up left y.key c outcome → StandsFor later left y.key (standing_as c standing) outcome
-      go None d = done_as left c standing d
-      go (Some outcome) d = ⊎_elim (λ g. inl (awaits_down up later down left y.key outcome c standing g)) (λ e. inr (done_as left c standing e)) d
+      go None d = more_down up later down left y.key c standing d
+      go (Some outcome) d = ⊎_elim (λ g. inl (awaits_down up later down left y.key outcome c standing g)) (λ e. inr (more_down up later down left y.key c standing e)) d
 
   -- what is told behind what was told
   told_more : (replies bytes : List ℕ) (rest all : List (List ℕ)) → all ≡ bytes ∷ rest → replies ++ concat all ≡ all_told → (replies ++ bytes) ++ concat rest ≡ all_told
@@ -332,9 +344,12 @@ module _ {A : Type 0} (accounts : List Account) (stamp : Stamp) (t : Transcript 
             its_replies = told_all c.replies _ a.replies g.its_replies;
           }
 
+          more : AwaitsMore later left key (asking (with_line c line) key.ticket (Waits (by_line accounts stamp g.state line).state key))
+          more = record { state = (by_line accounts stamp g.state line).state; over = done; stands = λ h. refl }
+
           at : (o : Option (Outcome A)) → StandsFor later left key (asking (with_line c line) key.ticket (Waits (by_line accounts stamp g.state line).state key)) o
-          at None = done
-          at (Some o) = inr done
+          at None = more
+          at (Some o) = inr more
 
       on : (a : AsksOn accounts stamp g.number g.lines g.entries g.hangup g.state) → line ≡ a.line → x ≡ Submit a.user a.op → key ≡ record { user = a.user; ticket = a.ticket } → outcome ≡ Some a.outcome → left ≡ turns_left (g.number + 1) a.more a.behind g.hangup → AsksLine later line x key outcome left c
       on a line_is input key_is outcome_is rest =
@@ -375,40 +390,40 @@ module _ {A : Type 0} (accounts : List Account) (stamp : Stamp) (t : Transcript 
           on a (cc) (cc) (cc) (cc) (cc)
 
   -- A hangup that gives the lock back
-  pub record HangsUp (later : Type 0) (x : Input A) (key : CommandId) (outcome : Option (Outcome A)) (left : Turns A) (c : Client A) : Type 0 where
+  pub record HangsUp (x : Input A) (left : Turns A) (c : Client A) : Type 0 where
     pub state : State A
     pub user : List ℕ
     pub lock : Ticket
     pub hearing : c.standing ≡ Hears state
     pub due : lock_due state ≡ Some (user, lock)
     pub input : x ≡ Submit user (Free lock)
-    pub stands : StandsFor later left key (standing_as c Over) outcome
+    pub over : IsDone left (standing_as c Over)
 
-  pub hangs_up : (up later : Type 0) (x : Input A) (key : CommandId) (outcome : Option (Outcome A)) (left : Turns A) (c : Client A) → up → Goes up (Asks None x key outcome ∷ left) c → HangsUp later x key outcome left c
-  hangs_up up later x key outcome left c is g =
+  pub hangs_up : (up : Type 0) (x : Input A) (key : CommandId) (outcome : Option (Outcome A)) (left : Turns A) (c : Client A) → up → Goes up (Asks None x key outcome ∷ left) c → HangsUp x left c
+  hangs_up up x key outcome left c is g =
       go (next accounts stamp g.number g.lines g.entries g.hangup g.state g.rest)
     where
-      frees : (f : Frees accounts stamp g.number g.lines g.entries g.hangup g.state) → x ≡ Submit f.user (Free f.lock) → outcome ≡ None → left ≡ [] → HangsUp later x key outcome left c
-      frees f input outcome_is none = record {
+      frees : (f : Frees accounts stamp g.number g.lines g.entries g.hangup g.state) → x ≡ Submit f.user (Free f.lock) → left ≡ [] → HangsUp x left c
+      frees f input none = record {
         state = g.state;
         user = f.user;
         lock = f.lock;
         hearing = g.stands is ∙ in_hearing g.state f.heard;
         due = f.due;
         input = input;
-        stands = subst (StandsFor later left key (standing_as c Over)) (sym outcome_is) (record {
+        over = record {
           no_turn = none;
           its_lines = inl (sym g.its_lines ∙ ap (λ ls. c.lines ++ ls) f.no_line ∙ append-nil c.lines);
           its_tickets = sym (append-nil c.tickets) ∙ ap (λ ts. c.tickets ++ ts) (sym f.tickets) ∙ g.its_tickets;
           its_replies = told_all c.replies _ f.replies g.its_replies;
-        });
+        };
       }
 
-      go : Next accounts stamp g.number g.lines g.entries g.hangup g.state → HangsUp later x key outcome left c
+      go : Next accounts stamp g.number g.lines g.entries g.hangup g.state → HangsUp x left c
       go (rests.Over o) = let no : Asks None x key outcome ∷ left ≡ [] = g.turns ∙ o.turns in absurd (cc)
       go (rests.Freed f) =
           let both : Asks None x key outcome ∷ left ≡ asks_then None f.user (Free f.lock) f.ticket None [] = g.turns ∙ f.turns in
-          frees f (cc) (cc) (cc)
+          frees f (cc) (cc)
       go (rests.Said s) = let no : Asks None x key outcome ∷ left ≡ Plain s.line ∷ turns_left (g.number + 1) s.more g.entries g.hangup = g.turns ∙ s.turns in absurd (cc)
       go (rests.AskedLast a) = let no : Asks None x key outcome ∷ left ≡ asks_then (Some a.line) a.user a.op a.ticket a.outcome [] = g.turns ∙ a.turns in absurd (cc)
       go (rests.AskedOn a) = let no : Asks None x key outcome ∷ left ≡ asks_then (Some a.line) a.user a.op a.ticket (Some a.outcome) (turns_left (g.number + 1) a.more a.behind g.hangup) = g.turns ∙ a.turns in absurd (cc)

@@ -1,4 +1,4 @@
--- What each happening makes of a service.
+-- What each happening makes of a service, and when it can happen.
 use Rattle.std.proofs.Common.{◌≡◌, ℕ, List, [], ◌∷◌, Bool, true, false, Option, Some, None, refl, sym, ap, ◌∙◌, cond, eqb}
 use Rattle.std.proofs.lemmas.Bool.{eqb-true, eq-eqb, ne_eqb, true≢false}
 use Rattle.apop.specs.Stamp.{Stamp}
@@ -14,8 +14,9 @@ use Rattle.session.specs.Session.{lock_due, free_of, by_line, by_answer}
 use Rattle.session.specs.declared.state.State.{State}
 use Rattle.session.specs.declared.state.Step.{Step}
 use Rattle.session.specs.declared.state.Step.TheVariants.{Say, Ask, SayAndClose}
-use Rattle.world.specs.Clients.{Standing, Hears, Waits, Shut, Stranded, Over, Client, new_client, standing_as, told, with_line, asking, client_of, with_client, without_node, all_without_node}
+use Rattle.world.specs.Clients.{Standing, Hears, Waits, Over, Client, new_client, standing_as, told, with_line, asking, client_of, with_client, without_node, all_without_node}
 use Rattle.world.specs.Messages.{log_of, is_up}
+use Rattle.world.specs.Refusals.{unless_down, node_refusal, connect_refusal, line_refusal, hangup_refusal, busy_without, collect_refusal, client_refusal, refusal_of}
 use Rattle.world.specs.Services.{Service, keeps, submits, if_up, if_served, connects, next_id, after_line, hears_line, by_turn, takes_answer, collects, gives_back, hangs_up, crashes, occurs}
 use Rattle.world.specs.declared.config.Config.{Config}
 use Rattle.world.specs.declared.event.Event.TheVariants as event
@@ -76,17 +77,12 @@ module _ {A : Type 0} where
         → occurs cfg v (event.Connect s node stamp) ≡ keeps v s (new_client node stamp)
     connects_new node stamp log its up none = up_acts node _ log its up ∙ ap (connects v s (new_client node stamp)) none
 
-    pub connects_again : (node : ℕ) (stamp : Stamp) (c : Client A) → client_of s v.clients ≡ Some c → occurs cfg v (event.Connect s node stamp) ≡ v
-    connects_again node stamp c found =
-        go (log_of node v.network.logs)
-      where
-        once : (log : NodeLog A) (t : Bool) → cond t (connects v s (new_client node stamp) (client_of s v.clients)) v ≡ v
-        once log true = ap (connects v s (new_client node stamp)) found
-        once log false = refl
+    -- what a node that is up takes
+    pub node_can : (node : ℕ) (log : NodeLog A) → log_of node v.network.logs ≡ Some log → is_up (Some log) ≡ true → node_refusal v node ≡ None
+    node_can node log its up = ap (λ o. unless_down o None) its ∙ rw up refl
 
-        go : (o : Option (NodeLog A)) → if_up v o (λ log. connects v s (new_client node stamp) (client_of s v.clients)) ≡ v
-        go None = refl
-        go (Some log) = once log (is_up (Some log))
+    pub connect_can : (node : ℕ) (stamp : Stamp) (log : NodeLog A) → log_of node v.network.logs ≡ Some log → is_up (Some log) ≡ true → client_of s v.clients ≡ None → refusal_of v (event.Connect s node stamp) ≡ None
+    connect_can node stamp log its up none = ap (connect_refusal v node) none ∙ node_can node log its up
 
     pub crashes_up : (node : ℕ) (log : NodeLog A) → log_of node v.network.logs ≡ Some log → is_up (Some log) ≡ true → occurs cfg v (event.Crash node) ≡ crashes v node log
     crashes_up node log its up = up_acts node (crashes v node) log its up
@@ -125,25 +121,18 @@ module _ {A : Type 0} where
           served (λ c log. collects v s c log c.standing) ∙ ap (collects v s c log) standing
           ∙ ap (takes_answer v s c state id.ticket) e
 
-      -- whatever it stands at, it takes an answer, or nothing changes
-      pub data Collected : Type 0 where
-        Unchanged : occurs cfg v (event.Collect s) ≡ v → Collected
-        Took : (state : State A) (id : CommandId) (outcome : Outcome A) → occurs cfg v (event.Collect s) ≡ keeps v s (by_turn c (by_answer state id.ticket outcome)) → Collected
+      -- and what its session takes
+      pub line_can : (line : Line) (state : State A) → c.standing ≡ Hears state → refusal_of v (event.Line s line) ≡ None
+      line_can line state standing =
+          ap (λ o. client_refusal v o line_refusal) found ∙ ap (λ o. line_refusal o c.standing) its
+          ∙ ap (line_refusal (Some log)) standing ∙ rw up refl
 
-      pub collected : Collected
-      collected =
-          go c.standing refl
-        where
-          acts : (standing : Standing A) → c.standing ≡ standing → occurs cfg v (event.Collect s) ≡ collects v s c log standing
-          acts standing e = served (λ c log. collects v s c log c.standing) ∙ ap (collects v s c log) e
+      pub hangup_can : (state : State A) → c.standing ≡ Hears state → refusal_of v (event.Hangup s) ≡ None
+      hangup_can state standing =
+          ap (λ o. client_refusal v o hangup_refusal) found ∙ ap (λ o. hangup_refusal o c.standing) its
+          ∙ ap (hangup_refusal (Some log)) standing ∙ rw up refl
 
-          waiting : (state : State A) (id : CommandId) → c.standing ≡ Waits state id → (o : Option (Outcome A)) → answered log id ≡ o → Collected
-          waiting state id e None f = Unchanged (acts (Waits state id) e ∙ ap (takes_answer v s c state id.ticket) f)
-          waiting state id e (Some outcome) f = Took state id outcome (answer_taken state id outcome e f)
-
-          go : (standing : Standing A) → c.standing ≡ standing → Collected
-          go (Waits state id) e = waiting state id e (answered log id) refl
-          go (Hears state) e = Unchanged (acts (Hears state) e)
-          go (Shut lock) e = Unchanged (acts (Shut lock) e)
-          go Stranded e = Unchanged (acts Stranded e)
-          go Over e = Unchanged (acts Over e)
+      pub collect_can : (state : State A) (id : CommandId) (outcome : Outcome A) → c.standing ≡ Waits state id → answered log id ≡ Some outcome → refusal_of v (event.Collect s) ≡ None
+      collect_can state id outcome standing e =
+          ap (λ o. client_refusal v o collect_refusal) found ∙ ap (λ o. collect_refusal o c.standing) its
+          ∙ ap (collect_refusal (Some log)) standing ∙ ap (λ o. unless_down (Some log) (busy_without o)) e ∙ rw up refl

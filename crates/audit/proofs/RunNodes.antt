@@ -17,7 +17,8 @@ use Rattle.node.specs.declared.log.NodeLog.{NodeLog}
 use Rattle.node.specs.declared.log.Opening.{Opening}
 use Rattle.session.specs.declared.transcript.Transcript.{Transcript}
 use Rattle.world.specs.Messages.{Network, log_of, is_up, newly_sent, taken_by, takes, with_arrival, arrives, new_logs, new_network, envelopes}
-use Rattle.world.specs.Services.{opening_of}
+use Rattle.world.specs.Refusals.{node_refusal, arrival_refusal}
+use Rattle.world.specs.Services.{Service, opening_of}
 use Rattle.world.specs.declared.config.Config.{Config}
 use Rattle.world.specs.declared.sent.Sent.{Sent}
 use Rattle.world.proofs.Logs.{log_same, log_other, arrival_alike, envelopes_more}
@@ -226,3 +227,25 @@ module _ {A : Type 0} (cfg : Config A) (logs : List (NodeLog A)) (transcripts : 
           ∙ ap (takes (record { logs = net.logs; sent = with_arrival which net.sent }) (number_of (place_of e.to logs))) (sym (brought_is x e brings))) in
           subst (AreAt (one_more placed (place_of e.to logs)) (sent ++ sends (state_at real (place_of e.to logs) (placed (place_of e.to logs))) x)) (sym moved)
           (takes_at placed sent (record { logs = net.logs; sent = with_arrival which net.sent }) again_at (place_of e.to logs) x comes up)
+
+  -- it can arrive
+  pub arrival_can : (placed : ℕ → ℕ) (sent : List (Envelope (Command A) A)) (v : Service A) → AreAt placed sent v.network → (which : ℕ) (e : Envelope (Command A) A) → slice_get sent which ≡ Some e → Up placed (place_of e.to logs)
+      → arrival_refusal v (slice_get v.network.sent which) ≡ None
+  arrival_can placed sent v at which e was up =
+      go (slice_get v.network.sent which) refl
+    where
+      its : (log : NodeLog A) × (slice_get logs (place_of e.to logs) ≡ Some log)
+      its = has_log placed sent v.network at (place_of e.to logs) up
+
+      there : is_up (log_of e.to v.network.logs) ≡ true
+      there = ap (λ k. is_up (log_of k v.network.logs)) (sym (ap number_in its.1 ∙ placed_number logs e.to its.0 its.1)) ∙ is_there placed sent v.network at (place_of e.to logs) up
+
+      found_is : (found : Option (Sent A)) → slice_get v.network.sent which ≡ found → option_map (λ (s : Sent A). s.envelope) found ≡ Some e
+      found_is found f = sym (ap (option_map (λ (s : Sent A). s.envelope)) f) ∙ sym (slice_get-map (λ (s : Sent A). s.envelope) v.network.sent which) ∙ ap (λ es. slice_get es which) at.messages ∙ was
+
+      go : (found : Option (Sent A)) → slice_get v.network.sent which ≡ found → arrival_refusal v found ≡ None
+      go None f = let none : None ≡ Some e = found_is None f in absurd (cc)
+      go (Some s) f =
+          let some : Some s.envelope ≡ Some e = found_is (Some s) f in
+          let same : s.envelope ≡ e = cc in
+          ap (λ (g : Envelope (Command A) A). node_refusal v g.to) same ∙ rw there refl

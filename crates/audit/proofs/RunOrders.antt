@@ -1,11 +1,10 @@
 -- A legal order is a run.
-use Rattle.std.proofs.Common.{◌≡◌, ℕ, zero, suc, ◌<◌, ◌≤◌, length, take, List, [], ◌∷◌, ◌++◌, true, Option, Some, None, refl, sym, ap, ◌∙◌, subst, ⊎_elim, cond, arith}
-use Rattle.std.specs.Prelude.{slice_get, option_map, ◌&&◌, fold}
+use Rattle.std.proofs.Common.{◌≡◌, ℕ, zero, suc, ◌<◌, ◌≤◌, length, take, List, [], ◌∷◌, ◌++◌, map, true, Option, Some, None, refl, sym, ap, ◌∙◌, subst, ⊎_elim, cond, arith}
+use Rattle.std.specs.Prelude.{Result, Ok, Err, IfOk, slice_get, option_map, ◌&&◌, fold, IsSome}
 use Rattle.std.specs.List.{concat}
-use Rattle.std.proofs.lemmas.Bool.{eq-eqb, cases_eq, cases_lt}
+use Rattle.std.proofs.lemmas.Bool.{eq-eqb, true≢false}
 use Rattle.std.proofs.lemmas.List.{append-nil, take_all}
-use Rattle.std.proofs.lemmas.List.Sums.{fold-append}
-use Rattle.std.proofs.lemmas.Option.{slice_get-map, slice_get_past}
+use Rattle.std.proofs.lemmas.Option.{slice_get-map}
 use Rattle.apop.specs.Stamp.{Stamp}
 use Rattle.maildrop.specs.CommandId.{CommandId}
 use Rattle.maildrop.specs.declared.outcome.Outcome.{Outcome}
@@ -17,12 +16,14 @@ use Rattle.session.specs.declared.transcript.End.{End}
 use Rattle.session.specs.declared.transcript.End.TheVariants as end
 use Rattle.session.specs.declared.transcript.Transcript.{Transcript}
 use Rattle.session.proofs.Runs.{prefix_behind}
-use Rattle.world.specs.Clients.{Client, new_client, client_of, with_client}
+use Rattle.world.specs.Clients.{Client, client_of}
 use Rattle.world.specs.Messages.{log_of}
 use Rattle.world.specs.Projection.{own_commands, alone_bytes}
-use Rattle.world.specs.Services.{Service, Happening, Occurs, opening_of, happens, run_of}
+use Rattle.world.specs.Services.{Service, Happening, Occurs, new_service, opening_of, occurs, happens, run_of}
+use Rattle.world.specs.Settling.{ran}
+use Rattle.world.specs.Worlds.{World as Whole, new_world, stepped}
 use Rattle.world.specs.declared.config.Config.{Config}
-use Rattle.world.specs.declared.event.Event.TheVariants as happening
+use Rattle.world.specs.declared.event.Event as run
 use Rattle.world.proofs.Logs.{new_log_of}
 use Rattle.world.proofs.Prefixes.{all_of, prefix_on, concat_append}
 use Rattle.world.proofs.Projected.{every_projected}
@@ -30,13 +31,12 @@ use Rattle.audit.specs.Case.{next, after_next, state_at}
 use Rattle.audit.specs.Order.{Awaited, Ends, NothingAwaited, SessionEnds, IsLegalOrder, opening}
 use Rattle.audit.specs.Records.{place_of, inputs_in, number_in, begun_at, RealCase, case_of, AreFit}
 use Rattle.audit.specs.Replays.{runs}
-use Rattle.audit.specs.Runs.{AreOfService, AreItsLines, IsClientOf, IsRunOf, AreCounted, AreSaidAlone, line_tickets}
+use Rattle.audit.specs.Runs.{AreOfService, AreItsLines, IsClientOf, IsRunOf, IsTaken, AreCounted, AreSaidAlone, line_tickets}
 use Rattle.audit.specs.Turns.{Turns, turns_from, is_empty, script_of}
 use Rattle.audit.specs.declared.event.Event.{Event}
-use Rattle.audit.proofs.RunClients.{Goes, IsDone, StandsFor, StandsAs, at_end}
-use Rattle.audit.proofs.RunHappenings.{client_put, client_other, connects_new}
-use Rattle.audit.proofs.RunNodes.{AreAt, at_first}
-use Rattle.audit.proofs.RunSteps.{OrderSession, OrderWorld, IsSession, AtNode, ByScript, IsFollowed, Follows, steps, greeted}
+use Rattle.audit.proofs.RunClients.{Goes, AwaitsMore, IsDone, StandsFor, StandsAs, at_end}
+use Rattle.audit.proofs.RunNodes.{at_first}
+use Rattle.audit.proofs.RunSteps.{OrderSession, OrderWorld, IsSession, AtNode, ByScript, Follows, steps}
 
 -- lists
 got_some : {X : Type 0} (xs : List X) (k : ℕ) → k < length xs → (x : X) × (slice_get xs k ≡ Some x)
@@ -79,86 +79,17 @@ module _ {A : Type 0} (cfg : Config A) (stamps : ℕ → Stamp) (logs : List (No
   abbrev unborn : OrderSession A
   unborn = record { node = None; done = []; left = []; awaits = None }
 
-  abbrev Followed : (ℕ → ℕ) → ℕ → OrderSession A → Option (Client A) → Type 0
-  Followed = IsFollowed cfg stamps logs transcripts fit service
-
   abbrev By : (ℕ → ℕ) → ℕ → OrderSession A → Option (Client A) → Option (Option (Turns A)) → Type 0
   By = ByScript cfg stamps logs transcripts fit service
 
-  -- Sessions without turns are greeted first
-
-  abbrev greet : ℕ → Option (Option (Turns A)) → List (Happening A)
-  greet i None = []
-  greet i (Some None) = []
-  greet i (Some (Some [])) = Occurs (happening.Connect (suc i) (number_of 0) (stamps i)) ∷ []
-  greet i (Some (Some (turn ∷ turns))) = []
-
-  abbrev greets : ℕ → List (Happening A)
-  greets zero = []
-  greets (suc m) = greets m ++ greet m (slice_get real.scripts m)
-
-  first_log : (log : NodeLog A) × (slice_get logs 0 ≡ Some log)
-  first_log = got_some logs 0 fit.some
-
-  first_begun : state_at real 0 0 ≡ Some (record { opening = first_log.0.opening; inputs = [] })
-  unfolding first_log
-  first_begun =
-      let its = fit.openings 0 first_log.0 first_log.1 in
-      ap (begun_at logs 0) first_log.1 ∙ rw (its.0, eq-eqb (place_of first_log.0.opening.me logs) 0 its.1) refl
-
-  -- the first m sessions are seen to
-  record AreGreeted (m : ℕ) (v : Service A) : Type 0 where
-    nodes : AreAt cfg logs transcripts fit service.openings none_placed [] v.network
-    past : (i : ℕ) → i < m → Followed none_placed i unborn (client_of (suc i) v.clients)
-    ahead : (i : ℕ) → m ≤ i → client_of (suc i) v.clients ≡ None
-
-  past_one : (m : ℕ) (P : ℕ → Type 0) → P m → ((i : ℕ) → i < m → P i) → (i : ℕ) → i < suc m → P i
-  past_one m P here past i below =
-      ⊎_elim (λ (e : i ≡ m). subst P (sym e) here) (λ ne. past i (grind (arith, below, ne))) (cases_eq i m)
-
-  greets_one : (m : ℕ) (v : Service A) → AreGreeted m v → (script : Option (Option (Turns A))) → slice_get real.scripts m ≡ script → AreGreeted (suc m) (fold (happens cfg) v (greet m script))
-  greets_one m v g script e =
-      go script e
-    where
-      quiet : (script : Option (Option (Turns A))) → slice_get real.scripts m ≡ script → By none_placed m unborn (client_of (suc m) v.clients) script → AreGreeted (suc m) v
-      quiet script e here = record {
-        nodes = g.nodes;
-        past = past_one m (λ i. Followed none_placed i unborn (client_of (suc i) v.clients)) (subst (By none_placed m unborn (client_of (suc m) v.clients)) (sym e) here) g.past;
-        ahead = λ i above. g.ahead i (omega (arith, above));
-      }
-
-      go : (script : Option (Option (Turns A))) → slice_get real.scripts m ≡ script → AreGreeted (suc m) (fold (happens cfg) v (greet m script))
-      go None e = quiet None e (refl, refl)
-      go (Some None) e = quiet (Some None) e (refl, refl)
-      go (Some (Some (turn ∷ turns))) e = quiet (Some (Some (turn ∷ turns))) e (g.ahead m (omega arith), refl)
-      go (Some (Some [])) e =
-          subst (AreGreeted (suc m)) (sym (connects_new cfg v (suc m) (number_of 0) (stamps m) (record { opening = first_log.0.opening; inputs = [] }) (g.nodes.nodes 0 ∙ first_begun) refl (g.ahead m (omega arith))))
-          (record {
-            nodes = g.nodes;
-            past = past_one m (λ i. Followed none_placed i unborn (client_of (suc i) (with_client (suc m) (new_client (number_of 0) (stamps m)) v.clients)))
-                (subst (By none_placed m unborn (client_of (suc m) (with_client (suc m) (new_client (number_of 0) (stamps m)) v.clients))) (sym e)
-                ((refl, refl), subst (IsSession cfg stamps logs transcripts fit service none_placed m 0 [] None) (sym (client_put (suc m) (new_client (number_of 0) (stamps m)) v.clients)) (greeted cfg stamps logs transcripts fit service none_placed m 0 [] e)))
-                (λ i below. subst (Followed none_placed i unborn) (sym (client_other (suc m) (suc i) (new_client (number_of 0) (stamps m)) v.clients (λ q. omega (arith, below, q)))) (g.past i below));
-            ahead = λ i above. client_other (suc m) (suc i) (new_client (number_of 0) (stamps m)) v.clients (λ q. omega (arith, above, q)) ∙ g.ahead i (omega (arith, above));
-          })
-
-  all_greeted : (m : ℕ) → AreGreeted m (run_of cfg (greets m))
-  all_greeted zero = record { nodes = at_first cfg logs transcripts fit service.openings; past = λ i below. absurd (omega (arith, below)); ahead = λ i above. refl }
-  all_greeted (suc m) =
-      subst (AreGreeted (suc m)) (sym (fold-append (happens cfg) _ (greets m) (greet m (slice_get real.scripts m)))) (greets_one m (run_of cfg (greets m)) (all_greeted m) (slice_get real.scripts m) refl)
-
-  begun : Follows cfg stamps logs transcripts fit service (opening real) (run_of cfg (greets (length transcripts)))
+  begun : Follows cfg stamps logs transcripts fit service (opening real) (new_service cfg)
   begun =
-      record {
-        nodes = g.nodes;
-        sessions = λ i. ⊎_elim (λ below. g.past i below) (λ above. subst (By none_placed i unborn (client_of (suc i) (run_of cfg (greets (length transcripts))).clients)) (sym (none i above)) (refl, refl)) (cases_lt i (length transcripts));
-      }
+      record { nodes = at_first cfg logs transcripts fit service.openings; sessions = λ i. unborn_at i (slice_get real.scripts i) }
     where
-      g : AreGreeted (length transcripts) (run_of cfg (greets (length transcripts)))
-      g = all_greeted (length transcripts)
-
-      none : (i : ℕ) → length transcripts ≤ i → slice_get real.scripts i ≡ None
-      none i above = slice_get-map script_of transcripts i ∙ ap (option_map script_of) (slice_get_past transcripts i above)
+      unborn_at : (i : ℕ) (script : Option (Option (Turns A))) → By none_placed i unborn None script
+      unborn_at i None = (refl, refl)
+      unborn_at i (Some None) = (refl, refl)
+      unborn_at i (Some (Some turns)) = (refl, refl)
 
   -- Where the order ends
 
@@ -194,7 +125,8 @@ module _ {A : Type 0} (cfg : Config A) (stamps : ℕ → Stamp) (logs : List (No
       (λ d. d)
       (subst (λ u. StandsAs cfg.accounts stamp t up u None c) e h)
   finished up stamp t left (Some y) c e nothing h =
-      subst (λ u. IsDone cfg.accounts stamp t u c) e (subst (StandsFor cfg.accounts stamp t up left y.key c) nothing h)
+      let m : AwaitsMore cfg.accounts stamp t up left y.key c = subst (StandsFor cfg.accounts stamp t up left y.key c) nothing h in
+      subst (λ u. IsDone cfg.accounts stamp t u c) e m.over
 
   abbrev ItsClient : Service A → ℕ → Transcript A → Type 0
   ItsClient v i t = (c : Client A) × (client_of (suc i) v.clients ≡ Some c) × IsClientOf cfg (stamps i) t c
@@ -209,15 +141,12 @@ module _ {A : Type 0} (cfg : Config A) (stamps : ℕ → Stamp) (logs : List (No
 
   its_client : (w : OrderWorld A) (v : Service A) → Follows cfg stamps logs transcripts fit service w v → (i : ℕ) (t : Transcript A) → slice_get transcripts i ≡ Some t → (turns : Turns A) → slice_get real.scripts i ≡ Some (Some turns)
       → SessionEnds real (Some (Some turns)) (w.sessions i) → ItsClient v i t
-  its_client w v f i t its [] script ends =
-      let h : By w.placed i (w.sessions i) (client_of (suc i) v.clients) (Some (Some [])) = subst (By w.placed i (w.sessions i) (client_of (suc i) v.clients)) script (f.sessions i) in
-      found_client w.placed v i 0 t [] None its refl tt h.1
-  its_client w v f i t its (turn ∷ turns) script ends =
-      go (w.sessions i).node (subst (By w.placed i (w.sessions i) (client_of (suc i) v.clients)) script (f.sessions i))
+  its_client w v f i t its turns script ends =
+      go (w.sessions i).node ends.3 (subst (By w.placed i (w.sessions i) (client_of (suc i) v.clients)) script (f.sessions i))
     where
-      go : (node : Option ℕ) → AtNode cfg stamps logs transcripts fit service w.placed i (w.sessions i) (client_of (suc i) v.clients) node → ItsClient v i t
-      go None h = let no : [] ≡ turn ∷ turns = sym h.1 ∙ ends.0 in absurd (cc)
-      go (Some n) h = found_client w.placed v i n t (w.sessions i).left (w.sessions i).awaits its ends.1 ends.2 h
+      go : (node : Option ℕ) → IsSome node → AtNode cfg stamps logs transcripts fit service w.placed i (w.sessions i) (client_of (suc i) v.clients) node → ItsClient v i t
+      go None some h = absurd (true≢false (sym some))
+      go (Some n) some h = found_client w.placed v i n t (w.sessions i).left (w.sessions i).awaits its ends.1 ends.2 h
 
   at_the_end : (w : OrderWorld A) (v : Service A) → Follows cfg stamps logs transcripts fit service w v → Ends real w → IsRunOf cfg stamps logs transcripts v
   at_the_end w v f ends = record {
@@ -229,11 +158,38 @@ module _ {A : Type 0} (cfg : Config A) (stamps : ℕ → Stamp) (logs : List (No
         its_client w v f i t e (turns_from 0 t.lines t.asked) script (subst (λ s. SessionEnds real s (w.sessions i)) script (ends.1 i));
   }
 
+  ran_occurs : (es : List (run.Event A)) (w : Whole A) → w.config ≡ cfg → (ran w es).service ≡ fold (occurs cfg) w.service es
+  ran_occurs [] w c = refl
+  ran_occurs (e ∷ es) w c = ran_occurs es (stepped w e) c ∙ ap (λ (k : Config A). fold (occurs cfg) (occurs k w.service e) es) c
+
+  -- the service takes the order
+  pub order_taken : (events : List Event) → IsLegalOrder real events → IsTaken cfg stamps logs transcripts events
+  order_taken events legal =
+      let order = legal.2 in
+      let r = steps cfg stamps logs transcripts fit service events (opening real) order.0 (new_service cfg) begun order.1 in
+      record {
+        taken = r.taken;
+        same = r.same;
+        possible = r.possible;
+        unrefused = λ users. r.unrefused users (new_world cfg) refl refl;
+        leads = subst (IsRunOf cfg stamps logs transcripts) (sym (ran_occurs r.taken (new_world cfg) refl)) (at_the_end order.0 (fold (occurs cfg) (new_service cfg) r.taken) r.follows order.2);
+      }
+
+  happened : (es : List (run.Event A)) (w : Service A) → fold (happens cfg) w (map (λ e. Occurs e) es) ≡ fold (occurs cfg) w es
+  happened [] w = refl
+  happened (e ∷ es) w = happened es (occurs cfg w e)
+
   pub order_run : (events : List Event) → IsLegalOrder real events → (happenings : List (Happening A)) × IsRunOf cfg stamps logs transcripts (run_of cfg happenings)
   order_run events legal =
-      let first = greets (length transcripts) in
-      let run = steps cfg stamps logs transcripts fit service events (opening real) legal.2.0 (run_of cfg (greets (length transcripts))) begun legal.2.1 in
-      (greets (length transcripts) ++ run.0, subst (IsRunOf cfg stamps logs transcripts) (sym (fold-append (happens cfg) _ (greets (length transcripts)) run.0)) (at_the_end legal.2.0 _ run.1 legal.2.2))
+      let t = order_taken events legal in
+      (map (λ e. Occurs e) t.taken, subst (IsRunOf cfg stamps logs transcripts) (ran_occurs t.taken (new_world cfg) refl ∙ sym (happened t.taken (new_service cfg))) t.leads)
+
+module _ {A T E : Type 0} (logs : List (NodeLog A)) (transcripts : List (Transcript A)) (items : T → List Event) where
+  -- whoever found a legal order found one that the service takes
+  pub found_taken : (r : Result T E) → (AreFit logs transcripts → IfOk r (λ x. IsLegalOrder (case_of logs transcripts) (items x)))
+      → IfOk r (λ x. (cfg : Config A) (stamps : ℕ → Stamp) → AreFit logs transcripts → AreOfService cfg stamps logs transcripts → IsTaken cfg stamps logs transcripts (items x))
+  found_taken (Ok x) h = λ cfg stamps fit service. order_taken cfg stamps logs transcripts fit service (items x) (h fit)
+  found_taken (Err e) h = tt
 
 module _ {A : Type 0} (cfg : Config A) (stamps : ℕ → Stamp) (logs : List (NodeLog A)) (transcripts : List (Transcript A)) (happenings : List (Happening A)) where
   its_lines : (t : Transcript A) (lines : List Line) → AreItsLines t lines → IsPrefix lines t.lines

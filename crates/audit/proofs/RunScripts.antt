@@ -3,10 +3,12 @@ use Rattle.std.proofs.Common.{◌≡◌, ℕ, ◌+◌, List, [], ◌∷◌, true
 use Rattle.std.specs.Prelude.{slice_get}
 use Rattle.apop.specs.Stamp.{Stamp}
 use Rattle.apop.specs.Accounts.{Account}
+use Rattle.maildrop.specs.CommandId.{CommandId}
 use Rattle.maildrop.specs.declared.op.Op.{Op}
 use Rattle.maildrop.specs.declared.op.Op.TheVariants.{Mail, Take, Commit, Free, Break}
 use Rattle.maildrop.specs.Ticket.{Ticket}
 use Rattle.maildrop.specs.declared.outcome.Outcome.{Outcome}
+use Rattle.node.specs.declared.input.Input.{Input}
 use Rattle.node.specs.declared.log.NodeLog.{NodeLog}
 use Rattle.pop3_wire.specs.declared.line.Line.{Line}
 use Rattle.session.specs.Serve.{IsTranscript}
@@ -16,6 +18,7 @@ use Rattle.session.specs.declared.state.Step.TheVariants.{Ask}
 use Rattle.session.specs.declared.transcript.Asked.{Asked}
 use Rattle.session.specs.declared.transcript.Transcript.{Transcript}
 use Rattle.world.proofs.Fitting.{Fits, StepFits, line_fits}
+use Rattle.audit.specs.Case.{EndsIfHangup}
 use Rattle.audit.specs.Records.{case_of}
 use Rattle.audit.specs.Replays.{is_of_lock}
 use Rattle.audit.specs.Turns.{Turns}
@@ -42,8 +45,8 @@ module _ {A : Type 0} (logs : List (NodeLog A)) (transcripts : List (Transcript 
   abbrev IsItsScript : Turns A → Type 0
   IsItsScript = IsScript (case_of logs transcripts)
 
-  last_asks : (line : Option Line) (user : List ℕ) (op : Op A) (ticket : Ticket) (outcome : Option (Outcome A)) → is_of_lock op ≡ true → IsItsScript (asks_then line user op ticket outcome [])
-  last_asks line user op ticket outcome locks = (refl, locks, λ none. tt, tt)
+  last_asks : (line : Option Line) (user : List ℕ) (op : Op A) (ticket : Ticket) (outcome : Option (Outcome A)) → is_of_lock op ≡ true → EndsIfHangup {I = Input A} {K = CommandId} line outcome [] → IsItsScript (asks_then line user op ticket outcome [])
+  last_asks line user op ticket outcome locks ends = (refl, locks, λ none. tt, ends, tt)
 
   module _ (accounts : List Account) (stamp : Stamp) where
     rest_script : (number : ℕ) (lines : List Line) (entries hangup : List (Asked A)) (state : State A) → IsRest accounts stamp number lines entries hangup state → IsItsScript (turns_left number lines entries hangup)
@@ -52,7 +55,7 @@ module _ {A : Type 0} (logs : List (NodeLog A)) (transcripts : List (Transcript 
       where
         go : Next accounts stamp number [] entries hangup state → IsItsScript (turns_left number [] entries hangup)
         go (rests.Over o) = subst IsItsScript (sym o.turns) tt
-        go (rests.Freed f) = subst IsItsScript (sym f.turns) (last_asks None f.user (Free f.lock) f.ticket None refl)
+        go (rests.Freed f) = subst IsItsScript (sym f.turns) (last_asks None f.user (Free f.lock) f.ticket None refl (refl, refl))
         go (rests.Said s) = let no : [] ≡ s.line ∷ s.more = s.lines_are in absurd (cc)
         go (rests.AskedLast a) = let no : [] ≡ a.line ∷ [] = a.lines_are in absurd (cc)
         go (rests.AskedOn a) = let no : [] ≡ a.line ∷ a.more = a.lines_are in absurd (cc)
@@ -73,7 +76,7 @@ module _ {A : Type 0} (logs : List (NodeLog A)) (transcripts : List (Transcript 
             let all : line ∷ more ≡ a.line ∷ a.more = a.lines_are in
             let same : more ≡ a.more = cc in
             let it : IsItsScript (turns_left (number + 1) a.more a.behind hangup) = subst (λ ls. IsItsScript (turns_left (number + 1) ls a.behind hangup)) same (later a.behind a.turn.state (subst (λ ls. IsRest accounts stamp (number + 1) ls a.behind hangup a.turn.state) (sym same) a.rest)) in
-            subst IsItsScript (sym a.turns) (refl, asked_locks accounts stamp state a.line a.user a.op a.step, λ none. absurd (some_none a.outcome none), it)
+            subst IsItsScript (sym a.turns) (refl, asked_locks accounts stamp state a.line a.user a.op a.step, λ none. absurd (some_none a.outcome none), tt, it)
           where
             some_none : (outcome : Outcome A) → Some outcome ≡ None → ⊥
             some_none outcome e = absurd (cc)
@@ -81,9 +84,9 @@ module _ {A : Type 0} (logs : List (NodeLog A)) (transcripts : List (Transcript 
         go : ((behind : List (Asked A)) (state : State A) → IsRest accounts stamp (number + 1) more behind hangup state → IsItsScript (turns_left (number + 1) more behind hangup))
             → Next accounts stamp number (line ∷ more) entries hangup state → IsItsScript (turns_left number (line ∷ more) entries hangup)
         go later (rests.Over o) = subst IsItsScript (sym o.turns) tt
-        go later (rests.Freed f) = subst IsItsScript (sym f.turns) (last_asks None f.user (Free f.lock) f.ticket None refl)
+        go later (rests.Freed f) = subst IsItsScript (sym f.turns) (last_asks None f.user (Free f.lock) f.ticket None refl (refl, refl))
         go later (rests.Said s) = said later s
-        go later (rests.AskedLast a) = subst IsItsScript (sym a.turns) (last_asks (Some a.line) a.user a.op a.ticket a.outcome (asked_locks accounts stamp state a.line a.user a.op a.step))
+        go later (rests.AskedLast a) = subst IsItsScript (sym a.turns) (last_asks (Some a.line) a.user a.op a.ticket a.outcome (asked_locks accounts stamp state a.line a.user a.op a.step) tt)
         go later (rests.AskedOn a) = asked later a
 
   -- what `serve` promises of a transcript makes its turns a script

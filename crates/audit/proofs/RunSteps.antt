@@ -1,4 +1,4 @@
--- Each event of a legal order happens in a run.
+-- Each event of a legal order happens in a run, and isn't refused there.
 use Rattle.std.proofs.Common.{◌≡◌, ℕ, suc, List, [], ◌∷◌, ◌++◌, Bool, true, false, Option, Some, None, refl, sym, ap, ◌∙◌, subst, inl, inr, ⊎_elim, cond, arith, map}
 use Rattle.std.specs.Prelude.{slice_get, option_map, ◌==◌, fold}
 use Rattle.std.proofs.lemmas.Bool.{eqb-true, true≢false}
@@ -21,24 +21,29 @@ use Rattle.session.specs.declared.state.Step.{Step}
 use Rattle.session.specs.declared.state.Step.TheVariants.{Say, Ask, SayAndClose}
 use Rattle.session.specs.declared.state.Turn.{Turn}
 use Rattle.session.specs.declared.transcript.Transcript.{Transcript}
+use Rattle.std.specs.Option.{option_or}
 use Rattle.world.specs.Clients.{Hears, Waits, Over, Client, new_client, standing_as, told, with_line, asking, stranded, client_of, with_client, all_without_node}
 use Rattle.world.specs.Messages.{Network, log_of, is_up, takes}
-use Rattle.world.specs.Services.{Service, Happening, Occurs, keeps, submits, next_id, after_answer, by_turn, occurs, happens}
+use Rattle.world.specs.Refusals.{node_refusal, refusal_of, unless_known, user_refusal, step_refusal}
+use Rattle.world.specs.Services.{Service, keeps, submits, next_id, after_answer, by_turn, occurs}
+use Rattle.world.specs.Settling.{first_refusal}
+use Rattle.world.specs.Worlds.{World as Whole, stepped}
 use Rattle.world.specs.declared.config.Config.{Config}
+use Rattle.world.specs.declared.event.Event as run
 use Rattle.world.specs.declared.event.Event.TheVariants as happening
 use Rattle.audit.specs.Case.{Plain, Asks, next, state_at, asked}
-use Rattle.audit.specs.Order.{Awaited, Session, World, Agrees, Happens, Leads, opening}
+use Rattle.audit.specs.Order.{Awaited, awaited_by, Session, World, Agrees, Happens, Leads, opening}
 use Rattle.audit.specs.Order as order
 use Rattle.audit.specs.Placing.{put}
-use Rattle.audit.specs.Records.{place_of, number_in, RealCase, case_of, AreFit}
+use Rattle.audit.specs.Records.{place_of, inputs_in, number_in, RealCase, case_of, AreFit}
 use Rattle.audit.specs.Replays.{Replay, sends, runs, key_of, answer, brought, is_of_lock}
-use Rattle.audit.specs.Runs.{AreOfService}
+use Rattle.audit.specs.Runs.{AreOfService, IsFor, AreFor, CanHappen, AreForUsers}
 use Rattle.audit.specs.Turns.{Turns, script_of}
 use Rattle.audit.specs.declared.event.Event.{Event}
 use Rattle.audit.specs.declared.event.Event.TheVariants as event
-use Rattle.audit.proofs.RunClients.{Goes, AwaitsIt, IsDone, StandsFor, StandsAs, SaysLine, AsksLine, stands_later, stands_down, says_line, asks_line, hangs_up, takes_it, takes_more, begins}
-use Rattle.audit.proofs.RunHappenings.{client_put, client_other, client_without, none_without, connects_new, connects_again, crashes_up, line_says, line_closes, line_asks, hangup_frees, answer_taken, Collected, Unchanged, Took, collected}
-use Rattle.audit.proofs.RunNodes.{AreAt, takes_at, arrives_at, same_place, up_before, down_after}
+use Rattle.audit.proofs.RunClients.{Goes, AwaitsIt, AwaitsMore, IsDone, StandsFor, StandsAs, SaysLine, AsksLine, stands_later, stands_down, says_line, asks_line, hangs_up, takes_it, takes_more, begins}
+use Rattle.audit.proofs.RunHappenings.{client_put, client_other, client_without, none_without, connects_new, node_can, connect_can, crashes_up, line_says, line_closes, line_asks, hangup_frees, answer_taken, line_can, hangup_can, collect_can}
+use Rattle.audit.proofs.RunNodes.{AreAt, takes_at, arrives_at, arrival_can, same_place, up_before, down_after}
 use Rattle.audit.proofs.Walk.{put_apart}
 
 -- what is left of a legal order so far
@@ -123,12 +128,10 @@ module _ {A : Type 0} (cfg : Config A) (stamps : ℕ → Stamp) (logs : List (No
   AtNode placed i s found None = (found ≡ None) × (s.done ≡ [])
   AtNode placed i s found (Some n) = IsSession placed i n s.left s.awaits found
 
-  -- a session without turns has been greeted from the start, since an order may leave it out
   abbrev pub ByScript : (ℕ → ℕ) → ℕ → OrderSession A → Option (Client A) → Option (Option (Turns A)) → Type 0
   ByScript placed i s found None = IsIdle s
   ByScript placed i s found (Some None) = IsIdle s
-  ByScript placed i s found (Some (Some [])) = IsIdle s × IsSession placed i 0 [] None found
-  ByScript placed i s found (Some (Some (turn ∷ turns))) = AtNode placed i s found s.node
+  ByScript placed i s found (Some (Some turns)) = AtNode placed i s found s.node
 
   abbrev pub IsFollowed : (ℕ → ℕ) → ℕ → OrderSession A → Option (Client A) → Type 0
   IsFollowed placed i s found = ByScript placed i s found (slice_get real.scripts i)
@@ -138,8 +141,13 @@ module _ {A : Type 0} (cfg : Config A) (stamps : ℕ → Stamp) (logs : List (No
     pub nodes : NodesAre w.placed w.sent v.network
     pub sessions : (i : ℕ) → IsFollowed w.placed i (w.sessions i) (client_of (suc i) v.clients)
 
-  abbrev pub Then : OrderWorld A → Service A → Type 0
-  Then w v = (h : Happening A) × Follows w (happens cfg v h)
+  -- the service's event that this one is, and where it leads
+  pub record Then (mine : Event) (w : OrderWorld A) (v : Service A) : Type 0 where
+    pub event : run.Event A
+    pub same : IsFor stamps mine event
+    pub can : refusal_of v event ≡ None
+    pub unrefused : AreForUsers cfg logs → user_refusal cfg event ≡ None
+    pub follows : Follows w (occurs cfg v event)
 
   -- Sessions to which nothing happens
 
@@ -165,8 +173,7 @@ module _ {A : Type 0} (cfg : Config A) (stamps : ℕ → Stamp) (logs : List (No
       go : (script : Option (Option (Turns A))) → ByScript placed i s found script → ByScript later i s found script
       go None h = h
       go (Some None) h = h
-      go (Some (Some [])) h = (h.0, later_session placed later before i 0 [] None found h.1)
-      go (Some (Some (turn ∷ turns))) h = at s.node h
+      go (Some (Some turns)) h = at s.node h
 
   -- A session to which something happens
 
@@ -181,8 +188,7 @@ module _ {A : Type 0} (cfg : Config A) (stamps : ℕ → Stamp) (logs : List (No
       go : (script : Option (Option (Turns A))) → slice_get real.scripts i ≡ script → ByScript placed i s found script → Busy placed i n s found
       go None e h = absurd (not_idle h)
       go (Some None) e h = absurd (not_idle h)
-      go (Some (Some [])) e h = absurd (not_idle h.0)
-      go (Some (Some (turn ∷ turns))) e h = record {
+      go (Some (Some turns)) e h = record {
         session = subst (AtNode placed i s found) node h;
         again = λ later s' found' at x. subst (ByScript later i s' found') (sym e) (subst (AtNode later i s' found') (sym at) x);
       }
@@ -239,7 +245,7 @@ module _ {A : Type 0} (cfg : Config A) (stamps : ℕ → Stamp) (logs : List (No
 
     -- a line that asks nothing
     pub plain_line : (i n : ℕ) (l : Line) (ts : Turns A) → (w.sessions i).node ≡ Some n → Up w.placed n → (w.sessions i).awaits ≡ None → (w.sessions i).left ≡ Plain l ∷ ts
-        → Then (record { placed = w.placed; sent = w.sent; sessions = put w.sessions i (record { node = Some n; done = (w.sessions i).done ++ Plain l ∷ []; left = ts; awaits = None }) }) v
+        → Then (event.Line i) (record { placed = w.placed; sent = w.sent; sessions = put w.sessions i (record { node = Some n; done = (w.sessions i).done ++ Plain l ∷ []; left = ts; awaits = None }) }) v
     plain_line i n l ts node up free left =
         ⊎_elim said (λ (d : IsDone cfg.accounts (stamps i) b.session.transcript (Plain l ∷ ts) b.session.client). let no : Plain l ∷ ts ≡ [] = d.no_turn in absurd (cc)) stands
       where
@@ -258,13 +264,16 @@ module _ {A : Type 0} (cfg : Config A) (stamps : ℕ → Stamp) (logs : List (No
         its_log = ap (λ k. log_of k v.network.logs) b.session.node ∙ g.its_log
 
         said : Goes cfg.accounts (stamps i) b.session.transcript (Up w.placed n) (Plain l ∷ ts) b.session.client
-            → Then (record { placed = w.placed; sent = w.sent; sessions = put w.sessions i (record { node = Some n; done = (w.sessions i).done ++ Plain l ∷ []; left = ts; awaits = None }) }) v
-        said goes = (
-          Occurs (happening.Line (suc i) l),
-          subst (Follows _) (sym happened) (one_session w.placed w.sent v.network i n _ later f.nodes (λ n h. h)
+            → Then (event.Line i) (record { placed = w.placed; sent = w.sent; sessions = put w.sessions i (record { node = Some n; done = (w.sessions i).done ++ Plain l ∷ []; left = ts; awaits = None }) }) v
+        said goes = record {
+          event = happening.Line (suc i) l;
+          same = refl;
+          can = line_can cfg v (suc i) b.session.client g.log b.session.there its_log g.up l r.state r.hearing;
+          unrefused = λ users. refl;
+          follows = subst (Follows _) (sym happened) (one_session w.placed w.sent v.network i n _ later f.nodes (λ n h. h)
               (b.again w.placed (record { node = Some n; done = (w.sessions i).done ++ Plain l ∷ []; left = ts; awaits = None }) (Some later) refl
-              (record { client = later; there = refl; transcript = b.session.transcript; its = b.session.its; node = b.session.node; greeted = b.session.greeted; stands = inl r.goes }))),
-        )
+              (record { client = later; there = refl; transcript = b.session.transcript; its = b.session.its; node = b.session.node; greeted = b.session.greeted; stands = inl r.goes })));
+        }
           where
             r : SaysLine cfg.accounts (stamps i) b.session.transcript (Up w.placed n) l ts b.session.client
             r = says_line cfg.accounts (stamps i) b.session.transcript (Up w.placed n) (Up w.placed n) l ts b.session.client up goes
@@ -300,7 +309,7 @@ module _ {A : Type 0} (cfg : Config A) (stamps : ℕ → Stamp) (logs : List (No
     asked_world i n line x k o ts = record {
       placed = more w.placed n;
       sent = w.sent ++ sends (state_at real n (w.placed n)) x;
-      sessions = put w.sessions i (record { node = Some n; done = (w.sessions i).done ++ Asks line x k o ∷ []; left = ts; awaits = Some (record { key = k; outcome = o }) });
+      sessions = put w.sessions i (record { node = Some n; done = (w.sessions i).done ++ Asks line x k o ∷ []; left = ts; awaits = awaited_by line k o });
     }
 
     before : (n : ℕ) (x : Input A) → next real n (w.placed n) ≡ Some x → (m : ℕ) → Up (more w.placed n) m → Up w.placed m
@@ -308,7 +317,7 @@ module _ {A : Type 0} (cfg : Config A) (stamps : ℕ → Stamp) (logs : List (No
 
     -- a line that asks
     pub asking_line : (i n : ℕ) (l : Line) (x : Input A) (k : CommandId) (o : Option (Outcome A)) (ts : Turns A) → (w.sessions i).node ≡ Some n → Up w.placed n → (w.sessions i).awaits ≡ None → (w.sessions i).left ≡ Asks (Some l) x k o ∷ ts
-        → asked real (state_at real n (w.placed n)) x ≡ Some k → next real n (w.placed n) ≡ Some x → Then (asked_world i n (Some l) x k o ts) v
+        → asked real (state_at real n (w.placed n)) x ≡ Some k → next real n (w.placed n) ≡ Some x → Then (event.Line i) (asked_world i n (Some l) x k o ts) v
     asking_line i n l x k o ts node up free left key comes =
         ⊎_elim asks (λ (d : IsDone cfg.accounts (stamps i) b.session.transcript (Asks (Some l) x k o ∷ ts) b.session.client). let no : Asks (Some l) x k o ∷ ts ≡ [] = d.no_turn in absurd (cc)) stands
       where
@@ -326,15 +335,18 @@ module _ {A : Type 0} (cfg : Config A) (stamps : ℕ → Stamp) (logs : List (No
         its_log : log_of b.session.client.node v.network.logs ≡ Some g.log
         its_log = ap (λ k. log_of k v.network.logs) b.session.node ∙ g.its_log
 
-        asks : Goes cfg.accounts (stamps i) b.session.transcript (Up w.placed n) (Asks (Some l) x k o ∷ ts) b.session.client → Then (asked_world i n (Some l) x k o ts) v
-        asks goes = (
-          Occurs (happening.Line (suc i) l),
-          subst (Follows (asked_world i n (Some l) x k o ts)) (sym happened)
+        asks : Goes cfg.accounts (stamps i) b.session.transcript (Up w.placed n) (Asks (Some l) x k o ∷ ts) b.session.client → Then (event.Line i) (asked_world i n (Some l) x k o ts) v
+        asks goes = record {
+          event = happening.Line (suc i) l;
+          same = refl;
+          can = line_can cfg v (suc i) b.session.client g.log b.session.there its_log g.up l r.state r.hearing;
+          unrefused = λ users. refl;
+          follows = subst (Follows (asked_world i n (Some l) x k o ts)) (sym happened)
               (one_session (more w.placed n) (w.sent ++ sends (state_at real n (w.placed n)) x) (takes v.network later.node (Submit r.user r.op)) i n _ later
               (submitted_at n x comes up later.node b.session.node r.user r.op r.input) (before n x comes)
               (b.again (more w.placed n) (record { node = Some n; done = (w.sessions i).done ++ Asks (Some l) x k o ∷ []; left = ts; awaits = Some (record { key = k; outcome = o }) }) (Some later) refl
-              (record { client = later; there = refl; transcript = b.session.transcript; its = b.session.its; node = b.session.node; greeted = b.session.greeted; stands = r.stands }))),
-        )
+              (record { client = later; there = refl; transcript = b.session.transcript; its = b.session.its; node = b.session.node; greeted = b.session.greeted; stands = r.stands })));
+        }
           where
             r : AsksLine cfg.accounts (stamps i) b.session.transcript (Up (more w.placed n) n) l x k o ts b.session.client
             r = asks_line cfg.accounts (stamps i) b.session.transcript (Up w.placed n) (Up (more w.placed n) n) l x k o ts b.session.client up goes
@@ -350,7 +362,7 @@ module _ {A : Type 0} (cfg : Config A) (stamps : ℕ → Stamp) (logs : List (No
 
     -- a hangup
     pub hangup : (i n : ℕ) (x : Input A) (k : CommandId) (o : Option (Outcome A)) (ts : Turns A) → (w.sessions i).node ≡ Some n → Up w.placed n → (w.sessions i).awaits ≡ None → (w.sessions i).left ≡ Asks None x k o ∷ ts
-        → next real n (w.placed n) ≡ Some x → Then (asked_world i n None x k o ts) v
+        → next real n (w.placed n) ≡ Some x → Then (event.Hangup i) (asked_world i n None x k o ts) v
     hangup i n x k o ts node up free left comes =
         ⊎_elim frees (λ (d : IsDone cfg.accounts (stamps i) b.session.transcript (Asks None x k o ∷ ts) b.session.client). let no : Asks None x k o ∷ ts ≡ [] = d.no_turn in absurd (cc)) stands
       where
@@ -368,16 +380,19 @@ module _ {A : Type 0} (cfg : Config A) (stamps : ℕ → Stamp) (logs : List (No
         its_log : log_of b.session.client.node v.network.logs ≡ Some g.log
         its_log = ap (λ k. log_of k v.network.logs) b.session.node ∙ g.its_log
 
-        frees : Goes cfg.accounts (stamps i) b.session.transcript (Up w.placed n) (Asks None x k o ∷ ts) b.session.client → Then (asked_world i n None x k o ts) v
+        frees : Goes cfg.accounts (stamps i) b.session.transcript (Up w.placed n) (Asks None x k o ∷ ts) b.session.client → Then (event.Hangup i) (asked_world i n None x k o ts) v
         frees goes =
-            let r = hangs_up cfg.accounts (stamps i) b.session.transcript (Up w.placed n) (Up (more w.placed n) n) x k o ts b.session.client up goes in (
-              Occurs (happening.Hangup (suc i)),
-              subst (Follows (asked_world i n None x k o ts)) (sym (hangup_frees cfg v (suc i) b.session.client g.log b.session.there its_log g.up r.state r.user r.lock r.hearing r.due))
+            let r = hangs_up cfg.accounts (stamps i) b.session.transcript (Up w.placed n) x k o ts b.session.client up goes in record {
+              event = happening.Hangup (suc i);
+              same = refl;
+              can = hangup_can cfg v (suc i) b.session.client g.log b.session.there its_log g.up r.state r.hearing;
+              unrefused = λ users. refl;
+              follows = subst (Follows (asked_world i n None x k o ts)) (sym (hangup_frees cfg v (suc i) b.session.client g.log b.session.there its_log g.up r.state r.user r.lock r.hearing r.due))
                   (one_session (more w.placed n) (w.sent ++ sends (state_at real n (w.placed n)) x) (takes v.network b.session.client.node (Submit r.user (Free r.lock))) i n _ (standing_as b.session.client Over)
                   (submitted_at n x comes up b.session.client.node b.session.node r.user (Free r.lock) r.input) (before n x comes)
-                  (b.again (more w.placed n) (record { node = Some n; done = (w.sessions i).done ++ Asks None x k o ∷ []; left = ts; awaits = Some (record { key = k; outcome = o }) }) (Some (standing_as b.session.client Over)) refl
-                  (record { client = standing_as b.session.client Over; there = refl; transcript = b.session.transcript; its = b.session.its; node = b.session.node; greeted = b.session.greeted; stands = r.stands }))),
-            )
+                  (b.again (more w.placed n) (record { node = Some n; done = (w.sessions i).done ++ Asks None x k o ∷ []; left = ts; awaits = None }) (Some (standing_as b.session.client Over)) refl
+                  (record { client = standing_as b.session.client Over; there = refl; transcript = b.session.transcript; its = b.session.its; node = b.session.node; greeted = b.session.greeted; stands = inr r.over })));
+            }
 
     -- an answer is taken
     abbrev collected_world : ℕ → ℕ → OrderWorld A
@@ -388,7 +403,7 @@ module _ {A : Type 0} (cfg : Config A) (stamps : ℕ → Stamp) (logs : List (No
     }
 
     pub collect : (i n : ℕ) (y : Awaited CommandId (Outcome A)) (o : Outcome A) → (w.sessions i).node ≡ Some n → Up w.placed n → (w.sessions i).awaits ≡ Some y → answer (state_at real n (w.placed n)) y.key ≡ Some o → Agrees real y.outcome o
-        → Then (collected_world i n) v
+        → Then (event.Collect i) (collected_world i n) v
     collect i n y o node up awaits is_answered agrees =
         go y.outcome agrees stands
       where
@@ -404,53 +419,44 @@ module _ {A : Type 0} (cfg : Config A) (stamps : ℕ → Stamp) (logs : List (No
         its_log : log_of b.session.client.node v.network.logs ≡ Some g.log
         its_log = ap (λ k. log_of k v.network.logs) b.session.node ∙ g.its_log
 
-        kept : (c : Client A) → c.node ≡ b.session.client.node → c.stamp ≡ b.session.client.stamp → StandsAs cfg.accounts (stamps i) b.session.transcript (Up w.placed n) (w.sessions i).left None c
-            → occurs cfg v (happening.Collect (suc i)) ≡ keeps v (suc i) c → Then (collected_world i n) v
-        kept c same stamp now happened = (
-          Occurs (happening.Collect (suc i)),
-          subst (Follows (collected_world i n)) (sym happened) (one_session w.placed w.sent v.network i n _ c f.nodes (λ n h. h)
-              (b.again w.placed (record { node = Some n; done = (w.sessions i).done; left = (w.sessions i).left; awaits = None }) (Some c) refl
-              (record { client = c; there = refl; transcript = b.session.transcript; its = b.session.its; node = same ∙ b.session.node; greeted = stamp ∙ b.session.greeted; stands = now }))),
-        )
-
-        -- nothing changes but that the order takes the answer
-        unchanged : IsDone cfg.accounts (stamps i) b.session.transcript (w.sessions i).left b.session.client → occurs cfg v (happening.Collect (suc i)) ≡ v → Then (collected_world i n) v
-        unchanged d happened = (
-          Occurs (happening.Collect (suc i)),
-          subst (Follows (collected_world i n)) (sym happened) (record {
-            nodes = f.nodes;
-            sessions = put_apart (λ j x. IsFollowed w.placed j x (client_of (suc j) v.clients)) w.sessions i _
-                (b.again w.placed (record { node = Some n; done = (w.sessions i).done; left = (w.sessions i).left; awaits = None }) (client_of (suc i) v.clients) refl
-                (record { client = b.session.client; there = b.session.there; transcript = b.session.transcript; its = b.session.its; node = b.session.node; greeted = b.session.greeted; stands = inr d }))
-                (λ j ne. f.sessions j);
-          }),
-        )
-
-        taken : (state : State A) (id : CommandId) (outcome : Outcome A) → StandsAs cfg.accounts (stamps i) b.session.transcript (Up w.placed n) (w.sessions i).left None (by_turn b.session.client (by_answer state id.ticket outcome))
-            → occurs cfg v (happening.Collect (suc i)) ≡ keeps v (suc i) (by_turn b.session.client (by_answer state id.ticket outcome)) → Then (collected_world i n) v
-        taken state id outcome now happened =
-            kept (by_turn b.session.client (by_answer state id.ticket outcome)) (turn_node b.session.client (by_answer state id.ticket outcome)) (turn_stamp b.session.client (by_answer state id.ticket outcome)) now happened
-
-        done : IsDone cfg.accounts (stamps i) b.session.transcript (w.sessions i).left b.session.client → Then (collected_world i n) v
-        done d =
-            any (collected cfg v (suc i) b.session.client g.log b.session.there its_log g.up)
-          where
-            any : Collected cfg v (suc i) b.session.client g.log b.session.there its_log g.up → Then (collected_world i n) v
-            any (Unchanged e) = unchanged d e
-            any (Took state id outcome e) = taken state id outcome (inr (takes_more cfg.accounts (stamps i) b.session.transcript (w.sessions i).left b.session.client (by_answer state id.ticket outcome) d)) e
-
         here : answered g.log y.key ≡ Some o
         here = subst (λ s. answer s y.key ≡ Some o) g.state is_answered
 
-        go : (outcome : Option (Outcome A)) → Agrees real outcome o → StandsFor cfg.accounts (stamps i) b.session.transcript (Up w.placed n) (w.sessions i).left y.key b.session.client outcome → Then (collected_world i n) v
-        go None agrees d = done d
-        go (Some told_outcome) agrees d =
+        taken : (state : State A) → b.session.client.standing ≡ Waits state y.key → StandsAs cfg.accounts (stamps i) b.session.transcript (Up w.placed n) (w.sessions i).left None (by_turn b.session.client (by_answer state y.key.ticket o)) → Then (event.Collect i) (collected_world i n) v
+        taken state waits now =
+            let c = by_turn b.session.client (by_answer state y.key.ticket o) in
+            record {
+              event = happening.Collect (suc i);
+              same = refl;
+              can = collect_can cfg v (suc i) b.session.client g.log b.session.there its_log g.up state y.key o waits here;
+              unrefused = λ users. refl;
+              follows = subst (Follows (collected_world i n)) (sym (answer_taken cfg v (suc i) b.session.client g.log b.session.there its_log g.up state y.key o waits here))
+                  (one_session w.placed w.sent v.network i n _ c f.nodes (λ n h. h)
+                  (b.again w.placed (record { node = Some n; done = (w.sessions i).done; left = (w.sessions i).left; awaits = None }) (Some c) refl
+                  (record {
+                    client = c;
+                    there = refl;
+                    transcript = b.session.transcript;
+                    its = b.session.its;
+                    node = turn_node b.session.client (by_answer state y.key.ticket o) ∙ b.session.node;
+                    greeted = turn_stamp b.session.client (by_answer state y.key.ticket o) ∙ b.session.greeted;
+                    stands = now;
+                  })));
+            }
+
+        more_taken : AwaitsMore cfg.accounts (stamps i) b.session.transcript (Up w.placed n) (w.sessions i).left y.key b.session.client → Then (event.Collect i) (collected_world i n) v
+        more_taken m = taken m.state (m.stands up) (inr (takes_more cfg.accounts (stamps i) b.session.transcript (w.sessions i).left b.session.client (by_answer m.state y.key.ticket o) m.over))
+
+        go : (outcome : Option (Outcome A)) → Agrees real outcome o → StandsFor cfg.accounts (stamps i) b.session.transcript (Up w.placed n) (w.sessions i).left y.key b.session.client outcome → Then (event.Collect i) (collected_world i n) v
+        go None agrees m = more_taken m
+        go (Some outcome) agrees h =
             ⊎_elim
-            (λ (a : AwaitsIt cfg.accounts (stamps i) b.session.transcript (Up w.placed n) (w.sessions i).left y.key told_outcome b.session.client).
-            taken a.state y.key told_outcome (inl (takes_it cfg.accounts (stamps i) b.session.transcript (Up w.placed n) (w.sessions i).left y.key told_outcome b.session.client a (Up w.placed n)))
-            (answer_taken cfg v (suc i) b.session.client g.log b.session.there its_log g.up a.state y.key told_outcome (a.stands up) (here ∙ ap (λ x. Some x) (sym agrees))))
-            done
-            d
+            (λ (a : AwaitsIt cfg.accounts (stamps i) b.session.transcript (Up w.placed n) (w.sessions i).left y.key outcome b.session.client).
+            taken a.state (a.stands up)
+            (inl (subst (λ u. Goes cfg.accounts (stamps i) b.session.transcript (Up w.placed n) (w.sessions i).left (by_turn b.session.client (by_answer a.state y.key.ticket u))) agrees
+            (takes_it cfg.accounts (stamps i) b.session.transcript (Up w.placed n) (w.sessions i).left y.key outcome b.session.client a (Up w.placed n)))))
+            more_taken
+            h
 
     -- Something at the nodes alone
 
@@ -525,38 +531,56 @@ module _ {A : Type 0} (cfg : Config A) (stamps : ℕ → Stamp) (logs : List (No
             → ByScript (more w.placed n) j (w.sessions j) (client_of (suc j) (all_without_node (number_of n) v.clients)) script
         go None h = h
         go (Some None) h = h
-        go (Some (Some [])) h = (h.0, crash_session n comes up j 0 [] None h.1)
-        go (Some (Some (turn ∷ turns))) h = at (w.sessions j).node h
+        go (Some (Some turns)) h = at (w.sessions j).node h
 
-    crash : (n : ℕ) → next real n (w.placed n) ≡ Some Crash → Up w.placed n → Then (given_world n Crash) v
+    -- something at a node that is up
+    at_node : (n : ℕ) (e : run.Event A) (w' : OrderWorld A) → Up w.placed n → IsFor stamps (event.Given (number_of n)) e → refusal_of v e ≡ node_refusal v (number_of n) → (AreForUsers cfg logs → user_refusal cfg e ≡ None) → Follows w' (occurs cfg v e) → Then (event.Given (number_of n)) w' v
+    at_node n e w' up same refusal unrefused follows =
+        let g = log_there w.placed w.sent v.network f.nodes n up in
+        record { event = e; same = same; can = refusal ∙ node_can cfg v 0 (number_of n) g.log g.its_log g.up; unrefused = unrefused; follows = follows }
+
+    crash : (n : ℕ) → next real n (w.placed n) ≡ Some Crash → Up w.placed n → Then (event.Given (number_of n)) (given_world n Crash) v
     crash n comes up =
-        let g = log_there w.placed w.sent v.network f.nodes n up in (
-          Occurs (happening.Crash (number_of n)),
-          subst (Follows (given_world n Crash)) (sym (crashes_up cfg v 0 (number_of n) g.log g.its_log g.up)) (record {
-            nodes = takes_at cfg logs transcripts fit service.openings w.placed w.sent v.network f.nodes n Crash comes up;
-            sessions = crash_followed n comes up;
-          }),
-        )
+        let g = log_there w.placed w.sent v.network f.nodes n up in
+        at_node n (happening.Crash (number_of n)) (given_world n Crash) up refl refl (λ users. refl)
+        (subst (Follows (given_world n Crash)) (sym (crashes_up cfg v 0 (number_of n) g.log g.its_log g.up)) (record {
+          nodes = takes_at cfg logs transcripts fit service.openings w.placed w.sent v.network f.nodes n Crash comes up;
+          sessions = crash_followed n comes up;
+        }))
 
-    pub given : (n : ℕ) (x : Input A) → brought x ≡ None → asked real (state_at real n (w.placed n)) x ≡ None → next real n (w.placed n) ≡ Some x → Up w.placed n → Then (given_world n x) v
-    given n (Submit user (Mail text key)) brings none comes up = (Occurs (happening.Mail (number_of n) user text key), takes_input n (Submit user (Mail text key)) comes up)
-    given n (Submit user Break) brings none comes up = (Occurs (happening.Break (number_of n) user), takes_input n (Submit user Break) comes up)
+    -- messages and breaks are for users with accounts
+    its_user : (n : ℕ) (user : List ℕ) (op : Op A) → is_of_lock op ≡ false → next real n (w.placed n) ≡ Some (Submit user op) → AreForUsers cfg logs → unless_known cfg user ≡ None
+    its_user n user op other comes users =
+        go (slice_get logs n) refl comes
+      where
+        go : (found : Option (NodeLog A)) → slice_get logs n ≡ found → slice_get (inputs_in found) (w.placed n) ≡ Some (Submit user op) → unless_known cfg user ≡ None
+        go None e h = absurd (cc)
+        go (Some log) e h = rw (users.each n log (w.placed n) user op e h other) refl
+
+    pub given : (n : ℕ) (x : Input A) → brought x ≡ None → asked real (state_at real n (w.placed n)) x ≡ None → next real n (w.placed n) ≡ Some x → Up w.placed n → Then (event.Given (number_of n)) (given_world n x) v
+    given n (Submit user (Mail text key)) brings none comes up =
+        at_node n (happening.Mail (number_of n) user text key) (given_world n (Submit user (Mail text key))) up refl refl (its_user n user (Mail text key) refl comes) (takes_input n (Submit user (Mail text key)) comes up)
+    given n (Submit user Break) brings none comes up =
+        at_node n (happening.Break (number_of n) user) (given_world n (Submit user Break)) up refl refl (its_user n user Break refl comes) (takes_input n (Submit user Break) comes up)
     given n (Submit user Take) brings none comes up = absurd (locked n user Take refl none up)
     given n (Submit user (Commit lock uids)) brings none comes up = absurd (locked n user (Commit lock uids) refl none up)
     given n (Submit user (Free lock)) brings none comes up = absurd (locked n user (Free lock) refl none up)
     given n (Arrive e) brings none comes up = absurd (cc)
-    given n Tick brings none comes up = (Occurs (happening.Tick (number_of n)), takes_input n Tick comes up)
-    given n Campaign brings none comes up = (Occurs (happening.Campaign (number_of n)), takes_input n Campaign comes up)
+    given n Tick brings none comes up = at_node n (happening.Tick (number_of n)) (given_world n Tick) up refl refl (λ users. refl) (takes_input n Tick comes up)
+    given n Campaign brings none comes up = at_node n (happening.Campaign (number_of n)) (given_world n Campaign) up refl refl (λ users. refl) (takes_input n Campaign comes up)
     given n Crash brings none comes up = crash n comes up
 
     -- a message arrives
     pub arrive : (which : ℕ) (e : Envelope (Command A) A) (x : Input A) → slice_get w.sent which ≡ Some e → brought x ≡ Some e → next real (place_of e.to logs) (w.placed (place_of e.to logs)) ≡ Some x → Up w.placed (place_of e.to logs)
-        → Then (given_world (place_of e.to logs) x) v
-    arrive which e x was brings comes up = (
-      Occurs (happening.Arrive which),
-      at_nodes_alone (more w.placed (place_of e.to logs)) _ _
-          (arrives_at cfg logs transcripts fit service.openings w.placed w.sent v.network f.nodes which e x was brings comes up) (before (place_of e.to logs) x comes),
-    )
+        → Then (event.Arrive which) (given_world (place_of e.to logs) x) v
+    arrive which e x was brings comes up = record {
+      event = happening.Arrive which;
+      same = refl;
+      can = arrival_can cfg logs transcripts fit service.openings w.placed w.sent v f.nodes which e was up;
+      unrefused = λ users. refl;
+      follows = at_nodes_alone (more w.placed (place_of e.to logs)) _ _
+          (arrives_at cfg logs transcripts fit service.openings w.placed w.sent v.network f.nodes which e x was brings comes up) (before (place_of e.to logs) x comes);
+    }
 
     -- a session connects
     abbrev new_session : ℕ → Turns A → OrderSession A
@@ -565,53 +589,61 @@ module _ {A : Type 0} (cfg : Config A) (stamps : ℕ → Stamp) (logs : List (No
     abbrev connected_world : ℕ → ℕ → Turns A → OrderWorld A
     connected_world i n ts = record { placed = w.placed; sent = w.sent; sessions = put w.sessions i (new_session n ts) }
 
-    pub connect : (i n : ℕ) (ts : Turns A) → slice_get real.scripts i ≡ Some (Some ts) → (w.sessions i).node ≡ None → Up w.placed n → Then (connected_world i n ts) v
-    connect i n ts script node up =
-        go ts script (subst (ByScript w.placed i (w.sessions i) (client_of (suc i) v.clients)) script (f.sessions i))
+    pub connect : (i n : ℕ) (ts : Turns A) → slice_get real.scripts i ≡ Some (Some ts) → (w.sessions i).node ≡ None → Up w.placed n → Then (event.Connect i (number_of n)) (connected_world i n ts) v
+    connect i n ts script node up = record {
+      event = happening.Connect (suc i) (number_of n) (stamps i);
+      same = (refl, refl, refl);
+      can = connect_can cfg v (suc i) (number_of n) (stamps i) g.log g.its_log g.up none;
+      unrefused = λ users. refl;
+      follows = subst (Follows (connected_world i n ts)) (sym (connects_new cfg v (suc i) (number_of n) (stamps i) g.log g.its_log g.up none))
+          (one_session w.placed w.sent v.network i n (new_session n ts) (new_client (number_of n) (stamps i)) f.nodes (λ n h. h)
+          (subst (ByScript w.placed i (new_session n ts) (Some (new_client (number_of n) (stamps i)))) (sym script)
+          (greeted w.placed i n ts script)));
+    }
       where
         g : HasLog v.network w.placed n
         g = log_there w.placed w.sent v.network f.nodes n up
 
-        go : (ts : Turns A) → slice_get real.scripts i ≡ Some (Some ts) → ByScript w.placed i (w.sessions i) (client_of (suc i) v.clients) (Some (Some ts)) → Then (connected_world i n ts) v
-        go [] script h =
-            let x = h.1 in (
-              Occurs (happening.Connect (suc i) (number_of n) (stamps i)),
-              subst (Follows (connected_world i n [])) (sym (connects_again cfg v (suc i) (number_of n) (stamps i) x.client x.there)) (record {
-                nodes = f.nodes;
-                sessions = put_apart (λ j s. IsFollowed w.placed j s (client_of (suc j) v.clients)) w.sessions i (new_session n [])
-                    (subst (ByScript w.placed i (new_session n []) (client_of (suc i) v.clients)) (sym script) ((refl, refl), x))
-                    (λ j ne. f.sessions j);
-              }),
-            )
-        go (turn ∷ turns) script h =
-            let none : client_of (suc i) v.clients ≡ None = (subst (AtNode w.placed i (w.sessions i) (client_of (suc i) v.clients)) node h).0 in (
-              Occurs (happening.Connect (suc i) (number_of n) (stamps i)),
-              subst (Follows (connected_world i n (turn ∷ turns))) (sym (connects_new cfg v (suc i) (number_of n) (stamps i) g.log g.its_log g.up none))
-                  (one_session w.placed w.sent v.network i n (new_session n (turn ∷ turns)) (new_client (number_of n) (stamps i)) f.nodes (λ n h. h)
-                  (subst (ByScript w.placed i (new_session n (turn ∷ turns)) (Some (new_client (number_of n) (stamps i)))) (sym script)
-                  (greeted w.placed i n (turn ∷ turns) script))),
-            )
+        none : client_of (suc i) v.clients ≡ None
+        none = (subst (AtNode w.placed i (w.sessions i) (client_of (suc i) v.clients)) node (subst (ByScript w.placed i (w.sessions i) (client_of (suc i) v.clients)) script (f.sessions i))).0
 
   -- an event happens in the run
-  pub step : (w w' : OrderWorld A) (v : Service A) (e : Event) → Follows w v → Happens real w e w' → Then w' v
-  step w w' v (event.Connect i number) f h = subst (λ u. Then u v) (sym h.7) (connect w v f i h.0 h.2 h.3 h.5 h.6)
+  pub step : (w w' : OrderWorld A) (v : Service A) (e : Event) → Follows w v → Happens real w e w' → Then e w' v
+  step w w' v (event.Connect i number) f h = subst (λ k. Then (event.Connect i k) w' v) h.1 (subst (λ u. Then (event.Connect i (number_of h.0)) u v) (sym h.7) (connect w v f i h.0 h.2 h.3 h.5 h.6))
   step w w' v (event.Line i) f h =
       ⊎_elim
-      (λ (q : (l : Line) × order.Says real w i h.0 l w'). subst (λ u. Then u v) (sym q.1.2) (plain_line w v f i h.0 q.0 q.1.0 h.1.0 h.1.1 h.1.2 q.1.1))
+      (λ (q : (l : Line) × order.Says real w i h.0 l w'). subst (λ u. Then (event.Line i) u v) (sym q.1.2) (plain_line w v f i h.0 q.0 q.1.0 h.1.0 h.1.1 h.1.2 q.1.1))
       (λ (q : (l : Line) × order.Submits real w i h.0 (Some l) w').
       let s = q.1 in
-      subst (λ u. Then u v) (sym s.7.2) (asking_line w v f i h.0 q.0 s.0 s.1 s.2 s.3 h.1.0 h.1.1 h.1.2 s.4 s.6 s.7.0))
+      subst (λ u. Then (event.Line i) u v) (sym s.7.2) (asking_line w v f i h.0 q.0 s.0 s.1 s.2 s.3 h.1.0 h.1.1 h.1.2 s.4 s.6 s.7.0))
       h.2
   step w w' v (event.Hangup i) f h =
       let s = h.2 in
-      subst (λ u. Then u v) (sym s.7.2) (hangup w v f i h.0 s.0 s.1 s.2 s.3 h.1.0 h.1.1 h.1.2 s.4 s.7.0)
-  step w w' v (event.Collect i) f h = subst (λ u. Then u v) (sym h.8) (collect w v f i h.0 h.1 h.2 h.3 h.4 h.5 h.6 h.7)
-  step w w' v (event.Given number) f h = subst (λ u. Then u v) (sym h.5.2) (given w v f h.0 h.1 h.3 h.4 h.5.0 h.5.1)
-  step w w' v (event.Arrive which) f h = subst (λ u. Then u v) (sym h.5.2) (arrive w v f which h.0 h.1 h.2 h.3 h.5.0 h.5.1)
+      subst (λ u. Then (event.Hangup i) u v) (sym s.7.2) (hangup w v f i h.0 s.0 s.1 s.2 s.3 h.1.0 h.1.1 h.1.2 s.4 s.7.0)
+  step w w' v (event.Collect i) f h = subst (λ u. Then (event.Collect i) u v) (sym h.8) (collect w v f i h.0 h.1 h.2 h.3 h.4 h.5 h.6 h.7)
+  step w w' v (event.Given number) f h = subst (λ k. Then (event.Given k) w' v) h.2 (subst (λ u. Then (event.Given (number_of h.0)) u v) (sym h.5.2) (given w v f h.0 h.1 h.3 h.4 h.5.0 h.5.1))
+  step w w' v (event.Arrive which) f h = subst (λ u. Then (event.Arrive which) u v) (sym h.5.2) (arrive w v f which h.0 h.1 h.2 h.3 h.5.0 h.5.1)
 
-  pub steps : (events : List Event) (w w' : OrderWorld A) (v : Service A) → Follows w v → Leads real w events w' → (hs : List (Happening A)) × Follows w' (fold (happens cfg) v hs)
-  steps [] w w' v f h = ([], subst (λ u. Follows u v) (sym h) f)
+  -- the service's events for these, and where they lead
+  pub record Steps (events : List Event) (w : OrderWorld A) (v : Service A) : Type 0 where
+    pub taken : List (run.Event A)
+    pub same : AreFor stamps events taken
+    pub possible : CanHappen cfg v taken
+    pub unrefused : AreForUsers cfg logs → (u : Whole A) → u.config ≡ cfg → u.service ≡ v → first_refusal u taken ≡ None
+    pub follows : Follows w (fold (occurs cfg) v taken)
+
+  pub steps : (events : List Event) (w w' : OrderWorld A) (v : Service A) → Follows w v → Leads real w events w' → Steps events w' v
+  steps [] w w' v f h = record { taken = []; same = tt; possible = tt; unrefused = λ users u c s. refl; follows = subst (λ u. Follows u v) (sym h) f }
   steps (e ∷ events) w w' v f h =
       let one = step w h.0 v e f h.1 in
-      let rest = steps events h.0 w' (happens cfg v one.0) one.1 h.2 in
-      (one.0 ∷ rest.0, rest.1)
+      let rest = steps events h.0 w' (occurs cfg v one.event) one.follows h.2 in
+      record {
+        taken = one.event ∷ rest.taken;
+        same = (one.same, rest.same);
+        possible = (one.can, rest.possible);
+        unrefused = λ users u c s.
+            ap (λ o. option_or o (first_refusal (stepped u one.event) rest.taken))
+            (ap (λ (k : Config A). step_refusal k u.service one.event) c ∙ ap (λ x. step_refusal cfg x one.event) s ∙ ap (λ o. option_or o (user_refusal cfg one.event)) one.can ∙ one.unrefused users)
+            ∙ rest.unrefused users (stepped u one.event) c (ap (λ (k : Config A). occurs k u.service one.event) c ∙ ap (λ x. occurs cfg x one.event) s);
+        follows = rest.follows;
+      }

@@ -4,17 +4,17 @@ use Rattle.std.specs.Prelude.{slice_get, is_some, IsSome}
 use Rattle.std.specs.List.{list_any}
 use Rattle.std.proofs.lemmas.List.{append-nil}
 use Rattle.std.proofs.lemmas.Bool.{eqb-true, and_parts, true≢false, cases_Bool, cases_lt}
-use Rattle.audit.specs.Case.{Turn, Asks, Case, next, after_next, sends_next, state_at, sent_at, asked, key_in, count_in, keys_among, earlier_among}
+use Rattle.audit.specs.Case.{Turn, Asks, EndsIfHangup, Case, next, after_next, sends_next, state_at, sent_at, asked, key_in, count_in, keys_among, earlier_among}
 use Rattle.audit.specs.Placing.{put, is_answered, all_answered, message_there, turn_there, is_met, can_place, IsPlacing}
 use Rattle.audit.specs.declared.event.Event.{Event}
 use Rattle.audit.specs.declared.event.Event.TheVariants.{Line, Hangup, Given, Arrive}
-use Rattle.audit.specs.Order.{Awaited, Session, World, opening, Runs, Submits, Happens, Leads, NothingAwaited, SessionEnds, IsNamedOnce, AreTicketed, IsLegalOrder}
+use Rattle.audit.specs.Order.{Awaited, awaited_by, Session, World, opening, Runs, Submits, Happens, Leads, NothingAwaited, SessionEnds, IsNamedOnce, AreTicketed, IsLegalOrder}
 use Rattle.ballot.specs.Lists.{IsIn}
 use Rattle.audit.specs.Laws.{Laws, AllBegin}
 use Rattle.audit.specs.Right.{IsRight, HasNoLine, AreRight, NoneWrong}
 use Rattle.audit.proofs.Basics.{any_back, in_left, in_right, in_either, all_in, put_each, some_of, IsBelow, put_here}
 use Rattle.audit.proofs.Earlier.{keys_both, found, spot, one_place, not_after}
-use Rattle.audit.proofs.Walk.{put_apart, the_world, leads_on, StartsAsking, IsSubmitted, Synced, Caught}
+use Rattle.audit.proofs.Walk.{put_apart, awaited_is, the_world, leads_on, StartsAsking, starts_behind, IsSubmitted, Synced, Caught}
 use Rattle.audit.proofs.Aligned.{aligned, at_once, right_at, HasNoKey, no_key, nothing_left, nothing_said}
 use Rattle.audit.proofs.Sweep.{got_below, IsFit, Ready, sweep, start, same_script}
 
@@ -166,7 +166,7 @@ module _ {S I E K O L : Type 0} (a : Case S I E K O L) (laws : Laws a) (begins :
       (s.0, s.1, s.2, s.3, asked_some (state_at a (a.home k) s.0) s.1 k l s.4)
 
   abbrev pub asked_session : ℕ → List (Turn I K O L) → Option L → I → K → Option O → List (Turn I K O L) → Session I K O L
-  asked_session n done line x k o rest = record { node = Some n; done = done ++ Asks line x k o ∷ []; left = rest; awaits = Some (record { key = k; outcome = o }) }
+  asked_session n done line x k o rest = record { node = Some n; done = done ++ Asks line x k o ∷ []; left = rest; awaits = awaited_by line k o }
 
   abbrev pub asked_event : ℕ → Option L → Event
   asked_event i None = Hangup i
@@ -178,15 +178,15 @@ module _ {S I E K O L : Type 0} (a : Case S I E K O L) (laws : Laws a) (begins :
 
   asking : (q : ℕ → ℕ) (n : ℕ) (x : I) (r : Reached q) → next a n (q n) ≡ Some x → a.runs (state_at a n (q n)) ≡ true → a.brought x ≡ None → (k : K) → asked a (state_at a n (q n)) x ≡ Some k
       → (i : ℕ) (ts : List (Turn I K O L)) → slice_get a.scripts i ≡ Some (Some ts) → (line : Option L) (o : Option O) (before rest : List (Turn I K O L)) → ts ≡ before ++ Asks line x k o ∷ rest → (r.sessions i).left ≡ Asks line x k o ∷ rest → (r.sessions i).awaits ≡ None
-      → IsRight a (at i) x k o → (o ≡ None → HasNoLine a rest) → a.home k ≡ n → (IsSubmitted a q k → ⊥) → Event_of q n x r
-  asking q n x r is up brings k asks i ts script line o before rest ts_is left_is none ir quiet home fresh =
+      → IsRight a (at i) x k o → (o ≡ None → HasNoLine a rest) → EndsIfHangup line o rest → a.home k ≡ n → (IsSubmitted a q k → ⊥) → Event_of q n x r
+  asking q n x r is up brings k asks i ts script line o before rest ts_is left_is none ir quiet ends home fresh =
       let s = (r.fit i ts script).0 in
       let n_at : at i ≡ n = sym ir.mine ∙ home in
       let node : (r.sessions i).node ≡ Some n = s.node ∙ ap (λ m. Some m) n_at in
       let script' : slice_get a.scripts i ≡ Some (Some (before ++ Asks line x k o ∷ rest)) = script ∙ ap (λ us. Some (Some us)) ts_is in
       let new = asked_session n (r.sessions i).done line x k o rest in
       let w' = the_world a (more q n) (r.sent ++ a.sends (state_at a n (q n)) x) (put r.sessions i new) in
-      let submits : (u : Option L) → u ≡ line → Submits a (the_world a q r.sent r.sessions) i n u w' = λ u e. subst (λ z. Submits a (the_world a q r.sent r.sessions) i n z w') (sym e) (x, k, o, rest, left_is, brings, asks, (is, up, refl)) in
+      let submits : (u : Option L) → u ≡ line → Submits a (the_world a q r.sent r.sessions) i n u w' = λ u e. subst (λ z. Submits a (the_world a q r.sent r.sessions) i n z w') (sym e) (x, k, o, rest, left_is, brings, asks, (is, up, refl), ends) in
       let here : IsSubmitted a (more q n) k = subst (λ m. (j : ℕ) × (y : I) × (j < more q n m) × (next a m j ≡ Some y) × (asked a (state_at a m j) y ≡ Some k)) (sym home) (q n, x, subst (λ v. q n < v) (sym (put_here q n (suc (q n)))) (omega arith), is, asks) in
       let in_ts : IsIn k (key_in a ts) = subst (λ us. IsIn k (key_in a us)) (sym ts_is) (subst (λ ks. IsIn k ks) (sym (keys_both a before (Asks line x k o ∷ rest))) (in_right k (key_in a before) _ (inl refl))) in
       let unanswered : is_answered a q k ≡ false = ⊎_elim (λ (t : is_answered a q k ≡ true). absurd (fresh (answered_submitted q i ts script k in_ts t))) (λ f. f) (cases_Bool (is_answered a q k)) in
@@ -201,10 +201,10 @@ module _ {S I E K O L : Type 0} (a : Case S I E K O L) (laws : Laws a) (begins :
             (λ old. s.ahead k' (subst (λ us. IsIn k' (key_in a us)) (sym left_is) (inr h)) old)
             (λ z. not_after a laws k a.scripts i before rest line x o script' ir.once (subst (λ kk. IsIn kk (key_in a rest)) (sym (same_some k k' (sym asks ∙ z))) h))
             (submitted_new q n x k' is sub);
-        outcome = λ y v e. subst (λ (z : Awaited K O). z.outcome ≡ Some v → a.answer (state_at a (a.home z.key) (length (a.logs (a.home z.key)))) z.key ≡ Some v) (same_some _ y e) (ir.outcome v);
-        mine = λ y e. subst (λ (z : Awaited K O). a.home z.key ≡ at i) (same_some _ y e) ir.mine;
-        quiet = λ y e. subst (λ (z : Awaited K O). z.outcome ≡ None → HasNoLine a rest) (same_some _ y e) quiet;
-        held = λ y e. subst (λ (z : Awaited K O). IsIn z.key (key_in a ((r.sessions i).done ++ Asks line x k o ∷ []))) (same_some _ y e) (subst (λ ks. IsIn k ks) (sym (keys_both a (r.sessions i).done (Asks line x k o ∷ []))) (in_right k (key_in a (r.sessions i).done) _ (inl refl)));
+        outcome = λ y v e. subst (λ (z : Awaited K O). z.outcome ≡ Some v → a.answer (state_at a (a.home z.key) (length (a.logs (a.home z.key)))) z.key ≡ Some v) (awaited_is line k o y e) (ir.outcome v);
+        mine = λ y e. subst (λ (z : Awaited K O). a.home z.key ≡ at i) (awaited_is line k o y e) ir.mine;
+        quiet = λ y e. subst (λ (z : Awaited K O). z.outcome ≡ None → HasNoLine a rest) (awaited_is line k o y e) quiet;
+        held = λ y e. subst (λ (z : Awaited K O). IsIn z.key (key_in a ((r.sessions i).done ++ Asks line x k o ∷ []))) (awaited_is line k o y e) (subst (λ ks. IsIn k ks) (sym (keys_both a (r.sessions i).done (Asks line x k o ∷ []))) (in_right k (key_in a (r.sessions i).done) _ (inl refl)));
       } in
       record {
         event = asked_event i line;
@@ -225,8 +225,8 @@ module _ {S I E K O L : Type 0} (a : Case S I E K O L) (laws : Laws a) (begins :
               quiet = z.quiet;
               held = z.held;
             });
-        idle = put_apart (λ j z. (us : List (Turn I K O L)) → slice_get a.scripts j ≡ Some (Some us) → z.awaits ≡ None → StartsAsking a z.left) r.sessions i new (λ us e h. absurd (cc)) (λ j ne us e. (r.fit j us e).1.idle);
-        waits = λ j us y e. put_apart (λ j z. slice_get a.scripts j ≡ Some (Some us) → z.awaits ≡ Some y → is_answered a q y.key ≡ false) r.sessions i new (λ e' h. subst (λ (z : Awaited K O). is_answered a q z.key ≡ false) (same_some _ y h) unanswered) (λ j' ne e' h. (r.fit j' us e').1.waits y h) j e;
+        idle = put_apart (λ j z. (us : List (Turn I K O L)) → slice_get a.scripts j ≡ Some (Some us) → z.awaits ≡ None → StartsAsking a z.left) r.sessions i new (λ us e h. starts_behind a line k o rest ends h) (λ j ne us e. (r.fit j us e).1.idle);
+        waits = λ j us y e. put_apart (λ j z. slice_get a.scripts j ≡ Some (Some us) → z.awaits ≡ Some y → is_answered a q y.key ≡ false) r.sessions i new (λ e' h. subst (λ (z : Awaited K O). is_answered a q z.key ≡ false) (awaited_is line k o y h) unanswered) (λ j' ne e' h. (r.fit j' us e').1.waits y h) j e;
       }
     where
       elsewhere : (j : ℕ) (us : List (Turn I K O L)) → slice_get a.scripts j ≡ Some (Some us) → (done left : List (Turn I K O L)) → done ++ left ≡ us → slice_get a.scripts i ≡ Some (Some (before ++ Asks line x k o ∷ rest)) → IsIn k (key_in a left) → count_in a k (keys_among a a.scripts) ≡ 1 → j ≡ i
@@ -268,7 +268,7 @@ module _ {S I E K O L : Type 0} (a : Case S I E K O L) (laws : Laws a) (begins :
       true≢false (sym (answered y.key h') ∙ c.waits y e)) in
       let empty : al.between ≡ [] = at_once a al.between (Asks sp.line sp.input k sp.outcome) sp.rest al.no_keys (subst (StartsAsking a) al.left_is (c.idle none)) in
       let left_is : (r.sessions i).left ≡ Asks sp.line x k sp.outcome ∷ sp.rest = al.left_is ∙ (ap (λ us. us ++ Asks sp.line sp.input k sp.outcome ∷ sp.rest) empty ∙ ap (λ z. Asks sp.line z k sp.outcome ∷ sp.rest) same) in
-      asking q n x r is up brings k asks i ts f.there sp.line sp.outcome sp.before sp.rest (sp.is ∙ ap (λ z. sp.before ++ Asks sp.line z k sp.outcome ∷ sp.rest) same) left_is none (subst (λ z. IsRight a (at i) z k sp.outcome) same ir) both.1 home fresh
+      asking q n x r is up brings k asks i ts f.there sp.line sp.outcome sp.before sp.rest (sp.is ∙ ap (λ z. sp.before ++ Asks sp.line z k sp.outcome ∷ sp.rest) same) left_is none (subst (λ z. IsRight a (at i) z k sp.outcome) same ir) both.1 both.2 home fresh
     where
       contrary : (i j : ℕ) → i < j → i ≡ j → ⊥
       contrary i j h e = absurd (omega arith)

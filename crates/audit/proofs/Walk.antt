@@ -3,12 +3,12 @@ use Rattle.std.proofs.Common.{◌≡◌, ◌⊎◌, ℕ, ◌<◌, length, List, 
 use Rattle.std.specs.Prelude.{◌==◌}
 use Rattle.std.proofs.lemmas.List.{append-nil}
 use Rattle.std.proofs.lemmas.Bool.{eq-eqb, ne_eqb, cases_Bool, cases_eq}
-use Rattle.audit.specs.Case.{Turn, Plain, Asks, Case, next, state_at, asked, key_in}
+use Rattle.audit.specs.Case.{Turn, Plain, Asks, EndsIfHangup, Case, next, state_at, asked, key_in}
 use Rattle.audit.specs.Placing.{put, is_answered}
 use Rattle.audit.specs.declared.event.Event.{Event}
 use Rattle.audit.specs.declared.event.Event.TheVariants.{Line, Collect}
 use Rattle.audit.specs.Events.{kinds, said, unsaid}
-use Rattle.audit.specs.Order.{Awaited, Session, World, Agrees, Happens, Leads}
+use Rattle.audit.specs.Order.{Awaited, awaited_by, Session, World, Agrees, Happens, Leads}
 use Rattle.ballot.specs.Lists.{IsIn}
 use Rattle.audit.specs.Laws.{Laws}
 use Rattle.audit.specs.Right.{HasNoLine}
@@ -35,6 +35,11 @@ put_apart P f n x new old m =
 pub put_itself : {A : Type 0} (f : ℕ → A) (n : ℕ) → put f n (f n) ≡ f
 put_itself f n = λ i m. put_each (λ k y. y ≡ f k) f n (f n) refl (λ k. refl) m i
 
+-- what a session awaits that has asked
+pub awaited_is : {K O L : Type 0} (line : Option L) (k : K) (o : Option O) (y : Awaited K O) → awaited_by line k o ≡ Some y → record { key = k; outcome = o } ≡ y
+awaited_is (Some l) k o y e = cc
+awaited_is None k o y e = absurd (cc)
+
 module _ {S I E K O L : Type 0} (a : Case S I E K O L) where
   abbrev pub the_world : (ℕ → ℕ) → List E → (ℕ → Session I K O L) → World I E K O L
   the_world q sent ss = record { placed = q; sent = sent; sessions = ss }
@@ -50,6 +55,11 @@ module _ {S I E K O L : Type 0} (a : Case S I E K O L) where
   StartsAsking [] = Unit {0}
   StartsAsking (Plain l ∷ ts) = ⊥
   StartsAsking (Asks l x k o ∷ ts) = Unit {0}
+
+  -- after a hangup nothing is left to say
+  pub starts_behind : (line : Option L) (k : K) (o : Option O) (ts : List (Turn I K O L)) → EndsIfHangup line o ts → awaited_by line k o ≡ None → StartsAsking ts
+  starts_behind (Some l) k o ts h e = absurd (cc)
+  starts_behind None k o ts h e = subst StartsAsking (sym h.1) tt
 
   -- what came of saying lines
   pub record Said (q : ℕ → ℕ) (sent : List E) (f : ℕ → Session I K O L) (i n : ℕ) (done left : List (Turn I K O L)) : Type 0 where

@@ -4,7 +4,7 @@ use Rattle.std.specs.Prelude.{slice_get, ◌==◌, ◌&&◌, is_some, IsSome}
 use Rattle.std.proofs.lemmas.List.{append-nil}
 use Rattle.std.proofs.lemmas.Bool.{eqb-true, eq-eqb, ne_eqb, and_parts, true≢false, cases_Bool, cases_eq, cases_lt}
 use Rattle.ballot.specs.Lists.{IsIn}
-use Rattle.audit.specs.Case.{Turn, Plain, Asks, Case, next, after_next, sends_next, state_at, sent_at, asked, key_in, earlier_among}
+use Rattle.audit.specs.Case.{Turn, Plain, Asks, EndsIfHangup, Case, next, after_next, sends_next, state_at, sent_at, asked, key_in, earlier_among}
 use Rattle.audit.specs.Placing.{put, is_answered, all_answered, message_there, turn_there, is_met, can_place, IsPlacing}
 use Rattle.audit.specs.declared.event.Event.{Event}
 use Rattle.audit.specs.declared.event.Event.TheVariants.{Line, Hangup, Collect, Given, Arrive}
@@ -12,8 +12,8 @@ use Rattle.audit.specs.declared.kind.Kind.{Kind}
 use Rattle.audit.specs.declared.placement.Placement.{Placement}
 use Rattle.audit.specs.declared.placement.Source.{Source}
 use Rattle.audit.specs.declared.placement.Source.TheVariants.{Own, Last, Message, FromSession}
-use Rattle.audit.specs.Events.{Talk, kinds, said, unsaid, goes_on, gone_on, begs, behind, kind_of, asking as asks_on, asked_on, events_of, talks_after, events_from, all_go_on, all_gone_on}
-use Rattle.audit.specs.Order.{Awaited, Session, World, Runs, Submits, Agrees, Happens, Leads, Ends, NothingAwaited, SessionEnds, IsNamedOnce, AreTicketed, IsLegalOrder}
+use Rattle.audit.specs.Events.{Talk, kinds, said, unsaid, goes_on, gone_on, begs, behind, kind_of, asking as asks_on, awaits_after, asked_on, events_of, talks_after, events_from, all_go_on, all_gone_on}
+use Rattle.audit.specs.Order.{Awaited, awaited_by, Session, World, Runs, Submits, Agrees, Happens, Leads, Ends, NothingAwaited, SessionEnds, IsNamedOnce, AreTicketed, IsLegalOrder}
 use Rattle.audit.specs.Laws.{Laws, AllBegin}
 use Rattle.audit.specs.Right.{IsRight, HasNoLine, AreRight, NoneWrong}
 use Rattle.audit.proofs.Basics.{in_left, in_right, in_either, all_in, put_each, answer_more, some_of, IsBelow, put_here}
@@ -21,7 +21,7 @@ use Rattle.audit.proofs.Earlier.{earlier_is, keys_both, found, spot, one_place, 
 use Rattle.audit.proofs.Connected.{connected}
 use Rattle.audit.proofs.Sound as sound
 use Rattle.audit.specs.Written.{first_talk, first_talks, last_of, answered_last, script_keys, in_the_end, IsFrom, ArePlaced, written_order}
-use Rattle.audit.proofs.Walk.{put_at, put_apart, put_itself, the_world, the_session, leads_on, StartsAsking, IsSubmitted, Synced, Caught, say, said_synced}
+use Rattle.audit.proofs.Walk.{awaited_is, put_at, put_apart, put_itself, the_world, the_session, leads_on, StartsAsking, IsSubmitted, Synced, Caught, say, said_synced}
 use Rattle.audit.proofs.Aligned.{Aligned, aligned, at_once, right_at}
 use Rattle.audit.proofs.Sweep.{got_below, same_script}
 
@@ -33,7 +33,7 @@ module _ {S I E K O L : Type 0} (a : Case S I E K O L) (laws : Laws a) (begins :
   more q n = put q n (suc (q n))
 
   abbrev asked_session : ℕ → List (Turn I K O L) → Option L → I → K → Option O → List (Turn I K O L) → Session I K O L
-  asked_session n done line x k o rest = record { node = Some n; done = done ++ Asks line x k o ∷ []; left = rest; awaits = Some (record { key = k; outcome = o }) }
+  asked_session n done line x k o rest = record { node = Some n; done = done ++ Asks line x k o ∷ []; left = rest; awaits = awaited_by line k o }
 
   abbrev asked_event : ℕ → Option L → Event
   asked_event i None = Hangup i
@@ -489,6 +489,10 @@ module _ {S I E K O L : Type 0} (a : Case S I E K O L) (laws : Laws a) (begins :
   begs_is i None x k o ks = refl
   begs_is i (Some l) x k o ks = refl
 
+  awaits_is : (line : Option L) (x : I) (k : K) (o : Option O) (ks : List Kind) → is_some (awaited_by line k o) ≡ awaits_after (kind_of (Asks line x k o) ∷ ks)
+  awaits_is None x k o ks = refl
+  awaits_is (Some l) x k o ks = refl
+
   -- what is known of a session that is to ask
   record Ready_to_ask (q : ℕ → ℕ) (i : ℕ) (ts : List (Turn I K O L)) (x : I) (key : K) : Type 0 where
     line : Option L
@@ -498,6 +502,7 @@ module _ {S I E K O L : Type 0} (a : Case S I E K O L) (laws : Laws a) (begins :
     is : ts ≡ before ++ Asks line x key outcome ∷ rest
     right_so : IsRight a (at i) x key outcome
     quiet : outcome ≡ None → HasNoLine a rest
+    ends : EndsIfHangup line outcome rest
     answered : (k : K) → IsIn k (key_in a before) → is_answered a q k ≡ true
     fresh : IsSubmitted a q key → ⊥
 
@@ -535,10 +540,10 @@ module _ {S I E K O L : Type 0} (a : Case S I E K O L) (laws : Laws a) (begins :
       → next a n (q n) ≡ Some x → a.runs (state_at a n (q n)) ≡ true → a.brought x ≡ None → asked a (state_at a n (q n)) x ≡ Some key → (F i).node ≡ Some n → (F i).awaits ≡ None → (F i).left ≡ Asks r.line x key r.outcome ∷ r.rest
       → Happens a (the_world a q sent F) (asked_event i r.line) (the_world a (more q n) (sent ++ a.sends (state_at a n (q n)) x) (put F i (asked_session n (F i).done r.line x key r.outcome r.rest)))
   asks_now q n x sent F i ts key r is up brings asks node none left =
-      event_happens (the_world a q sent F) _ i n r.line (x, key, r.outcome, r.rest, left, brings, asks, (is, up, refl)) node up none
+      event_happens (the_world a q sent F) _ i n r.line (x, key, r.outcome, r.rest, left, brings, asks, (is, up, refl), r.ends) node up none
 
   fits_asked : (q : ℕ → ℕ) (n : ℕ) (x : I) (i : ℕ) (ts : List (Turn I K O L)) (key : K) (r : Ready_to_ask q i ts x key) (t : Talk) (s : Session I K O L) → slice_get a.scripts i ≡ Some (Some ts) → next a n (q n) ≡ Some x → asked a (state_at a n (q n)) x ≡ Some key → a.home key ≡ n → Synced a q (at i) ts s → s.left ≡ Asks r.line x key r.outcome ∷ r.rest → kinds s.left ≡ t.left
-      → Fits (more q n) i ts (record { left = behind t.left; asked = true }) (asked_session n s.done r.line x key r.outcome r.rest)
+      → Fits (more q n) i ts (record { left = behind t.left; asked = awaits_after t.left }) (asked_session n s.done r.line x key r.outcome r.rest)
   fits_asked q n x i ts key r t s script is asks home z left told =
       let n_at : at i ≡ n = sym r.right_so.mine ∙ home in
       let script' : slice_get a.scripts i ≡ Some (Some (r.before ++ Asks r.line x key r.outcome ∷ r.rest)) = script ∙ ap (λ us. Some (Some us)) r.is in
@@ -555,13 +560,13 @@ module _ {S I E K O L : Type 0} (a : Case S I E K O L) (laws : Laws a) (begins :
               (λ old. z.ahead k (subst (λ us. IsIn k (key_in a us)) (sym left) (inr h)) old)
               (λ w. not_after a laws key a.scripts i r.before r.rest r.line x r.outcome script' r.right_so.once (subst (λ kk. IsIn kk (key_in a r.rest)) (sym (same_some key k (sym asks ∙ w))) h))
               (submitted_new q n x k is sub);
-          outcome = λ y v e. subst (λ (w : Awaited K O). w.outcome ≡ Some v → a.answer (state_at a (a.home w.key) (length (a.logs (a.home w.key)))) w.key ≡ Some v) (same_some _ y e) (r.right_so.outcome v);
-          mine = λ y e. subst (λ (w : Awaited K O). a.home w.key ≡ at i) (same_some _ y e) r.right_so.mine;
-          quiet = λ y e. subst (λ (w : Awaited K O). w.outcome ≡ None → HasNoLine a r.rest) (same_some _ y e) r.quiet;
-          held = λ y e. subst (λ (w : Awaited K O). IsIn w.key (key_in a (s.done ++ Asks r.line x key r.outcome ∷ []))) (same_some _ y e) (subst (λ ks. IsIn key ks) (sym (keys_both a s.done (Asks r.line x key r.outcome ∷ []))) (in_right key (key_in a s.done) _ (inl refl)));
+          outcome = λ y v e. subst (λ (w : Awaited K O). w.outcome ≡ Some v → a.answer (state_at a (a.home w.key) (length (a.logs (a.home w.key)))) w.key ≡ Some v) (awaited_is r.line key r.outcome y e) (r.right_so.outcome v);
+          mine = λ y e. subst (λ (w : Awaited K O). a.home w.key ≡ at i) (awaited_is r.line key r.outcome y e) r.right_so.mine;
+          quiet = λ y e. subst (λ (w : Awaited K O). w.outcome ≡ None → HasNoLine a r.rest) (awaited_is r.line key r.outcome y e) r.quiet;
+          held = λ y e. subst (λ (w : Awaited K O). IsIn w.key (key_in a (s.done ++ Asks r.line x key r.outcome ∷ []))) (awaited_is r.line key r.outcome y e) (subst (λ ks. IsIn key ks) (sym (keys_both a s.done (Asks r.line x key r.outcome ∷ []))) (in_right key (key_in a s.done) _ (inl refl)));
         };
-        last = λ y e. ap last_of (keys_both a s.done (Asks r.line x key r.outcome ∷ [])) ∙ (last_push (key_in a s.done) key ∙ ap (λ (w : Awaited K O). Some w.key) (same_some _ y e));
-        told = record { left = sym (ap behind (sym told ∙ ap kinds left)); asked = refl };
+        last = λ y e. ap last_of (keys_both a s.done (Asks r.line x key r.outcome ∷ [])) ∙ (last_push (key_in a s.done) key ∙ ap (λ (w : Awaited K O). Some w.key) (awaited_is r.line key r.outcome y e));
+        told = record { left = sym (ap behind (sym told ∙ ap kinds left)); asked = awaits_is r.line x key r.outcome (kinds r.rest) ∙ sym (ap awaits_after (sym told ∙ ap kinds left)) };
       }
 
   -- only one session has the command left to ask
@@ -681,6 +686,7 @@ module _ {S I E K O L : Type 0} (a : Case S I E K O L) (laws : Laws a) (begins :
             is = sp.is ∙ ap (λ z. sp.before ++ Asks sp.line z key sp.outcome ∷ sp.rest) same;
             right_so = subst (λ z. IsRight a (at i) z key sp.outcome) same ir;
             quiet = both.1;
+            ends = both.2;
             answered = λ k h. all_in (λ z. is_answered a q z) (key_in a sp.before) k turn h;
             fresh = λ sub. contrary sub.0 (q p.node) (subst (λ z. sub.0 < q z) home sub.2)
                 (laws.once p.node sub.0 (q p.node) sub.1 x key (subst (λ z. next a z sub.0 ≡ Some sub.1) home sub.3) is (asked_key (state_at a p.node sub.0) sub.1 key (subst (λ z. asked a (state_at a z sub.0) sub.1 ≡ Some key) home sub.4)) key_is);

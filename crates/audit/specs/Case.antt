@@ -1,10 +1,16 @@
 -- What an audit is given: the rules of a node, the logs, and what each session did.
-use Rattle.std.specs.Prelude.{ℕ, zero, suc, List, [], ◌∷◌, ◌++◌, Option, Some, None, Bool, slice_get, if◌then◌else◌}
+use Rattle.std.specs.Prelude.{◌≡◌, ℕ, zero, suc, List, [], ◌∷◌, ◌++◌, Option, Some, None, Bool, slice_get, if◌then◌else◌}
 
 -- a session's turn: a line that submits nothing, or a line (or a hangup) that submits
 pub data Turn (I K O L : Type 0) : Type 0 where
   Plain : (line : L) → Turn I K O L
   Asks : (line : Option L) → (input : I) → (key : K) → (outcome : Option O) → Turn I K O L
+
+module _ {I K O L : Type 0} where
+  -- what stands behind a turn that asks: a hangup is the last of its session, and its transcript tells no outcome of it
+  abbrev pub EndsIfHangup : Option L → Option O → List (Turn I K O L) → Type 0
+  EndsIfHangup (Some line) outcome behind = Unit {0}
+  EndsIfHangup None outcome behind = (outcome ≡ None) × (behind ≡ [])
 
 -- S replays, I inputs, E envelopes, K a name and its ticket, O outcomes, L lines
 pub record Case (S I E K O L : Type 0) : Type 0 where

@@ -62,8 +62,13 @@ behind (k ∷ ks) = ks
 abbrev pub asking : ℕ → Talk → List Event
 asking i talk = goes_on i true talk ++ begs i (gone_on true talk).left
 
+-- a line awaits an answer, and a hangup none
+abbrev pub awaits_after : List Kind → Bool
+awaits_after (Begs ∷ ks) = true
+awaits_after ks = false
+
 abbrev pub asked_on : Talk → Talk
-asked_on talk = record { left = behind (gone_on true talk).left; asked = true }
+asked_on talk = record { left = behind (gone_on true talk).left; asked = awaits_after (gone_on true talk).left }
 
 -- the first m sessions that pass a test go on
 abbrev pub all_go_on : (ℕ → Bool) → (ℕ → Bool) → (ℕ → Talk) → ℕ → List Event

@@ -1,7 +1,7 @@
 -- A legal order of logs and transcripts.
 use mathlib.Core.Logic.{◌⊎◌}
 use Rattle.std.specs.Prelude.{◌≡◌, ℕ, suc, length, List, [], ◌∷◌, ◌++◌, Option, Some, None, IsSome, true, false, slice_get}
-use Rattle.audit.specs.Case.{Turn, Plain, Asks, Case, next, state_at, asked, count_in, keys_among}
+use Rattle.audit.specs.Case.{Turn, Plain, Asks, EndsIfHangup, Case, next, state_at, asked, count_in, keys_among}
 use Rattle.audit.specs.Placing.{put}
 use Rattle.audit.specs.declared.event.Event.{Event}
 use Rattle.audit.specs.declared.event.Event.TheVariants.{Connect, Line, Hangup, Collect, Given, Arrive}
@@ -24,6 +24,12 @@ pub record World (I E K O L : Type 0) : Type 0 where
   pub sent : List E
   pub sessions : ℕ → Session I K O L
 
+module _ {K O L : Type 0} where
+  -- a session that asks by a line awaits the answer. A hangup ends its session, which takes no answer any more
+  abbrev pub awaited_by : Option L → K → Option O → Option (Awaited K O)
+  awaited_by (Some line) key outcome = Some (record { key = key; outcome = outcome })
+  awaited_by None key outcome = None
+
 module _ {S I E K O L : Type 0} (a : Case S I E K O L) where
   abbrev pub opening : World I E K O L
   opening = record { placed = λ n. 0; sent = []; sessions = λ i. record { node = None; done = []; left = []; awaits = None } }
@@ -45,7 +51,8 @@ module _ {S I E K O L : Type 0} (a : Case S I E K O L) where
       × ((w.sessions i).left ≡ Asks line x k o ∷ ts)
       × (a.brought x ≡ None)
       × (asked a (state_at a n (w.placed n)) x ≡ Some k)
-      × Takes w n x (put w.sessions i (record { node = Some n; done = (w.sessions i).done ++ Asks line x k o ∷ []; left = ts; awaits = Some (record { key = k; outcome = o }) })) w'
+      × Takes w n x (put w.sessions i (record { node = Some n; done = (w.sessions i).done ++ Asks line x k o ∷ []; left = ts; awaits = awaited_by line k o })) w'
+      × EndsIfHangup line o ts
 
   abbrev pub IsAt : World I E K O L → ℕ → ℕ → Type 0
   IsAt w i n = ((w.sessions i).node ≡ Some n) × Runs w n × ((w.sessions i).awaits ≡ None)

@@ -72,7 +72,7 @@ module _ {A : Type 0} where
     loose = λ i. is_loose (slice_get transcripts i);
   }
 
-  -- what a service that ran gives: at least one log, logs of different nodes, each of which can begin so, and sessions that ask for locks alone and take no line after an operation that wasn't answered
+  -- what a service that ran gives: at least one log, logs of different nodes, each of which can begin so, and sessions that ask for locks alone, take no line after an operation that wasn't answered, and hang up last
   pub record AreFit (logs : List (NodeLog A)) (transcripts : List (Transcript A)) : Type 0 where
     pub some : 0 < length logs
     pub openings : (n : ℕ) (log : NodeLog A) → slice_get logs n ≡ Some log → (is_fit log.opening ≡ true) × (place_of log.opening.me logs ≡ n)

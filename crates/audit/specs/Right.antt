@@ -1,6 +1,6 @@
 -- Transcripts without a wrong answer.
 use Rattle.std.specs.Prelude.{◌≡◌, ℕ, List, [], ◌∷◌, Option, Some, None, true, slice_get, length}
-use Rattle.audit.specs.Case.{Turn, Plain, Asks, Case, next, state_at, count_in, keys_among}
+use Rattle.audit.specs.Case.{Turn, Plain, Asks, EndsIfHangup, Case, next, state_at, count_in, keys_among}
 use Rattle.ballot.specs.Lists.{IsIn}
 
 module _ {S I E K O L : Type 0} (a : Case S I E K O L) where
@@ -23,11 +23,11 @@ module _ {S I E K O L : Type 0} (a : Case S I E K O L) where
   HasNoLine (Plain l ∷ ts) = ⊥
   HasNoLine (Asks l x k o ∷ ts) = HasNoLine ts
 
-  -- no line follows an entry without an outcome
+  -- no line follows an entry without an outcome, and nothing a hangup
   abbrev pub AreRight : ℕ → List (Turn I K O L) → Type 0
   AreRight n [] = Unit {0}
   AreRight n (Plain l ∷ ts) = AreRight n ts
-  AreRight n (Asks l x k o ∷ ts) = IsRight n x k o × (o ≡ None → HasNoLine ts) × AreRight n ts
+  AreRight n (Asks l x k o ∷ ts) = IsRight n x k o × (o ≡ None → HasNoLine ts) × EndsIfHangup l o ts × AreRight n ts
 
   -- session i is at node `at i`
   abbrev pub NoneWrong : (ℕ → ℕ) → Type 0

@@ -1,7 +1,7 @@
 -- The first transcript with a wrong answer.
 use Rattle.std.specs.Prelude.{◌≡◌, ℕ, zero, suc, List, [], ◌∷◌, length, Option, Some, None, Bool, true, false, ◌==◌, ◌&&◌, ◌||◌, not, slice_get, if◌then◌else◌}
 use Rattle.std.specs.List.{list_any}
-use Rattle.audit.specs.Case.{Turn, Plain, Asks, Case, next, state_at, turns_of}
+use Rattle.audit.specs.Case.{Turn, Plain, Asks, EndsIfHangup, Case, next, state_at, turns_of}
 use Rattle.audit.specs.Right.{HasNoLine}
 
 module _ {S I E K O L : Type 0} (a : Case S I E K O L) where
@@ -57,11 +57,12 @@ module _ {S I E K O L : Type 0} (a : Case S I E K O L) where
   first_wrong i seen [] = None
   first_wrong i seen (s ∷ ss) = if not (a.loose i) && are_good (node_of (turns_of a s)) seen (turns_of a s) then first_wrong (suc i) (seen_after seen (turns_of a s)) ss else Some i
 
-  -- what transcripts are, by how sessions are: entries ask Take, Commit or Free, and no line follows an entry without an outcome
+  -- what transcripts are, by how sessions are: entries ask Take, Commit or Free, no line follows an entry without an
+  -- outcome, and a hangup comes last and tells none
   abbrev pub IsScript : List (Turn I K O L) → Type 0
   IsScript [] = Unit {0}
   IsScript (Plain l ∷ ts) = IsScript ts
-  IsScript (Asks l x k o ∷ ts) = (a.brought x ≡ None) × (a.locks x ≡ true) × (o ≡ None → HasNoLine a ts) × IsScript ts
+  IsScript (Asks l x k o ∷ ts) = (a.brought x ≡ None) × (a.locks x ≡ true) × (o ≡ None → HasNoLine a ts) × EndsIfHangup l o ts × IsScript ts
 
   -- the node of each session
   abbrev pub turns_at : Option (Option (List (Turn I K O L))) → List (Turn I K O L)

@@ -1,10 +1,13 @@
 //! An audit: inputs are placed until none can be placed, answers are held against the logs, and the events are written down.
-ghost use Rattle.std.specs.Prelude.{◌≡◌, length, None, IfOk, IfErr, []};
+ghost use Rattle.std.specs.Prelude.{◌≡◌, ℕ, length, None, IfOk, IfErr, []};
+ghost use Rattle.apop.specs.Stamp.{Stamp};
+ghost use Rattle.world.specs.declared.config.Config.{Config};
 ghost use Rattle.audit.specs.Audits.{IsWhole, IsCause, HasNoOrder};
 ghost use Rattle.audit.specs.Checks.{AreReplayed};
 ghost use Rattle.audit.specs.Findings.{IsFound};
 ghost use Rattle.audit.specs.Order.{IsLegalOrder};
 ghost use Rattle.audit.specs.Records.{AreFit, case_of};
+ghost use Rattle.audit.specs.Runs.{AreOfService, IsTaken};
 ghost use Rattle.audit.specs.Written.{ArePlaced};
 ghost use Rattle.audit.specs.Wrong as wrong;
 
@@ -60,13 +63,16 @@ fn judge<A: Allocator + Copy>(
 
 /// Looks for a legal order of what the nodes of a service logged and of what its sessions did, and gives its events. The
 /// logs and the transcripts may be any: those of a service that ran are fit, and then what is given is a legal order.
-/// After `Ok` all inputs can come, and no transcript has a wrong answer; after `NoOrder` there is no legal order.
+/// After `Ok` all inputs can come, and no transcript has a wrong answer; after `NoOrder` there is no legal order. Where the
+/// logs and the transcripts are a service's, that service takes the order without a refusal, and it brings what they tell.
 pub fn audit<A: Allocator + Copy>(
     alloc: A,
     logs: &[NodeLog<A>],
     transcripts: &[Transcript<A>],
 ) -> Result<Vec<Event, A>, AuditError>
     ensures order { AreFit logs.now transcripts.now → IfOk result (λ events. IsLegalOrder (case_of logs.now transcripts.now) events.items) }
+    ensures taken { IfOk result (λ events. (config : Config A) (stamps : ℕ → Stamp) → AreFit logs.now transcripts.now → AreOfService config stamps logs.now transcripts.now
+        → IsTaken config stamps logs.now transcripts.now events.items) }
     ensures whole { IfOk result (λ events. IsWhole (case_of logs.now transcripts.now)) }
     ensures right { IfOk result (λ events. wrong.first_wrong (case_of logs.now transcripts.now) 0 [] (case_of logs.now transcripts.now).scripts ≡ None) }
     ensures cause { IfErr result (IsCause (case_of logs.now transcripts.now)) }

@@ -11,7 +11,7 @@ ghost use Rattle.world.specs.Services.{Happening, opening_of, run_of};
 ghost use Rattle.world.specs.declared.config.Config.{Config};
 ghost use Rattle.audit.specs.Order.{IsLegalOrder};
 ghost use Rattle.audit.specs.Records.{is_fit, AreFit, case_of};
-ghost use Rattle.audit.specs.Runs.{AreInOrder, AreOfService, IsRunOf, AreCounted, AreSaidAlone};
+ghost use Rattle.audit.specs.Runs.{AreInOrder, AreOfService, IsRunOf, IsTaken, AreCounted, AreSaidAlone};
 ghost use Rattle.audit.specs.declared.event.Event.{Event};
 
 use std::alloc::Allocator;
@@ -33,6 +33,16 @@ pub fn a_legal_order_is_a_run<A: Allocator>()
         AreFit logs transcripts → AreOfService config stamps logs transcripts
         → (events : List Event) → IsLegalOrder (case_of logs transcripts) events
         → (happenings : List (Happening A)) × IsRunOf config stamps logs transcripts (run_of config happenings) }
+{}
+
+/// The service takes such an order event by event, and refuses none: each can happen where it stands, and where each
+/// message and each break that a node was given is for a user with an account a caller is refused none either. So a legal
+/// order can be played, and brings what the transcripts tell.
+pub fn a_legal_order_is_taken<A: Allocator>()
+    ensures { (config : Config A) (stamps : ℕ → Stamp) (logs : List (NodeLog A)) (transcripts : List (Transcript A)) →
+        AreFit logs transcripts → AreOfService config stamps logs transcripts
+        → (events : List Event) → IsLegalOrder (case_of logs transcripts) events
+        → IsTaken config stamps logs transcripts events }
 {}
 
 /// In such a run each byte that a session wrote and counted is said by a server that has the user's maildrop alone.

@@ -1,6 +1,6 @@
 //! A session, as its events are written down.
 ghost use Rattle.std.specs.Prelude.{◌≡◌, ◌≤◌, ◌++◌, [], false, length, drop, IfOk, OnOk, if◌then◌else◌};
-ghost use Rattle.audit.specs.Events.{said, unsaid, collected, goes_on, gone_on, begs, behind, asking, asked_on};
+ghost use Rattle.audit.specs.Events.{said, unsaid, collected, goes_on, gone_on, begs, behind, awaits_after as spec_after, asking, asked_on};
 ghost use Rattle.audit.specs.Speakers as spec;
 
 use crate::event::Event;
@@ -81,6 +81,13 @@ fn beg<A: Allocator + Copy>(
     Ok(())
 }
 
+/// Whether an answer is awaited after the first of these turns: one to a line is, and none to a hangup.
+fn awaits_after(kinds: &[Kind]) -> bool
+    ensures { result ≡ spec_after kinds.now }
+{
+    matches!(kinds.first(), Some(Kind::Begs))
+}
+
 /// The number of the turn behind the one of this number, if there is that one.
 fn number_behind(kinds: &[Kind], number: usize) -> usize
     requires { number ≤ length kinds.now }
@@ -135,8 +142,8 @@ impl<A: Allocator + Copy> Speaker<A> {
     {
         self.go_on(session, true, events)?;
         beg(session, &self.kinds[self.next..], events)?;
+        self.asked = awaits_after(&self.kinds[self.next..]);
         self.next = number_behind(&self.kinds, self.next);
-        self.asked = true;
         Ok(())
     }
 

@@ -113,8 +113,9 @@ const GONE: Plan = Plan {
     sessions: &[(0, "USER alice\r\nPASS s3\r\n"), (0, ""), (0, "")],
 };
 
-/// A client that is gone gives its lock back. A session that didn't begin has no event, one that said nothing connects. The
-/// session takes the answer that it awaits also where its transcript has lost it, for its hangup comes behind it.
+/// A client that is gone gives its lock back, and no answer to that is taken: its session is over. A session that didn't
+/// begin has no event, one that said nothing connects. The session takes the answer that it awaits also where its transcript
+/// has lost it, for its hangup comes behind it.
 fn check_gone(alloc: Global, lost: Change) -> Result<(), Fail> {
     let mut run = play(alloc, GONE)?;
     make_change(&mut run, Change::Blank)?;
@@ -137,7 +138,6 @@ fn check_gone(alloc: Global, lost: Change) -> Result<(), Fail> {
         Told::Arrive(7),
         Told::Arrive(8),
         Told::Arrive(9),
-        Told::Collect(0),
     ];
     check_events(alloc, &run, expected.as_slice())
 }

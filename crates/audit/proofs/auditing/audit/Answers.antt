@@ -6,6 +6,7 @@ use Rattle.audit.specs.Written.{ArePlaced}
 use Rattle.audit.proofs.Complete.{no_order}
 use Rattle.audit.proofs.Judging.{is_whole, are_replayed, are_placed, is_stuck_at, whatever}
 use Rattle.audit.proofs.RealLaws.{real_laws}
+use Rattle.audit.proofs.RunOrders.{found_taken}
 use Rattle.audit.proofs.auditing.audit.Goals as goal
 
 pub returns-in-Some-clause-cause : goal.returns-in-Some-clause-cause
@@ -63,3 +64,6 @@ returns-clause-whole g c =
     let settled = c.in_ok-placing.ensures in
     let none = subst (λ rs. IsLeast logs rs (length logs) None) c.deref.ensures.value c.in_default.ensures in
     whatever c.judge.result (IsWhole (case_of logs ts)) (is_whole logs ts placing settled.placed none)
+
+pub returns-clause-taken : goal.returns-clause-taken
+returns-clause-taken g c = found_taken c.args.logs.now c.args.transcripts.now (λ events. events.items) c.judge.result c.judge.ensures.order
