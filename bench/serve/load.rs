@@ -1,16 +1,20 @@
 //! Drives a POP3 server on this machine, and tells how fast it is.
 //!
-//! load PORT sessions CONNECTIONS SECONDS     sessions of USER, PASS, STAT, QUIT
+//! load PORT sessions CONNECTIONS SECONDS     sessions of USER, PASS, STAT, QUIT, one after another on each connection's thread
+//! load PORT many CONNECTIONS COUNT           the same, so many on each thread
 //! load PORT noop CONNECTIONS SECONDS         round trips of NOOP
 //! load PORT retr CONNECTIONS COUNT           each connection retrieves messages 1 to COUNT
 //! load PORT hold CONNECTIONS                 logs in so many at once, and holds them until its input ends
+//!
+//! Each but `hold` prints one line: how many, how many a second, the times in milliseconds that half of them and 99 of 100
+//! stayed within, megabytes a second, and how many connections failed. Its status is 0 where none failed.
 //!
 //! Connection number K, from 0, logs in as user `uK` with the secret `s`, so that no two wait for one lock.
 
 use std::env;
 use std::io::{BufRead, BufReader, Read, Write};
 use std::net::TcpStream;
-use std::process::exit;
+use std::process::ExitCode;
 use std::thread;
 use std::time::{Duration, Instant};
 
@@ -74,9 +78,9 @@ struct Work {
     octets: usize,
 }
 
-fn sessions(port: u16, user: usize, until: Instant) -> Result<Work, Failure> {
+fn sessions(port: u16, user: usize, goes_on: impl Fn(usize) -> bool) -> Result<Work, Failure> {
     let mut work = Work::default();
-    while Instant::now() < until {
+    while goes_on(work.times.len()) {
         let start = Instant::now();
         let mut client = Client::connect(port)?;
         client.log_in(user)?;
@@ -122,66 +126,96 @@ fn hold(port: u16, count: usize) -> Result<(), Failure> {
         clients.push(client);
     }
     println!("{count} logged in at once after {:.2} s", start.elapsed().as_secs_f64());
-    let mut input = Vec::new();
-    std::io::stdin().read_to_end(&mut input)?;
+    std::io::stdin().read_to_end(&mut Vec::new())?;
     for client in &mut clients {
         client.say("QUIT\r\n")?;
     }
     Ok(())
 }
 
-fn main() {
-    let words: Vec<String> = env::args().collect();
-    let number = |at: usize| words.get(at).and_then(|word| word.parse::<usize>().ok());
-    let (Some(port), Some(mode), Some(connections)) = (number(1), words.get(2).cloned(), number(3)) else {
-        eprintln!("load PORT sessions|noop|retr|hold CONNECTIONS [SECONDS|COUNT]");
-        exit(2);
-    };
-    let port = port as u16;
-    if mode == "hold" {
-        if let Err(error) = hold(port, connections) {
-            eprintln!("{error}");
-            exit(1);
+/// What the threads do.
+#[derive(Clone, Copy)]
+enum Mode {
+    Sessions(Duration),
+    Many(usize),
+    Noop(Duration),
+    Retr(usize),
+}
+
+impl Mode {
+    fn new(word: &str, amount: usize) -> Option<Mode> {
+        let seconds = Duration::from_secs(amount as u64);
+        match word {
+            "sessions" => Some(Mode::Sessions(seconds)),
+            "many" => Some(Mode::Many(amount)),
+            "noop" => Some(Mode::Noop(seconds)),
+            "retr" => Some(Mode::Retr(amount)),
+            _ => None,
         }
-        return;
     }
-    let amount = number(4).unwrap_or(1);
+
+    fn work(self, port: u16, user: usize) -> Result<Work, Failure> {
+        let start = Instant::now();
+        match self {
+            Mode::Sessions(time) => sessions(port, user, |_| start.elapsed() < time),
+            Mode::Many(count) => sessions(port, user, |done| done < count),
+            Mode::Noop(time) => noop(port, user, start + time),
+            Mode::Retr(count) => retr(port, user, count),
+        }
+    }
+}
+
+/// Runs so many connections at once, and prints what they did. Gives how many failed.
+fn load(port: u16, mode: Mode, connections: usize) -> usize {
     let start = Instant::now();
-    let until = start + Duration::from_secs(amount as u64);
-    let threads: Vec<_> = (0..connections)
-        .map(|user| {
-            let mode = mode.clone();
-            thread::spawn(move || match mode.as_str() {
-                "sessions" => sessions(port, user, until),
-                "noop" => noop(port, user, until),
-                _ => retr(port, user, amount),
-            })
-        })
-        .collect();
-    let mut times = Vec::new();
-    let mut octets = 0;
-    let mut errors = 0;
+    let threads: Vec<_> = (0..connections).map(|user| thread::spawn(move || mode.work(port, user))).collect();
+    let (mut times, mut octets, mut failures) = (Vec::new(), 0, 0);
     for thread in threads {
-        match thread.join().unwrap() {
+        match thread.join().expect("a client's thread panicked") {
             Ok(work) => {
                 times.extend(work.times);
                 octets += work.octets;
             }
             Err(error) => {
-                errors += 1;
+                failures += 1;
                 eprintln!("{error}");
             }
         }
     }
     let seconds = start.elapsed().as_secs_f64();
     times.sort_by(f64::total_cmp);
-    let at = |part: f64| times.get((times.len() as f64 * part) as usize).copied().unwrap_or(0.0) * 1000.0;
+    let within = |part: f64| times.get((times.len() as f64 * part) as usize).map_or(0.0, |time| time * 1000.0);
     println!(
-        "{mode} {connections}: {:.0} a second, p50 {:.3} ms, p99 {:.3} ms, {:.0} MB a second, {errors} errors",
+        "{} done, {:.0} a second, half within {:.3} ms, 99 of 100 within {:.3} ms, {:.0} MB a second, {failures} failed",
+        times.len(),
         times.len() as f64 / seconds,
-        at(0.5),
-        at(0.99),
+        within(0.5),
+        within(0.99),
         octets as f64 / seconds / 1e6
     );
-    exit(if errors == 0 { 0 } else { 1 });
+    failures
+}
+
+fn main() -> ExitCode {
+    let words: Vec<String> = env::args().collect();
+    let number = |at: usize| words.get(at).and_then(|word| word.parse::<usize>().ok());
+    let (Some(port), Some(word), Some(connections)) = (words.get(1).and_then(|word| word.parse().ok()), words.get(2), number(3))
+    else {
+        eprintln!("load PORT sessions|many|noop|retr|hold CONNECTIONS [SECONDS|COUNT]");
+        return ExitCode::from(2);
+    };
+    if word == "hold" {
+        return match hold(port, connections) {
+            Ok(()) => ExitCode::SUCCESS,
+            Err(error) => {
+                eprintln!("{error}");
+                ExitCode::FAILURE
+            }
+        };
+    }
+    match number(4).and_then(|amount| Mode::new(word, amount)) {
+        None => ExitCode::from(2),
+        Some(mode) if load(port, mode, connections) == 0 => ExitCode::SUCCESS,
+        Some(_) => ExitCode::FAILURE,
+    }
 }

@@ -1,9 +1,11 @@
-// A POP3 server without a maildrop, on an epoll loop: it answers the bytes that the service would, to whoever asks. It is
-// what the service is measured beside. Arguments: its port, the octets of a message, and how many messages there are.
+// A POP3 server without a maildrop: it answers the bytes that the service would, to whoever asks. It is what the service is
+// measured beside. At its port it serves all connections from one epoll loop, at the next one from a thread for each.
+// Arguments: its port, the octets of a message, and how many messages there are.
 #define _GNU_SOURCE
 #include <arpa/inet.h>
 #include <errno.h>
 #include <netinet/tcp.h>
+#include <pthread.h>
 #include <stdio.h>
 #include <stdlib.h>
 #include <string.h>
@@ -77,22 +79,53 @@ static int hear(struct client *c) {
     return flush(c);
 }
 
-int main(int count, char **words) {
-    if (count != 4) return 2;
-    size_t octets = strtoul(words[2], 0, 10);
-    struct rlimit files = {65536, 65536};
-    setrlimit(RLIMIT_NOFILE, &files);
-    message = malloc(octets + 64);
-    message_size = (size_t)sprintf(message, "+OK %zu octets\r\n", octets);
-    for (size_t i = 0; i + 2 <= octets; i++) message[message_size++] = i % 72 == 70 ? '\r' : i % 72 == 71 ? '\n' : 'x';
-    memcpy(message + message_size, "\r\n.\r\n", 5);
-    message_size += 5;
-    sprintf(ready, "+OK maildrop has %s messages (%zu octets)\r\n", words[3], octets * strtoul(words[3], 0, 10));
-    int listener = socket(AF_INET, SOCK_STREAM | SOCK_NONBLOCK, 0), one = 1;
+static void forget(struct client *c) {
+    close(c->fd);
+    free(c->out);
+    free(c);
+}
+
+static int listen_at(int port, int flags) {
+    int listener = socket(AF_INET, SOCK_STREAM | flags, 0), one = 1;
     setsockopt(listener, SOL_SOCKET, SO_REUSEADDR, &one, sizeof one);
-    struct sockaddr_in here = {.sin_family = AF_INET, .sin_port = htons((unsigned short)atoi(words[1])),
+    struct sockaddr_in here = {.sin_family = AF_INET, .sin_port = htons((unsigned short)port),
                                .sin_addr.s_addr = htonl(INADDR_LOOPBACK)};
-    if (bind(listener, (struct sockaddr *)&here, sizeof here) || listen(listener, 4096)) return 1;
+    if (bind(listener, (struct sockaddr *)&here, sizeof here) || listen(listener, 4096)) exit(1);
+    return listener;
+}
+
+// The next client of a listener, which is greeted. None where none is there.
+static struct client *greet(int listener, int flags) {
+    int fd = accept4(listener, 0, 0, flags), one = 1;
+    if (fd < 0) return 0;
+    setsockopt(fd, IPPROTO_TCP, TCP_NODELAY, &one, sizeof one);
+    struct client *c = calloc(1, sizeof *c);
+    if (!c) abort();
+    c->fd = fd;
+    say(c, "+OK POP3 server ready <0123456789abcdef.1@localhost>\r\n");
+    return c;
+}
+
+static void *serve_one(void *client) {
+    struct client *c = client;
+    if (flush(c)) while (hear(c)) {}
+    forget(c);
+    return 0;
+}
+
+static void *serve_by_threads(void *listener) {
+    pthread_attr_t small;
+    pthread_attr_init(&small);
+    pthread_attr_setstacksize(&small, 65536);
+    pthread_attr_setdetachstate(&small, PTHREAD_CREATE_DETACHED);
+    for (;;) {
+        struct client *c = greet(*(int *)listener, 0);
+        pthread_t its;
+        if (c && pthread_create(&its, &small, serve_one, c)) forget(c);
+    }
+}
+
+static void serve_by_loop(int listener) {
     int loop = epoll_create1(0);
     struct epoll_event own = {.events = EPOLLIN, .data.ptr = 0}, got[EVENTS];
     epoll_ctl(loop, EPOLL_CTL_ADD, listener, &own);
@@ -101,24 +134,35 @@ int main(int count, char **words) {
         for (int i = 0; i < n; i++) {
             struct client *c = got[i].data.ptr;
             if (!c) {
-                int fd = accept4(listener, 0, 0, SOCK_NONBLOCK);
-                if (fd < 0) continue;
-                setsockopt(fd, IPPROTO_TCP, TCP_NODELAY, &one, sizeof one);
-                c = calloc(1, sizeof *c);
-                if (!c) abort();
-                c->fd = fd;
+                c = greet(listener, SOCK_NONBLOCK);
                 struct epoll_event its = {.events = EPOLLIN | EPOLLOUT | EPOLLET, .data.ptr = c};
-                say(c, "+OK POP3 server ready <0123456789abcdef.1@localhost>\r\n");
-                epoll_ctl(loop, EPOLL_CTL_ADD, fd, &its);
+                if (c) epoll_ctl(loop, EPOLL_CTL_ADD, c->fd, &its);
                 continue;
             }
             int stays = flush(c);
             if (stays && (got[i].events & (EPOLLIN | EPOLLHUP | EPOLLERR))) stays = hear(c);
-            if (!stays) {
-                close(c->fd);
-                free(c->out);
-                free(c);
-            }
+            if (!stays) forget(c);
         }
     }
+}
+
+static void write_message(size_t octets, const char *count) {
+    message = malloc(octets + 64);
+    if (!message) abort();
+    message_size = (size_t)sprintf(message, "+OK %zu octets\r\n", octets);
+    for (size_t i = 0; i + 2 <= octets; i++) message[message_size++] = i % 72 == 70 ? '\r' : i % 72 == 71 ? '\n' : 'x';
+    memcpy(message + message_size, "\r\n.\r\n", 5);
+    message_size += 5;
+    sprintf(ready, "+OK maildrop has %s messages (%zu octets)\r\n", count, octets * strtoul(count, 0, 10));
+}
+
+int main(int count, char **words) {
+    if (count != 4) return 2;
+    struct rlimit files = {65536, 65536};
+    setrlimit(RLIMIT_NOFILE, &files);
+    write_message(strtoul(words[2], 0, 10), words[3]);
+    int port = atoi(words[1]), for_threads = listen_at(port + 1, 0);
+    pthread_t others;
+    if (pthread_create(&others, 0, serve_by_threads, &for_threads)) return 1;
+    serve_by_loop(listen_at(port, SOCK_NONBLOCK));
 }
