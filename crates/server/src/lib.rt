@@ -2,6 +2,7 @@
 #![tactic(auto)]
 
 mod fault;
+mod gathering;
 mod lone;
 mod lone_asks;
 mod lone_desk;
@@ -9,6 +10,6 @@ mod mail;
 mod options;
 
 pub use fault::Fault;
-pub use lone::lone_run;
+pub use lone::{lone_run, lone_run_gathered};
 pub use lone_desk::LoneDesk;
 pub use options::{LONE_IDS, LONE_MESSAGES, LONE_OCTETS, LoneOptions};

@@ -8,6 +8,7 @@ ghost use Rattle.server.specs.Served.{IsSessionOf, IsMailed, IsOfRun};
 ghost use Rattle.server.specs.Options as spec;
 
 use crate::fault::Fault;
+use crate::gathering::Gathering;
 use crate::lone_desk::LoneDesk;
 use crate::mail::{deliver, texts_of};
 use crate::options::{LONE_IDS, LONE_MESSAGES, LONE_OCTETS, LoneOptions};
@@ -138,4 +139,31 @@ pub fn lone_run<H: AllocGlobal + Eprint, R: Read, W: Write>(
             fault.status()
         }
     }
+}
+
+/// Does as `lone_run`, but gathers the replies until more is read, so that those to lines that came together go out
+/// together. That they can't be written is told as a fault of writing, also where that is seen only at the end.
+pub fn lone_run_gathered<H: AllocGlobal + Eprint, R: Read + Drop, W: Write + Drop>(
+    rt: &H,
+    reader: R,
+    writer: W,
+    options: &LoneOptions<'_>,
+) -> u8
+    ensures status { (result ≡ 1) ⊎ IsStatusOf Global options.now result }
+    ensures refused { (¬ spec.IsAccount options.now) → result ≡ 2 }
+{
+    let gathering = Gathering::new(rt.alloc(), writer);
+    let status = lone_run(
+        rt,
+        &mut gathering.heard(reader),
+        &mut gathering.said(),
+        options,
+    );
+    // After another fault that one is told, and nothing else.
+    if gathering.flush().is_err() && status == 0 {
+        let fault = Fault::Write;
+        let _ = eprintln!(rt; "maildropd: {fault}");
+        return fault.status();
+    }
+    status
 }
