@@ -3,6 +3,7 @@ ghost use Rattle.std.specs.Prelude.{◌≡◌, ◌≤◌, ◌++◌, ◌∷◌, [
 ghost use Rattle.std.specs.Io.KnownBytes.{Appends};
 ghost use Rattle.service.specs.Options as spec;
 ghost use Rattle.service.specs.Verdicts as verdicts;
+ghost use Rattle.service.specs.declared.verdict.Verdict.TheVariants.{Legal};
 ghost use Rattle.std.specs.List.{All};
 ghost use Rattle.cluster.specs.Members.{IsLogOf};
 ghost use Rattle.apop.specs.Accounts.{name_of};
@@ -205,6 +206,9 @@ pub fn serve_run<
 >(rt: R, alloc: Global, writer: &mut W, options: &ServeOptions<'_>) -> u8
     ensures values { (¬ spec.AreGood options.now) → result ≡ 2 }
     ensures statuses { result ≤ 2 }
+
+    // The status 0 comes only behind the line that tells of an audit which found all in order.
+    ensures told { result ≡ 0 → Appends (W.contents writer.old) (W.contents writer.new) (verdicts.text_of Legal ++ 10 ∷ []) }
 {
     let fault = match run(rt, alloc, options) {
         Ok(verdict) => match tell(alloc, writer, &verdict) {
