@@ -1,4 +1,6 @@
 //! What all threads of a service share.
+ghost use Rattle.std.specs.Prelude.{◌≡◌};
+ghost use Rattle.service.specs.declared.board.Stage.TheVariants as spec;
 
 use crate::system::local;
 use apop::{Accounts, Stamp, stamp};
@@ -33,6 +35,18 @@ enum Stage {
     Stopping,
     /// All sessions have ended.
     Ended,
+}
+
+impl Stage {
+    /// A service that serves stops. One that has ended stays so, however late another request to stop comes.
+    fn stop(&mut self)
+        ensures serving { self.old ≡ spec.Serving → self.new ≡ spec.Stopping }
+        ensures ended { self.old ≡ spec.Ended → self.new ≡ spec.Ended }
+    {
+        if matches!(*self, Stage::Serving) {
+            *self = Stage::Stopping;
+        }
+    }
 }
 
 /// What all threads of a service share: who may log in, how far the service has come, and what its sessions left.
@@ -119,7 +133,7 @@ impl Board {
 
     /// Lets the service stop, and wakes who listens at these ports.
     pub(crate) fn stop<R: Net + Wait + Clock>(&self, rt: &R, ports: &[u16]) {
-        *self.stage.lock(rt) = Stage::Stopping;
+        self.stage.lock(rt).stop();
         for port in ports {
             wake(rt, *port);
         }

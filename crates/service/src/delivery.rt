@@ -90,8 +90,8 @@ fn key_of(prefix: &Option<KeyPrefix>, place: usize) -> Option<Key>
     }
 }
 
-/// Has the texts delivered in order, and tells the outcome of each as soon as it is there. The key of each, if there are keys, is the prefix
-/// with the number of the text behind it, counted from 1. Ends with `down` where the node stops.
+/// Has the texts delivered in order, and tells the outcome of each as soon as it is there. The key of each, if there are
+/// keys, is the prefix with the number of the text behind it, counted from 1. Ends with `down` where the node stops.
 pub(crate) fn deliver<D: Desk<Op, Outcome>, W: Write>(
     alloc: Global,
     desk: &mut D,

@@ -155,7 +155,7 @@ fn run_with<R: System + Files>(
     let ports = Ports::open(&rt, alloc, settings)?;
     let host = settings.host.copy()?;
     let board = Arc::new(alloc, Board::new(alloc, accounts, host))?;
-    // No accounts have one name.
+    // No two accounts have one name.
     if !are_different(setup.names.get()) {
         return Err(Fault::Value);
     }
