@@ -2,10 +2,15 @@
 
 use crate::arguments::{bytes_of, option};
 use clap::{ArgMatches, Command, Error};
-use server::{Fault, LoneOptions, lone_run};
+use server::{Fault, LoneOptions, lone_run_gathered};
 use std::alloc::Global;
 use std::rt::Files;
 use std::{fs, io};
+
+/// What `--help` shows below the options.
+const EXAMPLE: &str = "Example, which serves a mailbox file at port 1100:
+  socat TCP-LISTEN:1100,bind=127.0.0.1,reuseaddr,fork EXEC:\"maildropd lone --user alice --secret s --mbox mail.mbox\"
+At a terminal it answers line by line.";
 
 pub(crate) fn lone<'a>(alloc: Global) -> Result<Command<'a>, Error> {
     let user = option(
@@ -46,6 +51,7 @@ pub(crate) fn lone<'a>(alloc: Global) -> Result<Command<'a>, Error> {
     );
     let lone = Command::new(alloc, "lone")
         .about("Serves one POP3 session over one user's maildrop on standard input and output")
+        .after_help(EXAMPLE)
         .arg(user.required(true))?
         .arg(secret.required(true))?
         .arg(method.default_value("pass"))?
@@ -69,7 +75,7 @@ fn run_with<R: AllocGlobal + Input + Print + Eprint>(
         host: bytes_of(matches, "host"),
         mbox,
     };
-    lone_run(rt, &mut rt.reader(), &mut io::writer(rt), &options)
+    lone_run_gathered(rt, rt.reader(), io::writer(rt), &options)
 }
 
 pub(crate) fn run_lone<R: AllocGlobal + Files + Input + Print + Eprint>(
