@@ -10,20 +10,30 @@ use std::rt::Files;
 
 /// What `--help` shows below the options.
 const REQUESTS: &str = "Requests:
-  deliver NODE USER FILE [KEY]  Delivers the messages of a mailbox file (mboxrd); under a key, each is stored once, however often it is sent
+  deliver NODE USER FILE [KEY]  Delivers the messages of a mailbox file (mboxrd); under a key of 1 to 54 visible ASCII characters, each is stored once, however often it is sent
   break NODE USER               Takes the user's lock from the session that has it
   crash NODE                    Stops a node, for good
   status                        Tells how the nodes stand
   stop                          Ends the service, once its sessions have ended
+Behind the first word of a request nothing is an option.
+The status is 0 after an answer, 3 where that is `bad request`, `bad mbox` or `down`, 2 for words that are no request, else 1.
 Example:
   maildropd ctl --port 11999 deliver 1 alice mail.mbox";
 
 pub(crate) fn ctl<'a>(alloc: Global) -> Result<Command<'a>, Error> {
-    let port = number(alloc, "port", "PORT", "The service's operator's port");
+    let port = number(
+        alloc,
+        "port",
+        "PORT",
+        "The port of 127.0.0.1 at which the service takes operators' requests",
+    );
     let words = Arg::new(alloc, "words")
         .value_name("REQUEST")
         .help("The request, as below")
         .num_args(1..)
+        // Behind the first word nothing is an option: a user's name, a file or a key may begin with a hyphen.
+        .trailing_var_arg(true)
+        .allow_hyphen_values(true)
         .action(ArgAction::Append);
     let ctl = Command::new(alloc, "ctl")
         .about("Makes an operator's request to a service on this machine, and prints the answer")
