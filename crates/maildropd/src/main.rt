@@ -14,6 +14,7 @@ use crate::sim::{run_sim, sim};
 use clap::error::ErrorKind;
 use clap::{Command, Error};
 use std::alloc::Global;
+use std::io;
 use std::net::{Net, TcpListener, TcpStream};
 use std::process::ExitCode;
 use std::random::RandomSource;
@@ -81,16 +82,27 @@ fn refused<R: Print + Eprint>(rt: &R, error: &Error) -> u8 {
     }
 }
 
+/// The words of the command line.
+fn words_of(rt: &HostRuntime) -> io::Result<Vec<String>> {
+    let words = std::env::args(rt)?.collect::<Vec<String>>(rt.alloc())?;
+    Ok(words)
+}
+
+/// Says why the words can't be read, and gives the exit status: 1 for want of memory, else 2.
+fn unreadable<R: Eprint>(rt: &R, error: &io::Error) -> u8 {
+    if error.kind() == io::ErrorKind::OutOfMemory {
+        let _ = eprintln!(rt; "maildropd: no memory");
+        1
+    } else {
+        let _ = eprintln!(rt; "maildropd: a word of the command line is not UTF-8");
+        2
+    }
+}
+
 fn main(rt: HostRuntime) -> ExitCode {
-    let Ok(arguments) = std::env::args(&rt) else {
-        return ExitCode::from(2);
-    };
-    let status = match arguments.collect::<Vec<String>>(rt.alloc()) {
+    let status = match words_of(&rt) {
         Ok(words) => run(&rt, words.as_slice()).unwrap_or_else(|error| refused(&rt, &error)),
-        Err(_) => {
-            let _ = eprintln!(rt; "maildropd: no memory");
-            1
-        }
+        Err(error) => unreadable(&rt, &error),
     };
     ExitCode::from(status)
 }

@@ -16,7 +16,8 @@ use std::time::Clock;
 const EXAMPLE: &str = "Example, with a line `alice pass secret` in the file accounts:
   maildropd serve --accounts accounts --pop-port 11000 --ctl-port 11999
 Node 1 takes POP3 connections at 127.0.0.1:11001, node 2 at 11002, node 3 at 11003.
-`maildropd ctl --port 11999 stop` ends it.";
+`maildropd ctl --port 11999 stop` ends it. Then it tells what an audit finds: `audit ok` with the status 0, or what is wrong with the status 1.
+All mail lies in memory, and is gone when the process ends.";
 
 /// The options that say where the service is.
 fn places<'a>(alloc: Global, serve: Command<'a>) -> Result<Command<'a>, Error> {
@@ -30,7 +31,7 @@ fn places<'a>(alloc: Global, serve: Command<'a>) -> Result<Command<'a>, Error> {
         alloc,
         "pop-port",
         "PORT",
-        "Node N takes POP3 connections at 127.0.0.1, at this port and N more",
+        "Node N takes POP3 connections at 127.0.0.1, at the port N above this one",
     );
     let ctl_port = number(
         alloc,
