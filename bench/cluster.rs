@@ -1,5 +1,5 @@
 //! Runs the program of crates/cluster_load, which has nodes on threads decide the commands of clients on threads of their own,
-//! and beside it threads of plain Rust that pass on as many messages and decide nothing. Each run is a process of its own.
+//! and beside it threads of plain Rust that pass on the messages of a command that nothing contends with, and decide nothing. Each run is a process of its own.
 use std::collections::VecDeque;
 use std::process::{Child, Command, Stdio};
 use std::sync::mpsc::{Receiver, Sender, channel};
