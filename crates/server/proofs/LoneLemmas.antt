@@ -1,8 +1,9 @@
 -- A session that was served over the desk of a lone session is one that the user's maildrop answers.
 use Rattle.std.proofs.Common.{◌≡◌, ◌⊎◌, ℕ, ◌+◌, List, [], ◌∷◌, ◌++◌, Option, Some, None, refl, ap, sym, ◌∙◌, append-nil, inl, inr, subst, rules}
-use Rattle.std.specs.Prelude.{IfSome, OnOk, IsOk, Result, Ok, Err, ◌↔◌}
+use Rattle.std.specs.Prelude.{IfSome, OnOk, IfErr, IsOk, Result, Ok, Err, ◌↔◌}
 use Rattle.std.specs.List.{concat}
 use Rattle.std.specs.Io.KnownBytes.{Appends}
+use Rattle.std.specs.declared.alloc.Global.{Global}
 use Rattle.maildrop.specs.Ticket.{Ticket}
 use Rattle.maildrop.specs.Office.{outcome_in, users_after}
 use Rattle.maildrop.specs.declared.outcome.Outcome.{Outcome}
@@ -29,7 +30,8 @@ use Rattle.session.proofs.LineFronts.{lines_front, heard_front}
 use Rattle.server.specs.Tickets.{ticket_of}
 use Rattle.server.specs.LoneDesks.{Gives, GivesTicket}
 use Rattle.server.specs.Lone.{commands_from}
-use Rattle.server.specs.Served.{answers_in, IsSessionOf}
+use Rattle.server.specs.Served.{answers_in, IsSessionOf, IsEndBy, IsCutBy}
+use Rattle.server.specs.declared.fault.Fault.{Fault}
 use Rattle.server.specs.declared.lone_desk.LoneDesk.{LoneDesk}
 
 -- a session that ended by itself or with the input
@@ -44,6 +46,13 @@ all-written ended replies written (inr hung_up) some = subst (λ e. IsWrittenBy 
 pub over_ok : {T E Q P : Type 0} (result : Result T E) → (IsOk result ↔ Q) → (Q → P) → OnOk result P
 over_ok (Ok value) over leads = leads (over.0 (search rules))
 over_ok (Err fault) over leads = tt
+
+-- a fault by the end of a session that was served
+pub cut_session : {T : Type 0} (result : Result T Fault) (accounts : List Account) (stamp : Stamp) (remaining remaining2 contents contents2 : Option (List ℕ)) (transcript : Transcript Global)
+    → IsTranscript accounts stamp transcript → IsReadAndWritten accounts stamp transcript remaining remaining2 contents contents2 → IfErr result (λ reason. IsEndBy reason transcript.end)
+    → IfErr result (λ reason. IsCutBy accounts stamp reason remaining remaining2 contents contents2)
+cut_session (Ok value) accounts stamp remaining remaining2 contents contents2 transcript tells bytes by = tt
+cut_session (Err reason) accounts stamp remaining remaining2 contents contents2 transcript tells bytes by = record { transcript = transcript; tells = tells; bytes = bytes; ended = by }
 
 module _ {A : Type 0} where
   -- what entries asked, under the tickets from a number on

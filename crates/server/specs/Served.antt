@@ -1,5 +1,5 @@
 -- A lone session over its desk. Only private contracts cite this.
-use Rattle.std.specs.Prelude.{◌≡◌, ℕ, ◌+◌, true, List, [], ◌∷◌, length}
+use Rattle.std.specs.Prelude.{◌≡◌, ℕ, ◌+◌, true, List, [], ◌∷◌, length, Option}
 use Rattle.std.specs.List.{concat}
 use Rattle.std.specs.declared.alloc.Global.{Global}
 use mathlib.Core.Logic.{◌⊎◌}
@@ -9,6 +9,10 @@ use Rattle.apop.specs.Accounts.{Account}
 use Rattle.apop.specs.Stamp.{Stamp}
 use Rattle.pop3_wire.specs.Lines.{lines_of}
 use Rattle.session.specs.Conversation.{Answer, conversation}
+use Rattle.session.specs.Serve.{IsTranscript, IsReadAndWritten}
+use Rattle.session.specs.declared.transcript.Transcript.{Transcript}
+use Rattle.session.specs.declared.transcript.End.{End}
+use Rattle.session.specs.declared.transcript.End.TheVariants as end
 use Rattle.server.specs.Lone.{commands_from, mails_from, AreStored}
 use Rattle.server.specs.Options.{lone_limits}
 use Rattle.server.specs.declared.fault.Fault.{Fault}
@@ -44,3 +48,20 @@ pub record IsMailed (user : List ℕ) (options : LoneOptions) (desk : LoneDesk G
 -- a fault of a run, and none of its options
 abbrev pub IsOfRun : Fault → Type 0
 IsOfRun reason = (reason ≡ fault.Memory) ⊎ (reason ≡ fault.Read) ⊎ (reason ≡ fault.Write)
+
+-- the end of a session that is this fault of its run
+abbrev pub IsEndBy : Fault → End → Type 0
+IsEndBy fault.Account ended = ⊥
+IsEndBy fault.Value ended = ⊥
+IsEndBy fault.Mailbox ended = ⊥
+IsEndBy fault.Mail ended = ⊥
+IsEndBy fault.Memory ended = (ended ≡ end.DeskStopped) ⊎ (ended ≡ end.Memory)
+IsEndBy fault.Read ended = ended ≡ end.ReadFault
+IsEndBy fault.Write ended = ended ≡ end.WriteFault
+
+-- A session was served up to this fault: what it heard was read, and what it said was written, as far as its end says.
+pub record IsCutBy (accounts : List Account) (stamp : Stamp) (reason : Fault) (remaining remaining2 contents contents2 : Option (List ℕ)) : Type 0 where
+  pub transcript : Transcript Global
+  pub tells : IsTranscript accounts stamp transcript
+  pub bytes : IsReadAndWritten accounts stamp transcript remaining remaining2 contents contents2
+  pub ended : IsEndBy reason transcript.end

@@ -4,7 +4,7 @@ ghost use Rattle.std.specs.declared.alloc.Global.{Global};
 ghost use Rattle.std.specs.Io.KnownBytes.{Appends};
 ghost use Rattle.mboxrd.specs.declared.error.MboxError.TheVariants.{NoFromLine};
 ghost use Rattle.server.specs.Lone.{AreStored, AreGood, IsFirstFault, IsStatusOf, IsLoneSession};
-ghost use Rattle.server.specs.Served.{IsSessionOf, IsMailed, IsOfRun};
+ghost use Rattle.server.specs.Served.{IsSessionOf, IsMailed, IsOfRun, IsEndBy, IsCutBy};
 ghost use Rattle.server.specs.Options as spec;
 
 use crate::fault::Fault;
@@ -45,6 +45,7 @@ fn ended(end: End) -> Result<(), Fault>
     ensures read { IsErrOf result Fault.Read ↔ (end ≡ End.ReadFault) }
     ensures write { IsErrOf result Fault.Write ↔ (end ≡ End.WriteFault) }
     ensures fault { IfErr result (λ fault. IsOfRun fault) }
+    ensures cut { IfErr result (λ fault. IsEndBy fault end) }
 {
     match end {
         End::Closed | End::HungUp => Ok(()),
@@ -68,6 +69,8 @@ fn serve_desk<R: Read, W: Write>(
         × IsSessionOf {A = Global} accounts.now stamp desk.old.next desk.old.office input written
         × Appends (W.contents writer.old) (W.contents writer.new) written)) }
     ensures fault { IfErr result (λ fault. IsOfRun fault) }
+    ensures cut { IfErr result (λ fault. IsCutBy accounts.now stamp fault
+        (R.remaining reader.old) (R.remaining reader.new) (W.contents writer.old) (W.contents writer.new)) }
 {
     let transcript = serve(alloc, reader, writer, accounts, stamp, desk, &mut OpenGate);
     ended(transcript.end)
