@@ -30,7 +30,7 @@ use Rattle.session.proofs.LineFronts.{lines_front, heard_front}
 use Rattle.server.specs.Tickets.{ticket_of}
 use Rattle.server.specs.LoneDesks.{Gives, GivesTicket}
 use Rattle.server.specs.Lone.{commands_from}
-use Rattle.server.specs.Served.{answers_in, IsSessionOf, IsEndBy, IsCutBy}
+use Rattle.server.specs.Served.{answers_in, IsSessionOf, IsEndBy, IsCutBy, IsUnserved}
 use Rattle.server.specs.declared.fault.Fault.{Fault}
 use Rattle.server.specs.declared.lone_desk.LoneDesk.{LoneDesk}
 
@@ -53,6 +53,15 @@ pub cut_session : {T : Type 0} (result : Result T Fault) (accounts : List Accoun
     → IfErr result (λ reason. IsCutBy accounts stamp reason remaining remaining2 contents contents2)
 cut_session (Ok value) accounts stamp remaining remaining2 contents contents2 transcript tells bytes by = tt
 cut_session (Err reason) accounts stamp remaining remaining2 contents contents2 transcript tells bytes by = record { transcript = transcript; tells = tells; bytes = bytes; ended = by }
+
+-- the same of the accounts and the timestamp of the options
+pub cut_alone : {T W : Type 0} (result : Result T Fault) (old new : W) (accounts accounts2 : List Account) (stamp stamp2 : Stamp) (remaining remaining2 contents contents2 : Option (List ℕ))
+    → accounts ≡ accounts2 → stamp ≡ stamp2 → IfErr result (λ reason. IsCutBy accounts stamp reason remaining remaining2 contents contents2)
+    → IfErr result (λ reason. IsUnserved reason old new ⊎ IsCutBy accounts2 stamp2 reason remaining remaining2 contents contents2)
+cut_alone (Ok value) old new accounts accounts2 stamp stamp2 remaining remaining2 contents contents2 known stamped cut = tt
+cut_alone (Err reason) old new accounts accounts2 stamp stamp2 remaining remaining2 contents contents2 known stamped cut =
+    let by_accounts : IsCutBy accounts2 stamp reason remaining remaining2 contents contents2 = subst (λ a. IsCutBy a stamp reason remaining remaining2 contents contents2) known cut in
+    inr (subst (λ s. IsCutBy accounts2 s reason remaining remaining2 contents contents2) stamped by_accounts)
 
 module _ {A : Type 0} where
   -- what entries asked, under the tickets from a number on

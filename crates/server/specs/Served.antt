@@ -1,5 +1,5 @@
 -- A lone session over its desk. Only private contracts cite this.
-use Rattle.std.specs.Prelude.{◌≡◌, ℕ, ◌+◌, true, List, [], ◌∷◌, length, Option}
+use Rattle.std.specs.Prelude.{◌≡◌, ◌≢◌, ℕ, ◌+◌, true, List, [], ◌∷◌, length, Option}
 use Rattle.std.specs.List.{concat}
 use Rattle.std.specs.declared.alloc.Global.{Global}
 use mathlib.Core.Logic.{◌⊎◌}
@@ -65,3 +65,7 @@ pub record IsCutBy (accounts : List Account) (stamp : Stamp) (reason : Fault) (r
   pub tells : IsTranscript accounts stamp transcript
   pub bytes : IsReadAndWritten accounts stamp transcript remaining remaining2 contents contents2
   pub ended : IsEndBy reason transcript.end
+
+-- no session was served: nothing was written, and it is no fault of reading or writing
+abbrev pub IsUnserved : {W : Type 0} → Fault → W → W → Type 0
+IsUnserved reason old new = (reason ≢ fault.Read) × (reason ≢ fault.Write) × (new ≡ old)

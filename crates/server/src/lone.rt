@@ -4,7 +4,7 @@ ghost use Rattle.std.specs.declared.alloc.Global.{Global};
 ghost use Rattle.std.specs.Io.KnownBytes.{Appends};
 ghost use Rattle.mboxrd.specs.declared.error.MboxError.TheVariants.{NoFromLine};
 ghost use Rattle.server.specs.Lone.{AreStored, AreGood, IsFirstFault, IsStatusOf, IsLoneSession};
-ghost use Rattle.server.specs.Served.{IsSessionOf, IsMailed, IsOfRun, IsEndBy, IsCutBy};
+ghost use Rattle.server.specs.Served.{IsSessionOf, IsMailed, IsOfRun, IsEndBy, IsCutBy, IsUnserved};
 ghost use Rattle.server.specs.Options as spec;
 
 use crate::fault::Fault;
@@ -107,6 +107,9 @@ fn run<R: Read, W: Write>(
     ensures account { IsErrOf result Fault.Account ↔ ¬ spec.IsAccount options.now }
     ensures fault { IfErr result (λ fault. IsFirstFault Global options.now fault ⊎ (fault ≡ Fault.Memory) ⊎ (AreGood Global options.now × IsOfRun fault)) }
     ensures untouched { IfErr result (λ fault. (fault ≢ Fault.Read) × (fault ≢ Fault.Write) × (fault ≢ Fault.Memory) → writer.new ≡ writer.old) }
+    ensures cut { IfErr result (λ fault. IsUnserved fault writer.old writer.new
+        ⊎ IsCutBy (spec.account_of options.now ∷ []) (spec.stamp_of options.now) fault
+        (R.remaining reader.old) (R.remaining reader.new) (W.contents writer.old) (W.contents writer.new)) }
 {
     let (user, accounts) = account_of(alloc, options)?;
     let Some(stamp) = stamp(options.nonce, options.host) else {
