@@ -1,5 +1,5 @@
-//! Plays a case by `lone_run` or `sim_run`: with a client that awaits each reply, with one that doesn't, in pieces, and
-//! with faults of its reader and writer.
+//! Plays a case by `lone_run`, by `lone_run_gathered` or by `sim_run`: with a client that awaits each reply, with one that
+//! doesn't, in pieces, and with faults of its reader and writer.
 
 use crate::case::Case;
 use crate::client::{Hasty, Patient};
@@ -63,7 +63,7 @@ fn played<R: Read>(
     }
 }
 
-fn patiently(alloc: Global, case: &Case) -> Result<Option<String>, AllocError> {
+fn patiently(alloc: Global, case: &Case, at_once: Taking) -> Result<Option<String>, AllocError> {
     let taken = RefCell::new(Vec::new(alloc));
     let mut reader = Patient {
         case,
@@ -72,7 +72,7 @@ fn patiently(alloc: Global, case: &Case) -> Result<Option<String>, AllocError> {
         taken: &taken,
         desk: None,
     };
-    let run = run_case(alloc, case, &mut reader, &taken, AT_ONCE);
+    let run = run_case(alloc, case, &mut reader, &taken, at_once);
     match run.difference(alloc, &wanted_of(case))? {
         None => Ok(None),
         Some(difference) => Ok(Some(format!(in alloc;
@@ -82,7 +82,7 @@ fn patiently(alloc: Global, case: &Case) -> Result<Option<String>, AllocError> {
 }
 
 /// The first difference of the runs that cut or break what is sent at a place.
-fn cut(alloc: Global, case: &Case, at: usize) -> Result<Option<String>, AllocError> {
+fn cut(alloc: Global, case: &Case, gathers: bool, at: usize) -> Result<Option<String>, AllocError> {
     let Some((front, back)) = case.sent.as_slice().split_at_checked(at) else {
         return Ok(None);
     };
@@ -92,7 +92,7 @@ fn cut(alloc: Global, case: &Case, at: usize) -> Result<Option<String>, AllocErr
         "in two pieces",
         case,
         &mut front.chain(back),
-        AT_ONCE,
+        Taking { gathers, ..AT_ONCE },
         &whole,
     )?;
     if found.is_some() {
@@ -114,7 +114,11 @@ fn cut(alloc: Global, case: &Case, at: usize) -> Result<Option<String>, AllocErr
         only: None,
     };
     let taken = RefCell::new(Vec::new(alloc));
-    let run = run_case(alloc, case, &mut reader, &taken, BYTE_BY_BYTE);
+    let taking = Taking {
+        gathers,
+        ..BYTE_BY_BYTE
+    };
+    let run = run_case(alloc, case, &mut reader, &taken, taking);
     // A session that has closed reads no further.
     let is_closed = run.status == 0;
     let found = run.difference(alloc, if is_closed { &whole } else { &broken })?;
@@ -128,7 +132,12 @@ fn cut(alloc: Global, case: &Case, at: usize) -> Result<Option<String>, AllocErr
 }
 
 /// The first difference of the runs whose writer takes less than all.
-fn cramped(alloc: Global, case: &Case, room: usize) -> Result<Option<String>, AllocError> {
+fn cramped(
+    alloc: Global,
+    case: &Case,
+    gathers: bool,
+    room: usize,
+) -> Result<Option<String>, AllocError> {
     let Some(front) = case.wanted.get(..room) else {
         return Ok(None);
     };
@@ -144,6 +153,7 @@ fn cramped(alloc: Global, case: &Case, room: usize) -> Result<Option<String>, Al
             most: usize::MAX,
             room,
             fails,
+            gathers,
         };
         let reader = &mut hasty(case, usize::MAX);
         let found = played(alloc, "with a full writer", case, reader, taking, &wanted)?;
@@ -155,42 +165,59 @@ fn cramped(alloc: Global, case: &Case, room: usize) -> Result<Option<String>, Al
 }
 
 /// The first difference of the runs that cut, break or cramp the session at each place.
-fn torn(alloc: Global, case: &Case) -> Result<Option<String>, AllocError> {
+fn torn(alloc: Global, case: &Case, gathers: bool) -> Result<Option<String>, AllocError> {
     for at in 0..case.sent.len() {
-        if let Some(found) = cut(alloc, case, at)? {
+        if let Some(found) = cut(alloc, case, gathers, at)? {
             return Ok(Some(found));
         }
     }
     for room in 0..case.wanted.len() {
-        if let Some(found) = cramped(alloc, case, room)? {
+        if let Some(found) = cramped(alloc, case, gathers, room)? {
             return Ok(Some(found));
         }
     }
     Ok(None)
 }
 
-/// What the runs of a case first do that is not wanted.
-pub fn difference(alloc: Global, case: &Case) -> Result<Option<String>, AllocError> {
+/// What the runs of a case first do that is not wanted, where the replies are gathered or not.
+fn difference_of(alloc: Global, case: &Case, gathers: bool) -> Result<Option<String>, AllocError> {
     let wanted = wanted_of(case);
+    let at_once = Taking { gathers, ..AT_ONCE };
     let whole = &mut hasty(case, usize::MAX);
-    if let Some(found) = played(alloc, "whole", case, whole, AT_ONCE, &wanted)? {
+    if let Some(found) = played(alloc, "whole", case, whole, at_once, &wanted)? {
         return Ok(Some(found));
     }
     if case.status != 0 || case.only.is_some() {
         return Ok(None);
     }
-    if let Some(found) = patiently(alloc, case)? {
+    if let Some(found) = patiently(alloc, case, at_once)? {
         return Ok(Some(found));
     }
     if size_of(case) > LONG {
         return Ok(None);
     }
     let bytes = &mut hasty(case, 1);
-    if let Some(found) = played(alloc, "byte by byte", case, bytes, BYTE_BY_BYTE, &wanted)? {
+    let taking = Taking {
+        gathers,
+        ..BYTE_BY_BYTE
+    };
+    if let Some(found) = played(alloc, "byte by byte", case, bytes, taking, &wanted)? {
         return Ok(Some(found));
     }
     if size_of(case) > SHORT {
         return Ok(None);
     }
-    torn(alloc, case)
+    torn(alloc, case, gathers)
+}
+
+/// What the runs of a case first do that is not wanted. A session is played once more with its replies gathered.
+pub fn difference(alloc: Global, case: &Case) -> Result<Option<String>, AllocError> {
+    let found = difference_of(alloc, case, false)?;
+    if found.is_some() || case.is_script {
+        return Ok(found);
+    }
+    match difference_of(alloc, case, true)? {
+        None => Ok(None),
+        Some(found) => Ok(Some(format!(in alloc; "with its replies gathered, {found}")?)),
+    }
 }

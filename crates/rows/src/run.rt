@@ -3,7 +3,7 @@
 use crate::case::Case;
 use crate::console::Console;
 use crate::output::Output;
-use server::lone_run;
+use server::{lone_run, lone_run_gathered};
 use simulator::sim_run;
 use std::alloc::{AllocError, Global};
 use std::cell::RefCell;
@@ -18,12 +18,15 @@ pub struct Taking {
     pub room: usize,
     /// Whether it fails behind them, or takes nothing.
     pub fails: bool,
+    /// Whether a session's replies are gathered before they come to it.
+    pub gathers: bool,
 }
 
 pub const AT_ONCE: Taking = Taking {
     most: usize::MAX,
     room: usize::MAX,
     fails: false,
+    gathers: false,
 };
 
 pub const BYTE_BY_BYTE: Taking = Taking { most: 1, ..AT_ONCE };
@@ -68,6 +71,8 @@ pub fn run_case<'a, R: Read>(
     let rt = (console, alloc);
     let status = if case.is_script {
         sim_run(&rt, reader, &mut output)
+    } else if taking.gathers {
+        lone_run_gathered(&rt, reader, &mut output, &case.settings.options())
     } else {
         lone_run(&rt, reader, &mut output, &case.settings.options())
     };
