@@ -196,11 +196,17 @@ fn change_line(
     let talk = play.talks.get(place).ok_or("no client")?;
     let seat = play.stage.seats.get(place).ok_or("no session")?;
     let other = other_talk(alloc, talk, chance)?;
-    let Served { transcript, told } = serve_again(alloc, &other, seat)?;
+    let served = serve_again(alloc, &other, seat)?;
+    replace(records, place, served)
+}
+
+/// Puts what is left of another session in this place.
+fn replace(records: &mut Records, place: usize, served: Served) -> Result<(), Fail> {
+    let Served { transcript, told } = served;
     let old = records.transcripts.get_mut(place).ok_or("no session")?;
     *old = transcript;
-    let bytes = records.told.get_mut(place).ok_or("no session")?;
-    *bytes = told;
+    let old_told = records.told.get_mut(place).ok_or("no session")?;
+    *old_told = told;
     Ok(())
 }
 

@@ -1,7 +1,7 @@
 //! What an audit finds, and whether that is right.
 
 use crate::happening::session_at;
-use crate::order::led_to;
+use crate::order::takes_all;
 use crate::records::Records;
 use crate::same::{are_same_inputs, are_told};
 use crate::stage::{Seat, Stage};
@@ -105,17 +105,12 @@ fn of_order(alloc: Global, records: &Records, events: &[Event]) -> Result<Found,
         Some(log) => log.opening.cluster,
         None => return Ok(Found::Amiss("no logs")),
     };
-    let led = led_to(
-        alloc,
-        cluster,
-        records.logs.as_slice(),
-        records.transcripts.as_slice(),
-        events,
-    )?;
-    Ok(match &led {
-        Some(stage) => explains(stage, records),
-        None => Found::Amiss("an event can't happen"),
-    })
+    let mut stage = Stage::new(alloc, cluster)?;
+    if takes_all(alloc, &mut stage, records, events)? {
+        Ok(explains(&stage, records))
+    } else {
+        Ok(Found::Amiss("an event can't happen"))
+    }
 }
 
 /// What an audit finds in these records.

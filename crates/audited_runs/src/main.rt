@@ -18,8 +18,8 @@ mod words;
 use crate::chance::Chance;
 use crate::changes::{CHANGES, Change, make_change};
 use crate::found::{Found, audited, explains};
-use crate::play::random_play;
-use crate::records::records_of;
+use crate::play::{Play, random_play};
+use crate::records::{Records, records_of};
 use std::alloc::Global;
 use std::process::ExitCode;
 use std::test::Fail;
@@ -61,18 +61,33 @@ impl Tally {
     }
 }
 
+/// What is found of what a service left.
+fn unchanged_finding(alloc: Global, play: &Play, records: &Records) -> Result<Found, Fail> {
+    match explains(&play.stage, records) {
+        Found::Explained => audited(alloc, records),
+        other => Ok(other),
+    }
+}
+
+/// What is found of what a service left, as it was and with a change.
+fn findings_of(
+    alloc: Global,
+    play: &Play,
+    chance: &mut Chance,
+    change: Change,
+) -> Result<Finding, Fail> {
+    let mut records = records_of(alloc, play)?;
+    let unchanged = unchanged_finding(alloc, play, &records)?;
+    make_change(alloc, play, &mut records, chance, change)?;
+    let changed = audited(alloc, &records)?;
+    Ok(Finding { unchanged, changed })
+}
+
 /// What is found of the service of this seed.
 fn finding_of(alloc: Global, seed: u64, change: Change) -> Result<Finding, Fail> {
     let mut chance = Chance::new(seed);
     let play = random_play(alloc, &mut chance)?;
-    let mut records = records_of(alloc, &play)?;
-    let unchanged = match explains(&play.stage, &records) {
-        Found::Explained => audited(alloc, &records)?,
-        other => other,
-    };
-    make_change(alloc, &play, &mut records, &mut chance, change)?;
-    let changed = audited(alloc, &records)?;
-    Ok(Finding { unchanged, changed })
+    findings_of(alloc, &play, &mut chance, change)
 }
 
 fn main(rt: HostRuntime) -> Result<ExitCode, Fail> {

@@ -1,9 +1,10 @@
 //! The events of an order, as what happens.
 
 use crate::happening::Happening;
+use crate::records::Records;
 use crate::stage::{Stage, place_of_node};
 use audit::Event;
-use ballot::{Cluster, NodeId};
+use ballot::NodeId;
 use maildrop::Op;
 use node::{Input, NodeLog};
 use pop3_wire::Line;
@@ -106,23 +107,27 @@ impl<'l> Sources<'l> {
     }
 }
 
-/// The service to which these events lead, if it takes each of them.
-pub fn led_to(
+/// Whether the service takes the event.
+fn takes(sources: &mut Sources, stage: &mut Stage, event: Event) -> Result<bool, Fail> {
+    let Some(happening) = sources.happening(event)? else {
+        return Ok(false);
+    };
+    stage.take(&happening)
+}
+
+/// Whether a service takes these events, one after another, until it refuses one.
+pub fn takes_all(
     alloc: Global,
-    cluster: Cluster,
-    logs: &[NodeLog],
-    transcripts: &[Transcript],
+    stage: &mut Stage,
+    records: &Records,
     events: &[Event],
-) -> Result<Option<Stage>, Fail> {
-    let mut sources = Sources::new(alloc, logs, transcripts)?;
-    let mut stage = Stage::new(alloc, cluster)?;
+) -> Result<bool, Fail> {
+    let logs = records.logs.as_slice();
+    let mut sources = Sources::new(alloc, logs, records.transcripts.as_slice())?;
     for event in events {
-        let Some(happening) = sources.happening(*event)? else {
-            return Ok(None);
-        };
-        if !stage.take(&happening)? {
-            return Ok(None);
+        if !takes(&mut sources, stage, *event)? {
+            return Ok(false);
         }
     }
-    Ok(Some(stage))
+    Ok(true)
 }

@@ -97,9 +97,14 @@ impl Play {
         let user = self.talks.get(place).ok_or("no client")?.user;
         let happening = Happening::Line(place, line(words_of(user, number))?);
         if self.stage.take(&happening)? {
-            let talk = self.talks.get_mut(place).ok_or("no client")?;
-            talk.said.push(number)?;
+            return self.note(place, number);
         }
+        Ok(())
+    }
+
+    fn note(&mut self, place: usize, number: usize) -> Result<(), Fail> {
+        let talk = self.talks.get_mut(place).ok_or("no client")?;
+        talk.said.push(number)?;
         Ok(())
     }
 
@@ -176,6 +181,18 @@ impl Play {
         self.go_on(FIRST, false)
     }
 
+    /// Random events happen. One of two services has then come to rest.
+    fn run(&mut self, chance: &mut Chance) -> Result<(), Fail> {
+        self.begin()?;
+        for _ in 0..EVENTS {
+            self.turn(chance)?;
+        }
+        if chance.one_in(2) {
+            return self.go_on(REST, false);
+        }
+        Ok(())
+    }
+
     fn turn(&mut self, chance: &mut Chance) -> Result<(), Fail> {
         match chance.below(8) {
             0..2 => self.say(chance),
@@ -200,15 +217,9 @@ fn brought_by(event: &Event) -> Option<Happening> {
     }
 }
 
-/// A service under random events. One of two has then come to rest.
+/// A service under random events.
 pub fn random_play(alloc: Global, chance: &mut Chance) -> Result<Play, Fail> {
     let mut play = Play::new(alloc, chance)?;
-    play.begin()?;
-    for _ in 0..EVENTS {
-        play.turn(chance)?;
-    }
-    if chance.one_in(2) {
-        play.go_on(REST, false)?;
-    }
+    play.run(chance)?;
     Ok(play)
 }
