@@ -1,7 +1,7 @@
 //! Clients that send their lines, keep what they get, and are held by a gate.
 
 use crate::services::{Flag, wait_for};
-use apop::{Accounts, stamp};
+use apop::{Accounts, Stamp, stamp};
 use ballot::NodeId;
 use cluster::Job;
 use session::Gate;
@@ -77,9 +77,18 @@ pub fn new_page(alloc: Global) -> Result<Page, AllocError> {
 }
 
 /// The accounts of alice and bob.
+pub fn accounts_of(alloc: Global) -> Result<Accounts, Fail> {
+    Ok(Accounts::read(alloc, b"alice pass s3\nbob pass s4\n")?)
+}
+
+/// The same, for sessions to share.
 pub fn new_accounts(alloc: Global) -> Result<Arc<Accounts>, Fail> {
-    let accounts = Accounts::read(alloc, b"alice pass s3\nbob pass s4\n")?;
-    Ok(Arc::new(alloc, accounts)?)
+    Ok(Arc::new(alloc, accounts_of(alloc)?)?)
+}
+
+/// The timestamp of each greeting.
+pub fn new_stamp() -> Result<Stamp, Fail> {
+    Ok(stamp(b"n.1", b"mail.test").ok_or("no stamp")?)
 }
 
 /// A client that sends these lines to a node, and gets its replies on the page.
@@ -95,7 +104,7 @@ pub fn new_client<R: Wait + Drop, G: Gate + Drop>(
         node,
         reader: lines,
         writer: Client { rt, page },
-        stamp: stamp(b"n.1", b"mail.test").ok_or("no stamp")?,
+        stamp: new_stamp()?,
         gate,
     })
 }

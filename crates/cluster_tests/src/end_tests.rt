@@ -1,11 +1,10 @@
-//! Clusters that have ended, and those that don't start.
+//! Clusters that have ended.
 ghost use Rattle.std.specs.Prelude.{◌≡◌, IsTrue};
 ghost use Rattle.maildrop.specs.Name.{are_different};
 
 use crate::services::{node, setup_of};
-use ballot::Envelope;
-use cluster::{Cluster, Deployment, InboxLink, Link, NodeDesk, Setup, StartError};
-use maildrop::{Op, SharedCommand};
+use cluster::{Cluster, Deployment, InboxLink, Link, NodeDesk, Setup};
+use maildrop::Op;
 use samples::{alice, check};
 use session::Desk;
 use std::alloc::Global;
@@ -15,16 +14,6 @@ use std::test::Fail;
 use std::thread::Threads;
 
 type Nodes<D, R> = Cluster<D, R, InboxLink<R>>;
-
-/// A link that loses all.
-#[derive(Clone, Copy)]
-struct Lossy;
-
-impl Link for Lossy {
-    fn send(&self, envelope: Envelope<SharedCommand>) {
-        drop(envelope);
-    }
-}
 
 /// The desk of a node that is no more: it answers nothing.
 fn check_stopped<D: Deployment, R: Wait, L: Link>(

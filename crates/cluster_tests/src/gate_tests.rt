@@ -2,8 +2,9 @@
 ghost use Rattle.std.specs.Prelude.{◌≡◌, IsTrue};
 ghost use Rattle.maildrop.specs.Name.{are_different};
 
-use crate::audits::{Remains, all_of, check_legal};
-use crate::clients::{At, Turns, new_accounts, new_client, new_page};
+use crate::audits::{Remains, all_of};
+use crate::clients::{At, Page, Turns, new_accounts, new_client, new_page};
+use crate::orders::check_order;
 use crate::services::{Flag, deliver, end_watch, new_flag, node, setup_of, start_watch};
 use cluster::{Cluster, Deployment, InboxLink, Setup};
 use samples::check;
@@ -23,13 +24,18 @@ const BOB: &[u8] = b"USER bob\r\nPASS s4\r\nSTAT\r\nQUIT\r\n";
 
 type Nodes<D, R> = Cluster<D, R, InboxLink<R>>;
 
-/// Serves both clients, alice's at node 1 and bob's at node 3.
+/// Serves both clients, alice's at node 1 and bob's at node 3, each with a page of its own.
 fn served<
     D: Deployment + Send + Sync + 'static,
     R: Threads + Wait + Clock + Copy + Send + Sync + 'static,
->(rt: R, alloc: Global, cluster: &Nodes<D, R>, gave_up: &Flag) -> Result<Vec<Transcript>, Fail> {
+>(
+    rt: R,
+    alloc: Global,
+    cluster: &Nodes<D, R>,
+    pages: &[Page; 2],
+    gave_up: &Flag,
+) -> Result<Vec<Transcript>, Fail> {
     let accounts = new_accounts(alloc)?;
-    let page = new_page(alloc)?;
     let retrieved = new_flag(alloc)?;
     let counted = new_flag(alloc)?;
     let first = Turns {
@@ -59,20 +65,20 @@ fn served<
         gave_up: Arc::try_clone(gave_up)?,
     };
     let mut jobs = Vec::new(alloc);
-    jobs.push(new_client(rt, node(1)?, ALICE, &page, first)?)?;
-    jobs.push(new_client(rt, node(3)?, BOB, &page, second)?)?;
+    jobs.push(new_client(rt, node(1)?, ALICE, &pages[0], first)?)?;
+    jobs.push(new_client(rt, node(3)?, BOB, &pages[1], second)?)?;
     all_of(alloc, cluster.sessions(jobs, &accounts)?)
 }
 
 fn mailed_and_served<
     D: Deployment + Send + Sync + 'static,
     R: Threads + Wait + Clock + Copy + Send + Sync + 'static,
->(rt: R, alloc: Global, cluster: &Nodes<D, R>) -> Result<Vec<Transcript>, Fail> {
+>(rt: R, alloc: Global, cluster: &Nodes<D, R>, pages: &[Page; 2]) -> Result<Vec<Transcript>, Fail> {
     let mut desk = cluster.desk(node(1)?)?.ok_or("no desk")?;
     desk.campaign();
     deliver(alloc, &mut desk, "alice", &["hi"], 1)?;
     let gave_up = new_flag(alloc)?;
-    let transcripts = served(rt, alloc, cluster, &gave_up)?;
+    let transcripts = served(rt, alloc, cluster, pages, &gave_up)?;
     for transcript in &transcripts {
         check(transcript.end == End::Closed, "a session ends otherwise")?;
     }
@@ -89,16 +95,18 @@ fn lives<
 {
     let cluster = Nodes::<D, R>::start(rt, alloc, setup)?;
     let watch = start_watch(rt, alloc, &cluster)?;
-    let outcome = mailed_and_served(rt, alloc, &cluster);
+    let pages = [new_page(alloc)?, new_page(alloc)?];
+    let outcome = mailed_and_served(rt, alloc, &cluster, &pages);
     end_watch(&rt, watch);
     let remains = Remains {
         transcripts: outcome?,
         logs: cluster.stop(),
     };
-    check_legal(alloc, &remains)
+    check_order(&rt, alloc, setup, &remains, pages.as_slice())
 }
 
-/// One session after the other would wait in vain, in either order.
+/// One session after the other would wait in vain, in either order. A service as a value that takes what they did tells
+/// both clients the same bytes.
 #[test]
 fn two_sessions_at_once(rt: HostRuntime) -> Result<(), Fail> {
     let setup = setup_of(rt.alloc(), 3)?;

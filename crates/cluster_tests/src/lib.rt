@@ -13,7 +13,11 @@ mod end_tests;
 #[cfg(test)]
 mod gate_tests;
 #[cfg(test)]
+mod inbox_tests;
+#[cfg(test)]
 mod link_tests;
+#[cfg(test)]
+mod orders;
 #[cfg(test)]
 mod services;
 #[cfg(test)]

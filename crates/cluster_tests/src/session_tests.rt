@@ -2,8 +2,9 @@
 ghost use Rattle.std.specs.Prelude.{◌≡◌, IsTrue};
 ghost use Rattle.maildrop.specs.Name.{are_different};
 
-use crate::audits::{Remains, all_of, check_legal, check_other_outcome, check_without_p2a};
+use crate::audits::{Remains, all_of, check_other_outcome, check_without_p2a};
 use crate::clients::{Page, new_accounts, new_client, new_page};
+use crate::orders::check_order;
 use crate::services::{alone, deliver, end_watch, node, setup_of, start_watch};
 use cluster::{Cluster, Deployment, InboxLink, NodeDesk, Setup};
 use samples::check;
@@ -62,11 +63,11 @@ fn served<D: Deployment + Send + Sync + 'static, R: Threads + Wait + Copy + Send
     Ok((page, all_of(alloc, transcripts)?))
 }
 
-/// Mail and a session over a cluster, which is watched. Gives the session's transcript.
+/// Mail and a session over a cluster, which is watched. Gives what the client gets, and the session's transcript.
 fn mail_and_session<
     D: Deployment + Send + Sync + 'static,
     R: Threads + Wait + Copy + Send + Sync + 'static,
->(rt: R, alloc: Global, cluster: &Nodes<D, R>) -> Result<Vec<Transcript>, Fail> {
+>(rt: R, alloc: Global, cluster: &Nodes<D, R>) -> Result<(Page, Vec<Transcript>), Fail> {
     let mut one = cluster.desk(node(1)?)?.ok_or("no desk")?;
     let mut two = cluster.desk(node(2)?)?.ok_or("no desk")?;
     mailed(alloc, &mut one, &mut two)?;
@@ -78,10 +79,11 @@ fn mail_and_session<
         page.lock(&rt).as_slice() == REPLIES.as_bytes(),
         "other replies",
     )?;
-    Ok(transcripts)
+    Ok((page, transcripts))
 }
 
-/// A cluster from its start to its end, with mail and a session in between. What is left of it is legal.
+/// A cluster from its start to its end, with mail and a session in between. What is left of it is legal, and a service as
+/// a value takes it so.
 fn lives<
     D: Deployment + Send + Sync + 'static,
     R: Threads + Wait + Clock + Copy + Send + Sync + 'static,
@@ -93,12 +95,13 @@ fn lives<
     let watch = start_watch(rt, alloc, &cluster)?;
     let outcome = mail_and_session(rt, alloc, &cluster);
     end_watch(&rt, watch);
+    let (page, transcripts) = outcome?;
     let remains = Remains {
-        transcripts: outcome?,
+        transcripts,
         logs: cluster.stop(),
     };
     check(remains.logs.len() == 3, "a log is missing")?;
-    check_legal(alloc, &remains)?;
+    check_order(&rt, alloc, setup, &remains, &alone(alloc, page)?)?;
     Ok(remains)
 }
 
@@ -117,7 +120,8 @@ fn lives_often<
 }
 
 /// Mail at two nodes of three, and a session at the second, without a tick: the client gets the very bytes that a lone
-/// server of its user gives, and an audit finds nothing wrong, each time. It does where a log or an outcome is changed.
+/// server of its user gives, an audit finds nothing wrong, and a service as a value that takes the audit's order tells the
+/// client the same bytes, each time. The audit finds something where a log or an outcome is changed.
 #[test]
 fn a_session_over_three_nodes(rt: HostRuntime) -> Result<(), Fail> {
     let setup = setup_of(rt.alloc(), 3)?;

@@ -2,8 +2,9 @@
 ghost use Rattle.std.specs.Prelude.{◌≡◌, IsTrue};
 ghost use Rattle.maildrop.specs.Name.{are_different};
 
-use crate::audits::{Remains, all_of, check_legal};
+use crate::audits::{Remains, all_of};
 use crate::clients::{At, Page, Turns, new_accounts, new_client, new_page};
+use crate::orders::check_order;
 use crate::services::{
     Flag, TURNS, alone, deliver, end_watch, new_flag, node, setup_of, start_watch, wait_a_turn,
     wait_for,
@@ -134,7 +135,7 @@ fn served<
 fn mailed_and_served<
     D: Deployment + Send + Sync + 'static,
     R: Threads + Wait + Clock + Copy + Send + Sync + 'static,
->(rt: R, alloc: Global, cluster: &Nodes<D, R>) -> Result<Vec<Transcript>, Fail> {
+>(rt: R, alloc: Global, cluster: &Nodes<D, R>) -> Result<(Page, Vec<Transcript>), Fail> {
     let mut desk = cluster.desk(node(1)?)?.ok_or("no desk")?;
     desk.campaign();
     deliver(alloc, &mut desk, "alice", &["hi"], 1)?;
@@ -147,7 +148,7 @@ fn mailed_and_served<
         page.lock(&rt).as_slice() == REPLIES.as_bytes(),
         "other replies",
     )?;
-    Ok(transcripts)
+    Ok((page, transcripts))
 }
 
 fn lives<
@@ -161,14 +162,16 @@ fn lives<
     let watch = start_watch(rt, alloc, &cluster)?;
     let outcome = mailed_and_served(rt, alloc, &cluster);
     end_watch(&rt, watch);
+    let (page, transcripts) = outcome?;
     let remains = Remains {
-        transcripts: outcome?,
+        transcripts,
         logs: cluster.stop(),
     };
-    check_legal(alloc, &remains)
+    check_order(&rt, alloc, setup, &remains, &alone(alloc, page)?)
 }
 
-/// The other nodes of three end the session of a client, whose leader is gone.
+/// The other nodes of three end the session of a client, whose leader is gone. A service as a value that takes what they did
+/// tells the client the same bytes.
 #[test]
 fn a_session_outlives_the_leader(rt: HostRuntime) -> Result<(), Fail> {
     let setup = setup_of(rt.alloc(), 3)?;
