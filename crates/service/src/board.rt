@@ -38,9 +38,10 @@ enum Stage {
 }
 
 impl Stage {
-    /// A service that serves stops. One that has ended stays so, however late another request to stop comes.
+    /// A service that serves stops. One that stops or has ended stays so, however late another request to stop comes.
     fn stop(&mut self)
         ensures serving { self.old ≡ spec.Serving → self.new ≡ spec.Stopping }
+        ensures stopping { self.old ≡ spec.Stopping → self.new ≡ spec.Stopping }
         ensures ended { self.old ≡ spec.Ended → self.new ≡ spec.Ended }
     {
         if matches!(*self, Stage::Serving) {
