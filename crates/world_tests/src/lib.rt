@@ -1,0 +1,16 @@
+//! Tests of services as values: one run in each way in which a service takes events, with a crash before each event, and
+//! with requests for memory that are refused. There is nothing here but tests.
+#![tactic(auto)]
+
+#[cfg(test)]
+mod crash_tests;
+#[cfg(test)]
+mod memory_tests;
+#[cfg(test)]
+mod mishap;
+#[cfg(test)]
+mod plot;
+#[cfg(test)]
+mod run_tests;
+#[cfg(test)]
+mod told;

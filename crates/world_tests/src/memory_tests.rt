@@ -1,0 +1,79 @@
+//! The run, whose requests for memory are refused in turn.
+
+use crate::mishap::is_told_of;
+use crate::plot::{LIMIT, RUN, config, event_of};
+use crate::told::{check_front, check_whole};
+use refusing::Refusal;
+use samples::{Heap, Scenario, check, requests};
+use std::test::Fail;
+use world::{Event, Refused, World};
+
+/// How many requests for memory the run makes at most.
+const MOST: u64 = 5_000;
+
+/// The run.
+struct Stepped;
+
+/// The events of the run in order; none where all comes that comes by itself.
+type Events<'h> = Vec<Option<Event<Heap<'h>>>, Heap<'h>>;
+
+fn events_of<'h>(heap: Heap<'h>) -> Result<Events<'h>, Fail> {
+    let mut events = Vec::new(heap);
+    for happening in RUN {
+        events.push(event_of(heap, *happening)?)?;
+    }
+    Ok(events)
+}
+
+/// Memory is the answer only where a request was refused, and another refusal comes only behind it.
+fn pass(heap: Heap, happened: Result<(), Refused>) -> Result<(), Fail> {
+    let Err(reason) = happened else {
+        return Ok(());
+    };
+    if heap.has_refused() && (reason == Refused::Memory || is_told_of(reason)) {
+        return Ok(());
+    }
+    Err(reason)?
+}
+
+fn settle<'h>(heap: Heap<'h>, world: &mut World<Heap<'h>>) -> Result<(), Fail> {
+    match world.settle(LIMIT) {
+        Ok(_) => Ok(()),
+        Err(reason) => pass(heap, Err(reason)),
+    }
+}
+
+/// All events happen, what is refused behind a refused request is passed over.
+fn play<'h>(heap: Heap<'h>, world: &mut World<Heap<'h>>, events: Events<'h>) -> Result<(), Fail> {
+    for event in events {
+        match event {
+            Some(event) => pass(heap, world.step(event))?,
+            None => settle(heap, world)?,
+        }
+    }
+    Ok(())
+}
+
+impl Scenario for Stepped {
+    fn run(&self, heap: Heap, refusal: Refusal) -> Result<(), Fail> {
+        let config = config(heap)?;
+        let events = events_of(heap)?;
+        heap.refuse(refusal);
+        let Ok(mut world) = World::new(heap, config) else {
+            return check(heap.has_refused(), "there is no service");
+        };
+        play(heap, &mut world, events)?;
+        if heap.has_refused() {
+            check_front(&world)
+        } else {
+            check_whole(&world)
+        }
+    }
+}
+
+#[test]
+fn a_service_goes_on_behind_a_refused_request(rt: HostRuntime) -> Result<(), Fail> {
+    let made = requests(rt.alloc(), &Stepped, MOST)?;
+    println!(rt; "the run: {made}")?;
+    Ok(())
+}

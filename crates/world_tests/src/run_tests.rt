@@ -1,0 +1,146 @@
+//! The run, event by event and in one call.
+
+use crate::plot::{Happening, LIMIT, RUN, TOLD, config, event_of, session};
+use crate::told::check_whole;
+use ballot::{Payload, Slot};
+use maildrop::{CommandId, SharedCommand};
+use samples::{alice, check, name, node, node_ticket};
+use std::alloc::Global;
+use std::test::Fail;
+use world::{Event, World, run};
+
+/// A command that is performed: whose it is, and its ticket.
+type Performed = (&'static str, u8, u64);
+
+/// What nodes 1 and 2 perform, from slot 1 on. Of the two messages that come in together the one comes first of which the
+/// leader hears first; bob's second waits behind alice's second, whose Propose was sent before it.
+const PERFORMED: &[Performed] = &[
+    ("alice", 1, 1),
+    ("bob", 2, 1),
+    ("alice", 2, 1),
+    ("bob", 1, 1),
+    ("alice", 1, 2),
+    ("alice", 2, 2),
+    ("alice", 2, 3),
+];
+
+fn is_performed(
+    entry: &(Slot, SharedCommand),
+    slot: u64,
+    expected: Performed,
+) -> Result<bool, Fail> {
+    let (user, number, seq) = expected;
+    let id = CommandId::new(name(user)?, node_ticket(number, seq)?);
+    Ok(entry.0.get() == slot && entry.1.id() == id)
+}
+
+fn check_performed(performed: &[(Slot, SharedCommand)]) -> Result<(), Fail> {
+    check(
+        performed.len() == PERFORMED.len(),
+        "another number of commands",
+    )?;
+    let mut slot = 0;
+    for (entry, expected) in performed.iter().zip(PERFORMED) {
+        slot += 1;
+        check(is_performed(entry, slot, *expected)?, "another command")?;
+    }
+    Ok(())
+}
+
+/// What happens next happens, and is noted; of what comes by itself each event.
+fn note(
+    alloc: Global,
+    world: &mut World,
+    events: &mut Vec<Event>,
+    happening: Happening,
+) -> Result<(), Fail> {
+    if let Some(event) = event_of(alloc, happening)? {
+        events.push(event)?;
+    }
+    match event_of(alloc, happening)? {
+        Some(event) => Ok(world.step(event)?),
+        None => note_all(world, events),
+    }
+}
+
+/// All that comes by itself happens, and is noted.
+fn note_all(world: &mut World, events: &mut Vec<Event>) -> Result<(), Fail> {
+    for _ in 0..LIMIT {
+        let Some(event) = world.next_oldest(0) else {
+            return Ok(());
+        };
+        events.push(event)?;
+        if let Some(event) = world.next_oldest(0) {
+            world.step(event)?;
+        }
+    }
+    Err("events come by themselves without end")?
+}
+
+/// The events of the run.
+pub fn events_of(alloc: Global) -> Result<Vec<Event>, Fail> {
+    let mut world = World::new(alloc, config(alloc)?)?;
+    let mut events = Vec::new(alloc);
+    for happening in RUN {
+        note(alloc, &mut world, &mut events, *happening)?;
+    }
+    check_whole(&world)?;
+    Ok(events)
+}
+
+/// What happens next happens. What comes by itself is as many events as the run says.
+fn step(alloc: Global, world: &mut World, happening: Happening) -> Result<(), Fail> {
+    if let Some(event) = event_of(alloc, happening)? {
+        return Ok(world.step(event)?);
+    }
+    let events = world.settle(LIMIT)?;
+    check(
+        matches!(happening, Happening::Settle(expected) if expected == events),
+        "another number of events comes by itself",
+    )
+}
+
+#[test]
+fn a_service_takes_the_run_event_by_event(rt: HostRuntime) -> Result<(), Fail> {
+    let alloc = rt.alloc();
+    let mut world = World::new(alloc, config(alloc)?)?;
+    for happening in RUN {
+        step(alloc, &mut world, *happening)?;
+    }
+    check_whole(&world)?;
+    check_performed(world.performed(node(1)?).ok_or("node 1 is down")?)?;
+    check_performed(world.performed(node(2)?).ok_or("node 2 is down")?)
+}
+
+#[test]
+fn a_service_takes_the_run_in_one_call(rt: HostRuntime) -> Result<(), Fail> {
+    let alloc = rt.alloc();
+    let runs = run(alloc, config(alloc)?, events_of(alloc)?)?;
+    let (number, told) = runs.replies.get(0).ok_or("nobody was told anything")?;
+    check(
+        runs.replies.len() == 1 && *number == session() && told.as_slice() == TOLD,
+        "the run tells something else",
+    )?;
+    check(runs.performed.len() == 3, "another number of nodes")?;
+    check_performed(runs.performed.get(0).ok_or("no node 1")?)?;
+    check_performed(runs.performed.get(1).ok_or("no node 2")?)?;
+    let down = runs.performed.get(2).ok_or("no node 3")?;
+    check(down.is_empty(), "node 3 has performed something")
+}
+
+#[test]
+fn a_crash_forgets_no_ticket(rt: HostRuntime) -> Result<(), Fail> {
+    let alloc = rt.alloc();
+    let mut world = World::new(alloc, config(alloc)?)?;
+    step(alloc, &mut world, Happening::Mail(2, "alice", &["one"]))?;
+    step(alloc, &mut world, Happening::Mail(2, "alice", &["two"]))?;
+    step(alloc, &mut world, Happening::Crash(2))?;
+    check(
+        world.last_ticket(node(2)?, alice()?) == Some(node_ticket(2, 2)?),
+        "another ticket",
+    )?;
+    check(
+        world.last_ticket(node(2)?, name("bob")?).is_none(),
+        "a ticket of another user",
+    )
+}

@@ -1,0 +1,27 @@
+//! What the session is told.
+
+use crate::plot::{TOLD, session};
+use samples::check;
+use std::alloc::Allocator;
+use std::test::Fail;
+use world::World;
+
+fn told<A: Allocator + Copy>(world: &World<A>) -> &[u8] {
+    match world.replies(session()) {
+        Some(bytes) => bytes,
+        None => b"",
+    }
+}
+
+/// The session was told all.
+pub fn check_whole<A: Allocator + Copy>(world: &World<A>) -> Result<(), Fail> {
+    check(told(world) == TOLD, "the session is told something else")
+}
+
+/// The session was told how that begins.
+pub fn check_front<A: Allocator + Copy>(world: &World<A>) -> Result<(), Fail> {
+    check(
+        TOLD.starts_with(told(world)),
+        "the session is told something that isn't how the run's replies begin",
+    )
+}
