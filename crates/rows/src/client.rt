@@ -39,11 +39,13 @@ impl Read for Hasty<'_> {
     }
 }
 
-/// A client that sends a line only once it has the replies to those before. Where they are missing, its input fails.
+/// A client that sends a line only once it has the replies to those before, but for so many bytes of it, which come with
+/// the line before. Where replies are missing, its input fails.
 #[derive(Drop)]
 pub struct Patient<'c, 'r> {
     pub case: &'c Case,
     pub sent: usize,
+    pub ahead: usize,
     pub turns: &'c [Turn],
     /// What it got.
     pub taken: &'r RefCell<Vec<u8>>,
@@ -92,7 +94,7 @@ impl Read for Patient<'_, '_> {
         self.turns = rest;
         let sent = self.case.sent.as_slice();
         let end = match rest.first() {
-            Some(turn) => turn.sent,
+            Some(turn) => turn.sent.saturating_add(self.ahead).min(sent.len()),
             None => sent.len(),
         };
         let mut bytes = sent.get(self.sent..end).unwrap_or(&[]);

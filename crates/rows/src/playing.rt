@@ -63,11 +63,19 @@ fn played<R: Read>(
     }
 }
 
-fn patiently(alloc: Global, case: &Case, at_once: Taking) -> Result<Option<String>, AllocError> {
+/// What a run first does that is not wanted, of a client that awaits the replies to each line, but sends so many bytes of
+/// the next one with it.
+fn patiently(
+    alloc: Global,
+    case: &Case,
+    at_once: Taking,
+    ahead: usize,
+) -> Result<Option<String>, AllocError> {
     let taken = RefCell::new(Vec::new(alloc));
     let mut reader = Patient {
         case,
         sent: 0,
+        ahead,
         turns: case.turns.as_slice(),
         taken: &taken,
         desk: None,
@@ -76,7 +84,7 @@ fn patiently(alloc: Global, case: &Case, at_once: Taking) -> Result<Option<Strin
     match run.difference(alloc, &wanted_of(case))? {
         None => Ok(None),
         Some(difference) => Ok(Some(format!(in alloc;
-            "with a client that awaits each reply: {difference}"
+            "with a client that awaits each reply, {ahead} bytes ahead: {difference}"
         )?)),
     }
 }
@@ -190,8 +198,10 @@ fn difference_of(alloc: Global, case: &Case, gathers: bool) -> Result<Option<Str
     if case.status != 0 || case.only.is_some() {
         return Ok(None);
     }
-    if let Some(found) = patiently(alloc, case, at_once)? {
-        return Ok(Some(found));
+    for ahead in 0..=1 {
+        if let Some(found) = patiently(alloc, case, at_once, ahead)? {
+            return Ok(Some(found));
+        }
     }
     if size_of(case) > LONG {
         return Ok(None);

@@ -29,6 +29,7 @@ fn serve_case(
     let mut reader = Patient {
         case,
         sent: 0,
+        ahead: 0,
         turns: case.turns.as_slice(),
         taken,
         desk: Some((desk, user)),

@@ -1,6 +1,7 @@
 //! `maildropd sim`: plays a script against a whole service, and writes what comes of each line.
 #![tactic(auto)]
 
+mod bounded;
 mod events;
 mod fault;
 mod operations;

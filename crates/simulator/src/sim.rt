@@ -6,6 +6,7 @@ ghost use Rattle.std.specs.Str.Lines.{lines};
 ghost use Rattle.simulator.specs.Reading.{IsRead, IsPlayedLine, IsStopAt};
 ghost use Rattle.simulator.specs.Statuses as spec;
 
+use crate::bounded::{Bounded, MOST_READS};
 use crate::fault::Fault;
 use crate::report::Report;
 use crate::run::Run;
@@ -93,7 +94,7 @@ fn play_lines<R: Read, W: Write>(
 {
     let mut line = Vec::new(alloc);
     for number in 1..u64::MAX {
-        write_due(writer, &mut run.report, reader.buffer().is_empty())?;
+        write_due(writer, &mut run.report, !reader.buffer().contains(&b'\n'))?;
         if !read_line(reader, &mut line)? {
             return Ok(());
         }
@@ -104,12 +105,16 @@ fn play_lines<R: Read, W: Write>(
     Err(Fault::Read)
 }
 
-/// Plays a script, and writes also what came of it before a fault.
+/// Plays a script, in at most 4,294,967,295 reads, and writes also what came of it before a fault.
 fn run<R: Read, W: Write>(alloc: Global, reader: &mut R, writer: &mut W) -> Result<(), Fault>
     ensures sound { OnOk result (IfSome (R.remaining reader.old) (λ input. spec.first_fault input ≡ None)) }
     ensures line { IfErr result (λ fault. (number : ℕ) → fault ≡ Fault.Line number → IfSome (R.remaining reader.old) (λ input. spec.first_fault input ≡ Some number)) }
 {
-    let Ok(mut lines) = BufReader::new(alloc, reader) else {
+    let bounded = Bounded {
+        reader,
+        left: MOST_READS,
+    };
+    let Ok(mut lines) = BufReader::new(alloc, bounded) else {
         return Err(Fault::Memory);
     };
     let mut run = Run::new(alloc);

@@ -9,7 +9,7 @@ use std::test::Fail;
 use world::{Event, Refused, World};
 
 /// How many requests for memory the run makes at most.
-const MOST: u64 = 5_000;
+const MOST: u64 = 200;
 
 /// The run.
 struct Stepped;

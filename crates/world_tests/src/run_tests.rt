@@ -9,27 +9,23 @@ use std::alloc::Global;
 use std::test::Fail;
 use world::{Event, World, run};
 
-/// A command that is performed: whose it is, and its ticket.
-type Performed = (&'static str, u8, u64);
+/// A command that is performed: its slot, whose it is, and its ticket.
+type Performed = (u64, &'static str, u8, u64);
 
-/// What nodes 1 and 2 perform, from slot 1 on. Of the two messages that come in together the one comes first of which the
-/// leader hears first; bob's second waits behind alice's second, whose Propose was sent before it.
+/// What nodes 1 and 2 perform. Of the two messages that come in together the one comes first of which the leader hears
+/// first; bob's second waits behind alice's second, whose Propose was sent before it.
 const PERFORMED: &[Performed] = &[
-    ("alice", 1, 1),
-    ("bob", 2, 1),
-    ("alice", 2, 1),
-    ("bob", 1, 1),
-    ("alice", 1, 2),
-    ("alice", 2, 2),
-    ("alice", 2, 3),
+    (1, "alice", 1, 1),
+    (2, "bob", 2, 1),
+    (3, "alice", 2, 1),
+    (4, "bob", 1, 1),
+    (5, "alice", 1, 2),
+    (6, "alice", 2, 2),
+    (7, "alice", 2, 3),
 ];
 
-fn is_performed(
-    entry: &(Slot, SharedCommand),
-    slot: u64,
-    expected: Performed,
-) -> Result<bool, Fail> {
-    let (user, number, seq) = expected;
+fn is_performed(entry: &(Slot, SharedCommand), expected: Performed) -> Result<bool, Fail> {
+    let (slot, user, number, seq) = expected;
     let id = CommandId::new(name(user)?, node_ticket(number, seq)?);
     Ok(entry.0.get() == slot && entry.1.id() == id)
 }
@@ -39,10 +35,8 @@ fn check_performed(performed: &[(Slot, SharedCommand)]) -> Result<(), Fail> {
         performed.len() == PERFORMED.len(),
         "another number of commands",
     )?;
-    let mut slot = 0;
     for (entry, expected) in performed.iter().zip(PERFORMED) {
-        slot += 1;
-        check(is_performed(entry, slot, *expected)?, "another command")?;
+        check(is_performed(entry, *expected)?, "another command")?;
     }
     Ok(())
 }
