@@ -44,3 +44,4 @@ pub mod Writing
 pub mod Openings
 pub mod LastKeys
 pub mod Seated
+pub mod Rows
