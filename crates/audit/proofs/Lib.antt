@@ -12,6 +12,7 @@ pub mod Calls
 pub mod RealLaws
 pub mod Settled
 pub mod Fit
+pub mod GoingOn
 pub mod Written
 pub mod Connected
 pub mod Rests
