@@ -36,7 +36,7 @@ abbrev good : SmallCase
 good = told Granted
 
 abbrev events : List Event
-events = Given 1 ∷ Connect 0 2 ∷ Line 0 ∷ Line 0 ∷ Arrive 0 ∷ Collect 0 ∷ Hangup 0 ∷ []
+events = Connect 0 2 ∷ Line 0 ∷ Line 0 ∷ Given 1 ∷ Arrive 0 ∷ Collect 0 ∷ Hangup 0 ∷ []
 
 -- the world after each of these events
 abbrev SmallWorld : Type 0
@@ -48,11 +48,8 @@ with_session w s = record { placed = w.placed; sent = w.sent; sessions = put w.s
 abbrev with_input : SmallWorld → ℕ → List ℕ → SmallWorld
 with_input w node sent = record { placed = put w.placed node (suc (w.placed node)); sent = w.sent ++ sent; sessions = w.sessions }
 
-abbrev ticked : SmallWorld
-ticked = with_input (opening good) 0 (7 ∷ [])
-
 abbrev connected : Outcome → SmallWorld
-connected outcome = with_session ticked (record { node = Some 1; done = []; left = script outcome; awaits = None })
+connected outcome = with_session (opening good) (record { node = Some 1; done = []; left = script outcome; awaits = None })
 
 abbrev greeted : Outcome → SmallWorld
 greeted outcome = with_session (connected outcome) (record { node = Some 1; done = Plain Noop ∷ []; left = passes outcome ∷ leaves ∷ []; awaits = None })
@@ -60,8 +57,11 @@ greeted outcome = with_session (connected outcome) (record { node = Some 1; done
 abbrev passed : Outcome → SmallWorld
 passed outcome = with_session (with_input (greeted outcome) 1 []) (record { node = Some 1; done = Plain Noop ∷ passes outcome ∷ []; left = leaves ∷ []; awaits = Some (record { key = command 1; outcome = Some outcome }) })
 
+abbrev ticked : Outcome → SmallWorld
+ticked outcome = with_input (passed outcome) 0 (7 ∷ [])
+
 abbrev arrived : Outcome → SmallWorld
-arrived outcome = with_input (passed outcome) 1 []
+arrived outcome = with_input (ticked outcome) 1 []
 
 abbrev collected : SmallWorld
 collected = with_session (arrived Granted) (record { node = Some 1; done = Plain Noop ∷ passes Granted ∷ []; left = leaves ∷ []; awaits = None })
@@ -69,10 +69,7 @@ collected = with_session (arrived Granted) (record { node = Some 1; done = Plain
 abbrev gone : SmallWorld
 gone = with_session (with_input collected 1 []) (record { node = Some 1; done = script Granted; left = []; awaits = None })
 
-ticks : (outcome : Outcome) → Happens (told outcome) (opening (told outcome)) (Given 1) ticked
-ticks outcome = (0, Tick, refl, refl, refl, (refl, refl, refl))
-
-connects : (outcome : Outcome) → Happens (told outcome) ticked (Connect 0 2) (connected outcome)
+connects : (outcome : Outcome) → Happens (told outcome) (opening (told outcome)) (Connect 0 2) (connected outcome)
 connects outcome = (1, refl, script outcome, refl, inr (inl refl), refl, refl, refl)
 
 says_noop : (outcome : Outcome) → Happens (told outcome) (connected outcome) (Line 0) (greeted outcome)
@@ -81,7 +78,10 @@ says_noop outcome = (1, (refl, refl, refl), inl (Noop, (passes outcome ∷ leave
 says_pass : (outcome : Outcome) → Happens (told outcome) (greeted outcome) (Line 0) (passed outcome)
 says_pass outcome = (1, (refl, refl, refl), inr (Pass, (Take, command 1, Some outcome, leaves ∷ [], refl, refl, refl, (refl, refl, refl), tt)))
 
-arrives : (outcome : Outcome) → Happens (told outcome) (passed outcome) (Arrive 0) (arrived outcome)
+ticks : (outcome : Outcome) → Happens (told outcome) (passed outcome) (Given 1) (ticked outcome)
+ticks outcome = (0, Tick, refl, refl, refl, (refl, refl, refl))
+
+arrives : (outcome : Outcome) → Happens (told outcome) (ticked outcome) (Arrive 0) (arrived outcome)
 arrives outcome = (7, Arrives 7, refl, refl, refl, (refl, refl, refl))
 
 collects : Happens good (arrived Granted) (Collect 0) collected
@@ -140,7 +140,7 @@ legal = (
   λ i s e. refl,
   (
     gone,
-    (ticked, ticks Granted, (connected Granted, connects Granted, (greeted Granted, says_noop Granted, (passed Granted, says_pass Granted, (arrived Granted, arrives Granted, (collected, collects, (gone, hangs_up, refl))))))),
+    (connected Granted, connects Granted, (greeted Granted, says_noop Granted, (passed Granted, says_pass Granted, (ticked Granted, ticks Granted, (arrived Granted, arrives Granted, (collected, collects, (gone, hangs_up, refl))))))),
     (all_placed, all_said),
   ),
 )
@@ -186,52 +186,53 @@ module _ {S I E K O L : Type 0} (a : Case S I E K O L) (apart : (m n : ℕ) → 
 numbers_apart : (m n : ℕ) → suc m ≡ suc n → m ≡ n
 numbers_apart m n e = omega (arith, e)
 
-up_to_connected : (outcome : Outcome) (es : List Event) (u : SmallWorld) → Leads (told outcome) (opening (told outcome)) (Given 1 ∷ Connect 0 2 ∷ es) u → Leads (told outcome) (connected outcome) es u
-up_to_connected outcome es u h =
-    behind (told outcome) numbers_apart ticked (connected outcome) u (Connect 0 2) es (connects outcome)
-    (behind (told outcome) numbers_apart (opening (told outcome)) ticked u (Given 1) (Connect 0 2 ∷ es) (ticks outcome) h)
-
-up_to_passed : (outcome : Outcome) (es : List Event) (u : SmallWorld) → Leads (told outcome) (opening (told outcome)) (Given 1 ∷ Connect 0 2 ∷ Line 0 ∷ Line 0 ∷ es) u → Leads (told outcome) (passed outcome) es u
+up_to_passed : (outcome : Outcome) (es : List Event) (u : SmallWorld) → Leads (told outcome) (opening (told outcome)) (Connect 0 2 ∷ Line 0 ∷ Line 0 ∷ es) u → Leads (told outcome) (passed outcome) es u
 up_to_passed outcome es u h =
     behind (told outcome) numbers_apart (greeted outcome) (passed outcome) u (Line 0) es (says_pass outcome)
-    (behind (told outcome) numbers_apart (connected outcome) (greeted outcome) u (Line 0) (Line 0 ∷ es) (says_noop outcome) (up_to_connected outcome (Line 0 ∷ Line 0 ∷ es) u h))
+    (behind (told outcome) numbers_apart (connected outcome) (greeted outcome) u (Line 0) (Line 0 ∷ es) (says_noop outcome)
+    (behind (told outcome) numbers_apart (opening (told outcome)) (connected outcome) u (Connect 0 2) (Line 0 ∷ Line 0 ∷ es) (connects outcome) h))
 
--- With two events exchanged they are no legal order: a message can't come before it was sent,
-pub not_sent_yet : IsLegalOrder good (Arrive 0 ∷ Connect 0 2 ∷ Line 0 ∷ Line 0 ∷ Given 1 ∷ Collect 0 ∷ Hangup 0 ∷ []) → ⊥
-not_sent_yet (named, ticketed, (u, (v, (e, x, sent, brings, asks, takes), later), ends)) = absurd (cc)
+up_to_ticked : (outcome : Outcome) (es : List Event) (u : SmallWorld) → Leads (told outcome) (opening (told outcome)) (Connect 0 2 ∷ Line 0 ∷ Line 0 ∷ Given 1 ∷ es) u → Leads (told outcome) (ticked outcome) es u
+up_to_ticked outcome es u h = behind (told outcome) numbers_apart (passed outcome) (ticked outcome) u (Given 1) es (ticks outcome) (up_to_passed outcome (Given 1 ∷ es) u h)
 
--- a session can't say a line before it has connected,
-pub not_connected_yet : IsLegalOrder good (Given 1 ∷ Line 0 ∷ Connect 0 2 ∷ Line 0 ∷ Arrive 0 ∷ Collect 0 ∷ Hangup 0 ∷ []) → ⊥
-not_connected_yet (named, ticketed, (u, leads, ends)) =
-    go (behind good numbers_apart (opening good) ticked u (Given 1) (Line 0 ∷ Connect 0 2 ∷ Line 0 ∷ Arrive 0 ∷ Collect 0 ∷ Hangup 0 ∷ []) (ticks Granted) leads)
+up_to_arrived : (outcome : Outcome) (es : List Event) (u : SmallWorld) → Leads (told outcome) (opening (told outcome)) (Connect 0 2 ∷ Line 0 ∷ Line 0 ∷ Given 1 ∷ Arrive 0 ∷ es) u → Leads (told outcome) (arrived outcome) es u
+up_to_arrived outcome es u h = behind (told outcome) numbers_apart (ticked outcome) (arrived outcome) u (Arrive 0) es (arrives outcome) (up_to_ticked outcome (Arrive 0 ∷ es) u h)
+
+-- With two of the events exchanged they are no legal order: a session can't say a line before it has connected,
+pub not_connected_yet : IsLegalOrder good (Line 0 ∷ Connect 0 2 ∷ Line 0 ∷ Given 1 ∷ Arrive 0 ∷ Collect 0 ∷ Hangup 0 ∷ []) → ⊥
+not_connected_yet (named, ticketed, (u, (v, (n, (at, up, idle), h), later), ends)) = absurd (cc)
+
+-- a message can't come before it was sent,
+pub not_sent_yet : IsLegalOrder good (Connect 0 2 ∷ Line 0 ∷ Line 0 ∷ Arrive 0 ∷ Given 1 ∷ Collect 0 ∷ Hangup 0 ∷ []) → ⊥
+not_sent_yet (named, ticketed, (u, leads, ends)) =
+    go (up_to_passed Granted (Arrive 0 ∷ Given 1 ∷ Collect 0 ∷ Hangup 0 ∷ []) u leads)
   where
-    go : Leads good ticked (Line 0 ∷ Connect 0 2 ∷ Line 0 ∷ Arrive 0 ∷ Collect 0 ∷ Hangup 0 ∷ []) u → ⊥
-    go (v, (n, (at, up, idle), h), later) = absurd (cc)
+    go : Leads good (passed Granted) (Arrive 0 ∷ Given 1 ∷ Collect 0 ∷ Hangup 0 ∷ []) u → ⊥
+    go (v, (e, x, sent, brings, asks, takes), later) = absurd (cc)
 
 -- and a session can't take its answer before the message has come that brings it.
-pub not_answered_yet : IsLegalOrder good (Given 1 ∷ Connect 0 2 ∷ Line 0 ∷ Line 0 ∷ Collect 0 ∷ Arrive 0 ∷ Hangup 0 ∷ []) → ⊥
+pub not_answered_yet : IsLegalOrder good (Connect 0 2 ∷ Line 0 ∷ Line 0 ∷ Given 1 ∷ Collect 0 ∷ Arrive 0 ∷ Hangup 0 ∷ []) → ⊥
 not_answered_yet (named, ticketed, (u, leads, ends)) =
-    go (up_to_passed Granted (Collect 0 ∷ Arrive 0 ∷ Hangup 0 ∷ []) u leads)
+    go (up_to_ticked Granted (Collect 0 ∷ Arrive 0 ∷ Hangup 0 ∷ []) u leads)
   where
-    go : Leads good (passed Granted) (Collect 0 ∷ Arrive 0 ∷ Hangup 0 ∷ []) u → ⊥
+    go : Leads good (ticked Granted) (Collect 0 ∷ Arrive 0 ∷ Hangup 0 ∷ []) u → ⊥
     go (v, (n, y, o, at, up, awaits, there, agrees, is), later) =
         let here : 1 ≡ n = cc in
         let its : record { key = command 1; outcome = Some Granted } ≡ y = cc in
-        let missing : None ≡ Some o = subst (λ (z : Awaited Key Outcome). good.answer (state_at good 1 1) z.key ≡ Some o) (sym its) (subst (λ m. good.answer (state_at good m ((passed Granted).placed m)) y.key ≡ Some o) (sym here) there) in
+        let missing : None ≡ Some o = subst (λ (z : Awaited Key Outcome). good.answer (state_at good 1 1) z.key ≡ Some o) (sym its) (subst (λ m. good.answer (state_at good m ((ticked Granted).placed m)) y.key ≡ Some o) (sym here) there) in
         absurd (cc)
 
 -- Nor may the last of them be left out.
-pub not_at_the_end : IsLegalOrder good (Given 1 ∷ Connect 0 2 ∷ Line 0 ∷ Line 0 ∷ Arrive 0 ∷ Collect 0 ∷ []) → ⊥
+pub not_at_the_end : IsLegalOrder good (Connect 0 2 ∷ Line 0 ∷ Line 0 ∷ Given 1 ∷ Arrive 0 ∷ Collect 0 ∷ []) → ⊥
 not_at_the_end (named, ticketed, (u, leads, (all, said))) =
-    let last = behind good numbers_apart (arrived Granted) collected u (Collect 0) [] collects
-    (behind good numbers_apart (passed Granted) (arrived Granted) u (Arrive 0) (Collect 0 ∷ []) (arrives Granted) (up_to_passed Granted (Arrive 0 ∷ Collect 0 ∷ []) u leads)) in
+    let last = behind good numbers_apart (arrived Granted) collected u (Collect 0) [] collects (up_to_arrived Granted (Collect 0 ∷ []) u leads) in
     let two_of_three : 2 ≡ 3 = subst (λ (w : SmallWorld). w.placed 1 ≡ 3) last (all 1) in
     absurd (omega (arith, two_of_three))
 
 -- Where the transcript tells another outcome than the log, they are no legal order either,
 pub told_otherwise : IsLegalOrder (told Refused) events → ⊥
 told_otherwise (named, ticketed, (u, leads, ends)) =
-    go (behind (told Refused) numbers_apart (passed Refused) (arrived Refused) u (Arrive 0) (Collect 0 ∷ Hangup 0 ∷ []) (arrives Refused) (up_to_passed Refused (Arrive 0 ∷ Collect 0 ∷ Hangup 0 ∷ []) u leads))
+    go (up_to_arrived Refused (Collect 0 ∷ Hangup 0 ∷ []) u leads)
   where
     go : Leads (told Refused) (arrived Refused) (Collect 0 ∷ Hangup 0 ∷ []) u → ⊥
     go (v, (n, y, o, at, up, awaits, there, agrees, is), later) =
@@ -268,6 +269,9 @@ placed first second = put (put (λ node. 0) 0 first) 1 second
 -- An arrival waits for the tick that sent its message,
 pub waits_for_its_tick : can_place good (placed 0 1) 1 ≡ false
 waits_for_its_tick = refl
+
+pub not_stuck_before_the_tick : is_stuck good (placed 0 1) ≡ false
+not_stuck_before_the_tick = refl
 
 pub comes_behind_its_tick : can_place good (placed 1 1) 1 ≡ true
 comes_behind_its_tick = refl
