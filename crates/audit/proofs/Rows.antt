@@ -133,7 +133,7 @@ all_said : (i : ℕ) → SessionEnds good (slice_get good.scripts i) (gone.sessi
 all_said zero = (refl, refl, tt, refl)
 all_said (suc i) = tt
 
--- These events are a legal order.
+-- The events of this run are a legal order.
 pub legal : IsLegalOrder good events
 legal = (
   named_once,
@@ -198,11 +198,11 @@ up_to_ticked outcome es u h = behind (told outcome) numbers_apart (passed outcom
 up_to_arrived : (outcome : Outcome) (es : List Event) (u : SmallWorld) → Leads (told outcome) (opening (told outcome)) (Connect 0 2 ∷ Line 0 ∷ Line 0 ∷ Given 1 ∷ Arrive 0 ∷ es) u → Leads (told outcome) (arrived outcome) es u
 up_to_arrived outcome es u h = behind (told outcome) numbers_apart (ticked outcome) (arrived outcome) u (Arrive 0) es (arrives outcome) (up_to_ticked outcome (Arrive 0 ∷ es) u h)
 
--- With two of the events exchanged they are no legal order: a session can't say a line before it has connected,
+-- With its first two exchanged they aren't: a session can't say a line before it has connected.
 pub not_connected_yet : IsLegalOrder good (Line 0 ∷ Connect 0 2 ∷ Line 0 ∷ Given 1 ∷ Arrive 0 ∷ Collect 0 ∷ Hangup 0 ∷ []) → ⊥
 not_connected_yet (named, ticketed, (u, (v, (n, (at, up, idle), h), later), ends)) = absurd (cc)
 
--- a message can't come before it was sent,
+-- With the tick and the arrival exchanged they aren't: a message can't come before it was sent.
 pub not_sent_yet : IsLegalOrder good (Connect 0 2 ∷ Line 0 ∷ Line 0 ∷ Arrive 0 ∷ Given 1 ∷ Collect 0 ∷ Hangup 0 ∷ []) → ⊥
 not_sent_yet (named, ticketed, (u, leads, ends)) =
     go (up_to_passed Granted (Arrive 0 ∷ Given 1 ∷ Collect 0 ∷ Hangup 0 ∷ []) u leads)
@@ -210,7 +210,7 @@ not_sent_yet (named, ticketed, (u, leads, ends)) =
     go : Leads good (passed Granted) (Arrive 0 ∷ Given 1 ∷ Collect 0 ∷ Hangup 0 ∷ []) u → ⊥
     go (v, (e, x, sent, brings, asks, takes), later) = absurd (cc)
 
--- and a session can't take its answer before the message has come that brings it.
+-- With the arrival and the answer exchanged they aren't: a session can't take an answer that isn't there.
 pub not_answered_yet : IsLegalOrder good (Connect 0 2 ∷ Line 0 ∷ Line 0 ∷ Given 1 ∷ Collect 0 ∷ Arrive 0 ∷ Hangup 0 ∷ []) → ⊥
 not_answered_yet (named, ticketed, (u, leads, ends)) =
     go (up_to_ticked Granted (Collect 0 ∷ Arrive 0 ∷ Hangup 0 ∷ []) u leads)
@@ -222,14 +222,14 @@ not_answered_yet (named, ticketed, (u, leads, ends)) =
         let missing : None ≡ Some o = subst (λ (z : Awaited Key Outcome). good.answer (state_at good 1 1) z.key ≡ Some o) (sym its) (subst (λ m. good.answer (state_at good m ((ticked Granted).placed m)) y.key ≡ Some o) (sym here) there) in
         absurd (cc)
 
--- Nor may the last of them be left out.
+-- Without the last of them they aren't: an input of a log is left.
 pub not_at_the_end : IsLegalOrder good (Connect 0 2 ∷ Line 0 ∷ Line 0 ∷ Given 1 ∷ Arrive 0 ∷ Collect 0 ∷ []) → ⊥
 not_at_the_end (named, ticketed, (u, leads, (all, said))) =
     let last = behind good numbers_apart (arrived Granted) collected u (Collect 0) [] collects (up_to_arrived Granted (Collect 0 ∷ []) u leads) in
     let two_of_three : 2 ≡ 3 = subst (λ (w : SmallWorld). w.placed 1 ≡ 3) last (all 1) in
     absurd (omega (arith, two_of_three))
 
--- Where the transcript tells another outcome than the log, they are no legal order either,
+-- Where the transcript tells another outcome than the log they aren't: the session doesn't find what it was told.
 pub told_otherwise : IsLegalOrder (told Refused) events → ⊥
 told_otherwise (named, ticketed, (u, leads, ends)) =
     go (up_to_arrived Refused (Collect 0 ∷ Hangup 0 ∷ []) u leads)
@@ -242,23 +242,25 @@ told_otherwise (named, ticketed, (u, leads, ends)) =
         let told_it : Refused ≡ o = subst (λ (z : Awaited Key Outcome). Agrees (told Refused) z.outcome o) (sym its) agrees in
         absurd (cc)
 
--- and the first session has a wrong answer, where it had none.
+-- No session of the run has a wrong answer.
 pub none_wrong : first_wrong good 0 [] good.scripts ≡ None
 none_wrong = refl
 
+-- Where the transcript tells another outcome, the first session has one.
 pub first_is_wrong : first_wrong (told Refused) 0 [] (told Refused).scripts ≡ Some 0
 first_is_wrong = refl
 
--- Where two transcripts name one command, no events are a legal order,
+-- two transcripts name one command
 abbrev named_twice : SmallCase
 named_twice = case (Tick ∷ []) (Take ∷ Arrives 7 ∷ []) (Some (passes Granted ∷ []) ∷ Some (passes Granted ∷ []) ∷ [])
 
+-- Then no events are a legal order, whichever they are.
 pub not_once : (es : List Event) → IsLegalOrder named_twice es → ⊥
 not_once es (named, ticketed, rest) =
     let twice : 2 ≡ 1 = named 1 0 Take (command 1) refl refl in
     absurd (omega (arith, twice))
 
--- and the second session has a wrong answer.
+-- And the second session has a wrong answer, since the first names the command before it.
 pub second_is_wrong : first_wrong named_twice 0 [] named_twice.scripts ≡ Some 1
 second_is_wrong = refl
 
@@ -266,20 +268,23 @@ second_is_wrong = refl
 abbrev placed : ℕ → ℕ → ℕ → ℕ
 placed first second = put (put (λ node. 0) 0 first) 1 second
 
--- An arrival waits for the tick that sent its message,
+-- An arrival waits for the tick that sent its message.
 pub waits_for_its_tick : can_place good (placed 0 1) 1 ≡ false
 waits_for_its_tick = refl
 
+-- The placing isn't stuck then, since the tick can be placed.
 pub not_stuck_before_the_tick : is_stuck good (placed 0 1) ≡ false
 not_stuck_before_the_tick = refl
 
+-- Behind the tick the arrival can be placed.
 pub comes_behind_its_tick : can_place good (placed 1 1) 1 ≡ true
 comes_behind_its_tick = refl
 
--- and what a session asks waits for the answer to what it asked before.
+-- What a session asks waits for the answer to what it asked before: here no message brings it.
 pub waits_for_the_answer : can_place (case (Tick ∷ []) (Take ∷ Free ∷ []) (Some (script Granted) ∷ [])) (placed 1 1) 1 ≡ false
 waits_for_the_answer = refl
 
+-- Behind the answer it can be placed.
 pub comes_behind_the_answer : can_place good (placed 1 2) 1 ≡ true
 comes_behind_the_answer = refl
 
@@ -297,10 +302,11 @@ all_can_be_placed =
     all (suc zero) = refl
     all (suc (suc node)) = rw (ne_eqb (suc (suc node)) 1 (λ e. absurd (omega (arith, e))), ne_eqb (suc (suc node)) 0 (λ e. absurd (omega (arith, e)))) refl
 
--- With the tick taken out of its log the second node is stuck at the arrival: this is why an audit gives no events.
+-- the tick is taken out of its log
 abbrev without_tick : SmallCase
 without_tick = case [] (Take ∷ Arrives 7 ∷ Free ∷ []) (Some (script Granted) ∷ [])
 
+-- Then the placing is stuck, and the second node has an input left: why an audit gives no events.
 pub stuck_at_the_arrival : IsCause without_tick (NoOrder 2)
 stuck_at_the_arrival =
     record {
@@ -317,7 +323,7 @@ stuck_at_the_arrival =
     least zero less = absurd (omega (arith, less))
     least (suc node) less = omega arith
 
--- And indeed no events are a legal order then, since nothing is ever sent, and so the arrival never comes.
+-- nothing is sent without the tick, and so the arrival never comes
 record IsWaiting (w : SmallWorld) : Type 0 where
   nothing_sent : w.sent ≡ []
   waits : w.placed 1 ≤ 1
@@ -367,23 +373,26 @@ waits_for_ever : (es : List Event) (w u : SmallWorld) → IsWaiting w → Leads 
 waits_for_ever [] w u h leads = subst IsWaiting (sym leads) h
 waits_for_ever (e ∷ es) w u h (v, now, later) = waits_for_ever es v u (waits_on w v e h now) later
 
+-- So no events are a legal order, whichever they are, as an audit says.
 pub no_order_without_it : HasNoOrder without_tick (NoOrder 2)
 no_order_without_it es (named, ticketed, (u, leads, (all, said))) =
     let most = (waits_for_ever es (opening without_tick) u (record { nothing_sent = refl; waits = omega arith }) leads).waits in
     let three = all 1 in
     absurd (omega (arith, most, three))
 
--- With the tick there is one, whatever node is said to be stuck.
+-- With the tick there is one, so that an audit may not say so of any node.
 pub an_order_with : (number : ℕ) → HasNoOrder good (NoOrder number) → ⊥
 an_order_with number none = none events legal
 
--- Behind a crash nothing is placed, and no legal order goes on.
+-- the second node ticks behind its crash
 abbrev crashed : SmallCase
 crashed = case [] (Crashes ∷ Tick ∷ []) []
 
+-- Nothing is placed behind a crash.
 pub stuck_at_the_crash : is_stuck crashed (placed 0 1) ≡ true
 stuck_at_the_crash = refl
 
+-- And the node takes nothing behind it.
 pub nothing_behind_a_crash : IsLegalOrder crashed (Given 2 ∷ Given 2 ∷ []) → ⊥
 nothing_behind_a_crash (named, ticketed, (u, leads, ends)) =
     go (behind crashed numbers_apart (opening crashed) (with_input (opening crashed) 1 []) u (Given 2) (Given 2 ∷ []) (1, Crashes, refl, refl, refl, (refl, refl, refl)) leads)
