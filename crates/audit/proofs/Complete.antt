@@ -212,7 +212,7 @@ module _ {S I E K O L : Type 0} (a : Case S I E K O L) where
   begins : Good (opening a)
   begins = record { from_logs = λ e h. absurd h; sessions_good = λ i. record { script = λ n e. absurd (cc); answered = λ k h. absurd h; at_home = λ n y e f. absurd (cc) } }
 
-  stuck_at : Laws a → (p : ℕ → ℕ) → is_stuck a p ≡ true → (m : ℕ) → can_place a p m ≡ true → ⊥
+  pub stuck_at : Laws a → (p : ℕ → ℕ) → is_stuck a p ≡ true → (m : ℕ) → can_place a p m ≡ true → ⊥
   stuck_at laws p s m =
       go (next a m (p m)) refl
     where

@@ -6,6 +6,7 @@ pub mod Aligned
 pub mod Sweep
 pub mod Sound
 pub mod Monotone
+pub mod Largest
 pub mod Once
 pub mod Equal
 pub mod Calls

@@ -4,7 +4,7 @@
 //! before it, its message was sent, and what its session asked before is answered. By these laws it makes no difference in
 //! which order that is done: whoever places inputs until none can be placed knows whether there is a legal order, but for
 //! what the transcripts say of answers.
-ghost use Rattle.std.specs.Prelude.{◌≡◌, ◌<◌, ℕ, suc, List, [], length, None, true};
+ghost use Rattle.std.specs.Prelude.{◌≡◌, ◌<◌, ◌≤◌, ℕ, suc, List, [], length, None, true};
 ghost use Rattle.node.specs.declared.log.NodeLog.{NodeLog};
 ghost use Rattle.session.specs.declared.transcript.Transcript.{Transcript};
 ghost use Rattle.audit.specs.Order.{IsLegalOrder};
@@ -55,4 +55,13 @@ pub fn placing_takes_no_turn_away<A: Allocator>()
 pub fn a_placing_ends<A: Allocator>()
     ensures { (logs : List (NodeLog A)) (transcripts : List (Transcript A)) →
         (order : List ℕ) × (placed : ℕ → ℕ) × IsPlacing (case_of logs transcripts) order placed × (is_stuck (case_of logs transcripts) placed ≡ true) }
+{}
+
+/// Where no input can be placed, each that anybody can place is placed already, whatever the logs and the transcripts are.
+/// So all that end there have placed the same; and where all inputs can be placed, none is left.
+pub fn a_stuck_placing_holds_every_placing<A: Allocator>()
+    ensures { (logs : List (NodeLog A)) (transcripts : List (Transcript A)) (stuck : ℕ → ℕ) →
+        is_stuck (case_of logs transcripts) stuck ≡ true
+        → (order : List ℕ) (placed : ℕ → ℕ) → IsPlacing (case_of logs transcripts) order placed
+        → (node : ℕ) → placed node ≤ stuck node }
 {}

@@ -31,8 +31,8 @@ pub use audit_error::AuditError;
 pub use auditing::audit;
 pub use event::Event;
 pub use laws::{
-    a_placing_ends, a_stuck_placing_has_no_order, a_whole_placing_has_an_order,
-    a_written_order_is_legal, placing_takes_no_turn_away,
+    a_placing_ends, a_stuck_placing_has_no_order, a_stuck_placing_holds_every_placing,
+    a_whole_placing_has_an_order, a_written_order_is_legal, placing_takes_no_turn_away,
 };
 pub use run_laws::{
     a_legal_order_is_a_run, a_legal_order_is_taken, a_service_is_fit, counted_bytes_are_projected,
