@@ -13,7 +13,8 @@ pub enum AuditError {
     #[error("there is no legal order")]
     NoOrder(NodeId),
     /// All inputs can come, and this is the place of the first transcript, counted from 0, that says something else of an
-    /// operation or of its outcome than the logs do.
+    /// operation or of its outcome than the logs do, names what an earlier entry named, has tickets of two nodes, or tells
+    /// an outcome without a ticket.
     #[error("session {0} has a wrong answer")]
     WrongAnswer(usize),
     /// A request for memory was refused.

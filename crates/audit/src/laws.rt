@@ -26,7 +26,8 @@ pub fn a_stuck_placing_has_no_order<A: Allocator>()
         → (events : List Event) → IsLegalOrder (case_of logs transcripts) events → ⊥ }
 {}
 
-/// Where all inputs are placed, and no transcript has a wrong answer, there is a legal order.
+/// Where all inputs are placed, and no transcript has a wrong answer, there is a legal order, if the logs and transcripts can
+/// be a service's.
 pub fn a_whole_placing_has_an_order<A: Allocator>()
     ensures { (logs : List (NodeLog A)) (transcripts : List (Transcript A)) → AreFit logs transcripts
         → (order : List ℕ) (placed : ℕ → ℕ) → IsPlacing (case_of logs transcripts) order placed
