@@ -8,7 +8,7 @@ use Rattle.node.specs.declared.stopped.Stopped.{Stopped}
 use Rattle.node.specs.declared.log.NodeLog.{NodeLog}
 use Rattle.session.specs.declared.transcript.Transcript.{Transcript}
 use Rattle.audit.specs.Checks.{IsLeft, AreReplayed, AreLeft}
-use Rattle.audit.specs.Nodes.{Replayed, Runs, RunsUnlessStopped, state_shown, log_shown, unless_stopped, answers_left}
+use Rattle.audit.specs.Nodes.{Replayed, RunsUnlessStopped, state_shown, log_shown, unless_stopped, answers_left}
 use Rattle.audit.specs.Replays.{Replay, answer}
 use Rattle.audit.proofs.Replaying.{shown_up, answer_of_log}
 

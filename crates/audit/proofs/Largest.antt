@@ -1,9 +1,9 @@
 -- A placing beyond which nothing can be placed holds every other.
-use Rattle.std.proofs.Common.{◌≡◌, ◌⊎◌, ℕ, suc, ◌<◌, ◌≤◌, List, [], ◌∷◌, true, sym, subst, ⊎_elim, arith}
+use Rattle.std.proofs.Common.{◌≡◌, ℕ, suc, ◌<◌, ◌≤◌, List, [], ◌∷◌, true, sym, subst, ⊎_elim, arith}
 use Rattle.std.proofs.lemmas.Bool.{cases_eq, cases_lt}
 use Rattle.audit.specs.Case.{Case}
 use Rattle.audit.specs.Laws.{Laws}
-use Rattle.audit.specs.Placing.{can_place, is_stuck, IsPlacing}
+use Rattle.audit.specs.Placing.{is_stuck, IsPlacing}
 use Rattle.audit.proofs.Basics.{IsBelow, put_each}
 use Rattle.audit.proofs.Complete.{stuck_at}
 use Rattle.audit.proofs.Monotone.{stays}

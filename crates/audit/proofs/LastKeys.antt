@@ -1,9 +1,8 @@
 -- The last commands of sessions.
-use Rattle.std.proofs.Common.{◌≡◌, ◌⊎◌, ℕ, zero, suc, ◌+◌, ◌-◌, ◌≤◌, ◌<◌, length, List, [], ◌∷◌, ◌++◌, Bool, true, false, Option, Some, None, refl, sym, ap, ◌∙◌, subst, ⊎_elim, cond, take, drop, arith}
-use Rattle.std.specs.Prelude.{slice_get, ◌&&◌, is_some}
-use Rattle.std.proofs.lemmas.Bool.{true≢false, and_parts, cases_lt}
+use Rattle.std.proofs.Common.{◌≡◌, ℕ, zero, suc, ◌≤◌, ◌<◌, length, List, [], ◌∷◌, ◌++◌, Bool, true, false, Option, Some, None, refl, sym, ap, ◌∙◌, subst, ⊎_elim, cond, take, drop, arith}
+use Rattle.std.specs.Prelude.{slice_get, is_some}
+use Rattle.std.proofs.lemmas.Bool.{cases_lt}
 use Rattle.std.proofs.lemmas.Option.{slice_get_within, slice_get_past}
-use Rattle.std.proofs.lemmas.List.{append-nil}
 use Rattle.maildrop.specs.CommandId.{CommandId}
 use Rattle.maildrop.specs.Ticket.{Ticket}
 use Rattle.node.specs.declared.log.NodeLog.{NodeLog}
@@ -15,7 +14,7 @@ use Rattle.audit.specs.Checks.{AreReplayed, end_state}
 use Rattle.audit.specs.Names.{key_by, entry_key, with_key, entry_keys}
 use Rattle.audit.specs.Nodes.{Replayed}
 use Rattle.audit.specs.Records.{place_of, inputs_in, begun_at, RealCase, case_of}
-use Rattle.audit.specs.Replays.{Replay, answer}
+use Rattle.audit.specs.Replays.{answer}
 use Rattle.audit.specs.Speakers.{AreAnswered}
 use Rattle.audit.specs.Turns.{Turns, asks, asks_by, hangups, is_of_line, turns_from, script_of}
 use Rattle.audit.specs.Written.{last_of, answered_last, script_keys, in_the_end}

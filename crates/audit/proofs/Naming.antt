@@ -1,5 +1,5 @@
 -- What transcripts name, entered from the last to the first.
-use Rattle.std.proofs.Common.{◌≡◌, ℕ, zero, suc, ◌+◌, ◌-◌, ◌≤◌, ◌<◌, length, List, [], ◌∷◌, Bool, true, false, Option, Some, None, refl, sym, ap, ◌∙◌, subst, cond, drop, arith}
+use Rattle.std.proofs.Common.{◌≡◌, ℕ, zero, suc, ◌≤◌, List, [], ◌∷◌, Option, Some, None, sym, ap, ◌∙◌, subst, cond, drop, arith}
 use Rattle.std.specs.Prelude.{slice_get}
 use Rattle.maildrop.specs.CommandId.{CommandId, same_id}
 use Rattle.session.specs.declared.transcript.Asked.{Asked}

@@ -1,20 +1,19 @@
 -- Sessions before their first turns, and how they connect.
-use Rattle.std.proofs.Common.{◌≡◌, ◌⊎◌, ℕ, zero, suc, ◌≤◌, ◌<◌, length, List, [], ◌∷◌, ◌++◌, Bool, true, false, Option, Some, None, refl, sym, ap, ◌∙◌, subst, ⊎_elim, cond, map, append_assoc, arith}
+use Rattle.std.proofs.Common.{◌≡◌, ℕ, zero, suc, ◌≤◌, ◌<◌, length, List, [], ◌∷◌, ◌++◌, Bool, true, false, Option, Some, None, refl, sym, ap, ◌∙◌, subst, ⊎_elim, cond, map, append_assoc, arith}
 use Rattle.std.specs.Prelude.{slice_get, ◌&&◌}
 use Rattle.std.proofs.lemmas.Bool.{true≢false, and_parts, cases_lt}
 use Rattle.std.proofs.lemmas.Option.{slice_get_within}
 use Rattle.std.proofs.lemmas.List.{append-nil}
-use Rattle.ballot.specs.Lists.{IsIn}
 use Rattle.node.specs.declared.log.NodeLog.{NodeLog}
 use Rattle.session.specs.declared.transcript.Asked.{Asked}
 use Rattle.session.specs.declared.transcript.Transcript.{Transcript}
 use Rattle.pop3_wire.specs.declared.line.Line.{Line}
 use Rattle.audit.specs.Case.{turns_of, next}
-use Rattle.audit.specs.Events.{Talk, kinds, events_from}
+use Rattle.audit.specs.Events.{kinds, events_from}
 use Rattle.audit.specs.Placing.{put}
-use Rattle.audit.specs.Records.{number_in, inputs_in, RealCase, case_of}
+use Rattle.audit.specs.Records.{inputs_in, RealCase, case_of}
 use Rattle.audit.specs.Speakers.{Speaker, AreSpeakers, IsKnown, AreKnown, IsKnownSource, AreSeated, AreAnswered}
-use Rattle.audit.specs.Turns.{Turns, turns_from, is_empty, is_blank, script_of}
+use Rattle.audit.specs.Turns.{turns_from, is_empty, is_blank, script_of}
 use Rattle.audit.specs.Written.{ArePlaced, IsFrom, connect, connects, in_the_end, first_talk, first_talks, written_order}
 use Rattle.audit.specs.Wrong.{node_of, turns_at, seat}
 use Rattle.audit.specs.declared.event.Event.{Event}

@@ -1,5 +1,5 @@
 -- What each happening makes of a service, and when it can happen.
-use Rattle.std.proofs.Common.{◌≡◌, ℕ, List, [], ◌∷◌, Bool, true, false, Option, Some, None, refl, sym, ap, ◌∙◌, cond, eqb}
+use Rattle.std.proofs.Common.{◌≡◌, ℕ, List, [], ◌∷◌, Bool, true, false, Some, None, refl, sym, ap, ◌∙◌, cond, eqb}
 use Rattle.std.proofs.lemmas.Bool.{eqb-true, eq-eqb, ne_eqb, true≢false}
 use Rattle.apop.specs.Stamp.{Stamp}
 use Rattle.maildrop.specs.CommandId.{CommandId}
@@ -14,7 +14,7 @@ use Rattle.session.specs.Session.{lock_due, free_of, by_line, by_answer}
 use Rattle.session.specs.declared.state.State.{State}
 use Rattle.session.specs.declared.state.Step.{Step}
 use Rattle.session.specs.declared.state.Step.TheVariants.{Say, Ask, SayAndClose}
-use Rattle.world.specs.Clients.{Standing, Hears, Waits, Over, Client, new_client, standing_as, told, with_line, asking, client_of, with_client, without_node, all_without_node}
+use Rattle.world.specs.Clients.{Hears, Waits, Over, Client, new_client, standing_as, told, with_line, asking, client_of, with_client, without_node, all_without_node}
 use Rattle.world.specs.Messages.{log_of, is_up}
 use Rattle.world.specs.Refusals.{unless_down, node_refusal, connect_refusal, line_refusal, hangup_refusal, busy_without, collect_refusal, client_refusal, refusal_of}
 use Rattle.world.specs.Services.{Service, keeps, submits, if_up, if_served, connects, next_id, after_line, hears_line, by_turn, takes_answer, collects, gives_back, hangs_up, crashes, occurs}

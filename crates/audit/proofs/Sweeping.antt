@@ -1,11 +1,11 @@
 -- Sessions go on, one after another.
-use Rattle.std.proofs.Common.{◌≡◌, ◌⊎◌, ℕ, zero, suc, ◌≤◌, ◌<◌, length, List, [], ◌∷◌, ◌++◌, Bool, true, false, Option, Some, None, refl, sym, ap, ◌∙◌, subst, inl, inr, ⊎_elim, cond, set, append_assoc, arith}
-use Rattle.std.specs.Prelude.{slice_get, ◌==◌}
+use Rattle.std.proofs.Common.{◌≡◌, ℕ, suc, ◌≤◌, ◌<◌, length, List, [], ◌++◌, Bool, Some, sym, ap, ◌∙◌, subst, ⊎_elim, cond, set, append_assoc, arith}
+use Rattle.std.specs.Prelude.{slice_get}
 use Rattle.std.proofs.lemmas.List.{append-nil}
 use Rattle.std.proofs.lemmas.Bool.{cases_lt}
 use Rattle.std.proofs.lemmas.Option.{slice_get_within}
 use Rattle.audit.specs.Events.{Talk, goes_on, gone_on, all_go_on, all_gone_on}
-use Rattle.audit.specs.Speakers.{Speaker, goes, AreSpeakers}
+use Rattle.audit.specs.Speakers.{Speaker, AreSpeakers}
 use Rattle.audit.specs.declared.event.Event.{Event}
 use Rattle.audit.proofs.Seats.{set_got}
 

@@ -1,11 +1,9 @@
 -- Which transcripts name which commands.
-use Rattle.std.specs.Prelude.{◌≡◌, ℕ, suc, List, [], ◌∷◌, Bool, true, false, Option, Some, None, slice_get, take, if◌then◌else◌}
-use Rattle.ballot.specs.Lists.{IsIn}
+use Rattle.std.specs.Prelude.{ℕ, suc, List, [], ◌∷◌, Bool, false, Option, Some, None, if◌then◌else◌}
 use Rattle.maildrop.specs.CommandId.{CommandId, same_id}
 use Rattle.maildrop.specs.Ticket.{Ticket}
 use Rattle.session.specs.declared.transcript.Asked.{Asked}
 use Rattle.session.specs.declared.transcript.Transcript.{Transcript}
-use Rattle.audit.specs.Case.{Case, earlier_among}
 
 abbrev pub key_by : List ℕ → Option Ticket → Option CommandId
 key_by name None = None

@@ -1,5 +1,5 @@
 -- The nodes of logs, as inputs come to them.
-use Rattle.std.specs.Prelude.{◌≡◌, ◌+◌, ℕ, suc, length, List, [], ◌∷◌, ◌++◌, Bool, true, false, Option, Some, None, slice_get, ◌&&◌, if◌then◌else◌}
+use Rattle.std.specs.Prelude.{◌≡◌, ℕ, List, [], Bool, true, false, Option, Some, None, slice_get, ◌&&◌, if◌then◌else◌}
 use Rattle.std.specs.List.{list_any}
 use Rattle.maildrop.specs.CommandId.{CommandId}
 use Rattle.maildrop.specs.declared.outcome.Outcome.{Outcome}
@@ -10,7 +10,6 @@ use Rattle.node.specs.declared.input.Input.TheVariants.{Crash}
 use Rattle.node.specs.declared.log.NodeLog.{NodeLog}
 use Rattle.node.specs.declared.log.Opening.{Opening}
 use Rattle.node.specs.declared.stopped.Stopped.{Stopped}
-use Rattle.audit.specs.Case.{Case, state_at}
 use Rattle.audit.specs.Records.{is_fit}
 use Rattle.audit.specs.Replays.{Replay}
 

@@ -1,9 +1,8 @@
 -- The tickets that the node of a log gives, by the log alone.
-use Rattle.std.specs.Prelude.{◌≡◌, ◌<◌, ℕ, zero, suc, length, List, [], ◌∷◌, Bool, true, false, Option, Some, None, slice_get, take, ◌&&◌, ◌||◌}
+use Rattle.std.specs.Prelude.{◌≡◌, ◌<◌, ℕ, zero, suc, length, List, Bool, false, Option, Some, None, slice_get, take, ◌&&◌, ◌||◌}
 use Rattle.std.specs.Map.{lookup}
 use Rattle.maildrop.specs.CommandId.{CommandId, same_id}
 use Rattle.maildrop.specs.Ticket.{Ticket}
-use Rattle.node.specs.Nodes.{AreGiven}
 use Rattle.node.specs.Replay.{ticket_of}
 use Rattle.node.specs.declared.input.Input.{Input}
 use Rattle.node.specs.declared.log.NodeLog.{NodeLog}

@@ -1,6 +1,5 @@
 -- How a message is found among those that were sent.
 use Rattle.std.specs.Prelude.{ℕ, List, Option, IsSome}
-use Rattle.ballot.specs.Ballots.{BallotNumber}
 use Rattle.ballot.specs.Lists.{IsIn}
 use Rattle.ballot.specs.declared.message.Envelope.{Envelope}
 use Rattle.ballot.specs.declared.message.Message.{Message}

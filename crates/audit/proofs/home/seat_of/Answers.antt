@@ -1,4 +1,4 @@
-use Rattle.std.proofs.Common.{◌≡◌, ◌∙◌, ap, sym}
+use Rattle.std.proofs.Common.{◌∙◌, ap, sym}
 use Rattle.audit.specs.Checks.{first_node}
 use Rattle.audit.proofs.Sessions.{seat_is}
 use Rattle.audit.proofs.home.seat_of.Goals as goal

@@ -1,4 +1,4 @@
-use Rattle.std.proofs.Common.{◌≡◌, ◌+◌, length, refl, arith}
+use Rattle.std.proofs.Common.{◌+◌, length, refl, arith}
 use Rattle.std.proofs.lemmas.Option.{slice_get_read}
 use Rattle.audit.proofs.LastKeys.{none_answered, one_answered, all_answered}
 use Rattle.audit.proofs.last_answers.answered_of.Goals as goal

@@ -1,8 +1,5 @@
 use Rattle.std.proofs.Common.{◌≡◌, ◌∙◌, ◌-◌, ◌<◌, suc, length, ap, sym, refl, arith, Some}
-use Rattle.std.specs.Prelude.{slice_get}
-use Rattle.std.specs.Map.{lookup}
 use Rattle.std.proofs.lemmas.Option.{slice_get_read}
-use Rattle.maildrop.specs.CommandId.{same_id}
 use Rattle.audit.specs.Names.{key_by}
 use Rattle.audit.proofs.Naming.{entered, passed_over}
 use Rattle.audit.proofs.names.enter.Goals as goal

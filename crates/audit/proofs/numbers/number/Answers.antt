@@ -1,4 +1,4 @@
-use Rattle.std.proofs.Common.{◌≡◌, ◌∙◌, ◌+◌, ap, sym, zero-add}
+use Rattle.std.proofs.Common.{◌∙◌, ◌+◌, ap, sym, zero-add}
 use Rattle.node.specs.Replay.{counts}
 use Rattle.node.specs.Tickets.{tickets_of}
 use Rattle.audit.proofs.Numbering.{given_next, nothing_counts, other_next, submit_next}

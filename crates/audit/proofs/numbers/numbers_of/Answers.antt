@@ -1,4 +1,4 @@
-use Rattle.std.proofs.Common.{ap, refl}
+use Rattle.std.proofs.Common.{ap}
 use Rattle.node.specs.Tickets.{tickets_of}
 use Rattle.audit.proofs.Finding.{got}
 use Rattle.audit.proofs.Numbering.{none_numbered, all_numbered}

@@ -1,4 +1,4 @@
-use Rattle.std.proofs.Common.{◌≡◌, ◌+◌, length, refl, arith}
+use Rattle.std.proofs.Common.{◌+◌, length, refl, arith}
 use Rattle.std.proofs.lemmas.Option.{slice_get_read}
 use Rattle.audit.proofs.Turning.{line_asks, line_says, last_says}
 use Rattle.audit.proofs.turns.push_line.Goals as goal

@@ -1,4 +1,4 @@
-use Rattle.std.proofs.Common.{◌≡◌, ◌<◌, length, refl, sym, ap, arith}
+use Rattle.std.proofs.Common.{refl, sym, ap, arith}
 use Rattle.audit.specs.Records.{number_in}
 use Rattle.audit.proofs.Finding.{got}
 use Rattle.audit.proofs.Openings.{blank_connects, begun_connects, begun_seated}

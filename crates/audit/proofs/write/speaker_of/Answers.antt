@@ -1,6 +1,5 @@
 use Rattle.std.proofs.Common.{◌≡◌, ◌∙◌, false, Some}
 use Rattle.audit.specs.Case.{turns_of}
-use Rattle.audit.specs.Events.{Talk}
 use Rattle.audit.specs.Records.{case_of}
 use Rattle.audit.specs.Speakers.{Speaker}
 use Rattle.audit.specs.Turns.{script_of}

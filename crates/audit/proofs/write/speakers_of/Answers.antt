@@ -1,4 +1,4 @@
-use Rattle.std.proofs.Common.{◌≡◌, ◌+◌, ◌<◌, length, get_or, refl, arith, false}
+use Rattle.std.proofs.Common.{◌+◌, ◌<◌, length, get_or, refl, arith, false}
 use Rattle.std.proofs.lemmas.Option.{slice_get_read, slice_get-get_or}
 use Rattle.audit.proofs.Openings.{one_made, all_made}
 use Rattle.audit.proofs.write.speakers_of.Goals as goal

@@ -1,4 +1,4 @@
-use Rattle.std.proofs.Common.{◌≡◌, ◌+◌, ◌<◌, get_or, length, arith}
+use Rattle.std.proofs.Common.{◌+◌, ◌<◌, get_or, length, arith}
 use Rattle.std.proofs.lemmas.Option.{slice_get-get_or}
 use Rattle.audit.specs.Speakers.{goes}
 use Rattle.audit.proofs.Sweeping.{none_swept, one_swept, all_swept}

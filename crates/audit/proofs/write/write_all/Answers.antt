@@ -1,12 +1,12 @@
-use Rattle.std.proofs.Common.{◌≡◌, ℕ, ◌+◌, ◌++◌, Bool, true, length, get_or, subst, sym, arith}
+use Rattle.std.proofs.Common.{◌≡◌, ℕ, ◌+◌, ◌++◌, true, length, get_or, subst, sym, arith}
 use Rattle.std.specs.Prelude.{slice_get}
 use Rattle.std.proofs.lemmas.Option.{slice_get-get_or}
-use Rattle.audit.specs.Events.{Talk, events_of, talks_after, all_go_on}
+use Rattle.audit.specs.Events.{events_of, talks_after, all_go_on}
 use Rattle.audit.specs.Records.{number_in}
 use Rattle.audit.specs.Speakers.{AreSpeakers, IsKnown}
 use Rattle.audit.specs.declared.placement.Placement.{Placement}
 use Rattle.audit.specs.declared.placement.Source.TheVariants.{Own}
-use Rattle.audit.proofs.Writing.{on_ok, none_writ, one_writ, all_writ}
+use Rattle.audit.proofs.Writing.{on_ok, one_writ, all_writ}
 use Rattle.audit.proofs.write.write_all.Goals as goal
 
 pub write_one-requires : goal.write_one-requires

@@ -1,5 +1,4 @@
-use Rattle.std.proofs.Common.{◌≡◌, ◌∙◌, ℕ, length, sym, ap, subst}
-use Rattle.std.specs.Prelude.{slice_get}
+use Rattle.std.proofs.Common.{◌≡◌, ◌∙◌, length, sym, ap, subst}
 use Rattle.audit.specs.Records.{case_of}
 use Rattle.audit.specs.Speakers.{AreKnown, AreSpeakers}
 use Rattle.audit.specs.Written.{in_the_end, first_talks}

@@ -1,6 +1,6 @@
 use Rattle.std.proofs.Common.{ap}
 use Rattle.audit.specs.Nodes.{Replayed}
-use Rattle.audit.proofs.Answered.{left_shown, none_left}
+use Rattle.audit.proofs.Answered.{left_shown}
 use Rattle.audit.proofs.replay.Replay.into_outcomes.Goals as goal
 
 pub returns-then-has_node-clause-left : goal.returns-then-has_node-clause-left

@@ -2,7 +2,7 @@ use Rattle.std.proofs.Common.{◌≡◌, ◌∙◌, suc, ap, sym, subst, true, S
 use Rattle.std.proofs.lemmas.Result.{err_from_is_err_and}
 use Rattle.node.specs.declared.input.Input.TheVariants.{Crash}
 use Rattle.audit.specs.Nodes.{Replayed, RunsUnlessStopped, state_shown, is_plain}
-use Rattle.audit.specs.Replays.{Replay, runs, sends, after}
+use Rattle.audit.specs.Replays.{runs, sends, after}
 use Rattle.audit.proofs.Replaying.{crashed_now, up_and_plain, plain_unless, taken, sent_of}
 use Rattle.audit.proofs.replay.Replay.take.Goals as goal
 

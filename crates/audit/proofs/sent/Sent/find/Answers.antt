@@ -1,7 +1,4 @@
-use Rattle.std.proofs.Common.{◌≡◌, ◌∙◌, sym, ap, Some, None, subst, List, false}
-use Rattle.std.specs.List.{list_any}
-use Rattle.std.specs.Prelude.{slice_get, IfSome}
-use Rattle.audit.specs.Same.{same_envelope}
+use Rattle.std.proofs.Common.{◌∙◌, sym, ap, Some}
 use Rattle.audit.proofs.Finding.{not_sent, got, same_is}
 use Rattle.audit.proofs.sent.Sent.find.Goals as goal
 
