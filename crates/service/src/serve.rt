@@ -20,7 +20,6 @@ use crate::verdict::{Verdict, verdict_of};
 use apop::{Accounts, AccountsError};
 use ballot::{Items, NodeId};
 use cluster::{Cluster, Deployment, InboxLink, NodeDesk, Setup, StartError};
-use maildrop::are_different;
 use node::NodeLog;
 use std::alloc::Global;
 use std::io;
@@ -62,6 +61,7 @@ fn setup_of(alloc: Global, settings: &Settings, accounts: &Accounts) -> Result<S
     ensures window { IfOk result (λ setup. setup.window ≡ settings.now.window) }
     ensures limits { IfOk result (λ setup. setup.limits ≡ settings.now.limits) }
     ensures names { IfOk result (λ setup. setup.names ≡ map name_of accounts.now) }
+    ensures different { IfOk result (λ setup. IsTrue (are_different setup.names)) }
 {
     let names = Vec::from_slice(alloc, accounts.names())?;
     Ok(Setup {
@@ -155,10 +155,6 @@ fn run_with<R: System + Files>(
     let ports = Ports::open(&rt, alloc, settings)?;
     let host = settings.host.copy()?;
     let board = Arc::new(alloc, Board::new(alloc, accounts, host))?;
-    // No two accounts have one name.
-    if !are_different(setup.names.get()) {
-        return Err(Fault::Value);
-    }
     serve_cluster::<Brand, R>(rt, alloc, &setup, settings, ports, &board)
 }
 
