@@ -1,7 +1,7 @@
 //! The run with a crash before each of its events.
 
-use crate::mishap::is_told_of;
-use crate::plot::{LIMIT, RUN, config, event_of};
+use crate::happenings::{Happening, LIMIT, RUN, event_of, new_service};
+use crate::refusals::is_of_what_is_gone;
 use crate::run_tests::events_of;
 use crate::told::{check_front, check_whole};
 use ballot::NodeId;
@@ -23,7 +23,7 @@ struct Doomed {
 fn pass(happened: Result<(), Refused>) -> Result<(), Fail> {
     match happened {
         Ok(()) => Ok(()),
-        Err(reason) if is_told_of(reason) => Ok(()),
+        Err(reason) if is_of_what_is_gone(reason) => Ok(()),
         Err(reason) => Err(reason)?,
     }
 }
@@ -52,20 +52,32 @@ impl Doomed {
         }
         Err("events come by themselves without end")?
     }
+
+    /// What happens next happens.
+    fn happen(&mut self, alloc: Global, happening: Happening) -> Result<(), Fail> {
+        match event_of(alloc, happening)? {
+            Some(event) => self.step(event),
+            None => self.settle(),
+        }
+    }
+}
+
+/// The service before the run, a node of which stops before the event at this place.
+fn doomed_service(alloc: Global, number: u8, place: usize) -> Result<Doomed, Fail> {
+    let world = new_service(alloc)?;
+    let node = node(number)?;
+    Ok(Doomed {
+        world,
+        node,
+        left: Some(place),
+    })
 }
 
 /// The service behind the run, where a node stops before the event at this place.
 fn after_crash(alloc: Global, number: u8, place: usize) -> Result<World, Fail> {
-    let mut doomed = Doomed {
-        world: World::new(alloc, config(alloc)?)?,
-        node: node(number)?,
-        left: Some(place),
-    };
+    let mut doomed = doomed_service(alloc, number, place)?;
     for happening in RUN {
-        match event_of(alloc, *happening)? {
-            Some(event) => doomed.step(event)?,
-            None => doomed.settle()?,
-        }
+        doomed.happen(alloc, *happening)?;
     }
     Ok(doomed.world)
 }

@@ -5,11 +5,11 @@
 #[cfg(test)]
 mod crash_tests;
 #[cfg(test)]
+mod happenings;
+#[cfg(test)]
 mod memory_tests;
 #[cfg(test)]
-mod mishap;
-#[cfg(test)]
-mod plot;
+mod refusals;
 #[cfg(test)]
 mod run_tests;
 #[cfg(test)]

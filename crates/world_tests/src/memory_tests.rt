@@ -1,7 +1,7 @@
 //! The run, whose requests for memory are refused in turn.
 
-use crate::mishap::is_told_of;
-use crate::plot::{LIMIT, RUN, config, event_of};
+use crate::happenings::{LIMIT, RUN, config, event_of};
+use crate::refusals::is_of_what_is_gone;
 use crate::told::{check_front, check_whole};
 use refusing::Refusal;
 use samples::{Heap, Scenario, check, requests};
@@ -30,7 +30,7 @@ fn pass(heap: Heap, happened: Result<(), Refused>) -> Result<(), Fail> {
     let Err(reason) = happened else {
         return Ok(());
     };
-    if heap.has_refused() && (reason == Refused::Memory || is_told_of(reason)) {
+    if heap.has_refused() && (reason == Refused::Memory || is_of_what_is_gone(reason)) {
         return Ok(());
     }
     Err(reason)?

@@ -1,13 +1,13 @@
 //! The run, event by event and in one call.
 
-use crate::plot::{Happening, LIMIT, RUN, TOLD, config, event_of, session};
+use crate::happenings::{Happening, LIMIT, RUN, TOLD, config, event_of, new_service, session};
 use crate::told::check_whole;
 use ballot::{Payload, Slot};
-use maildrop::{CommandId, SharedCommand};
-use samples::{alice, check, name, node, node_ticket};
+use maildrop::{CommandId, SharedCommand, Ticket};
+use samples::{check, name, node, node_ticket};
 use std::alloc::Global;
 use std::test::Fail;
-use world::{Event, World, run};
+use world::{Event, Runs, World, run};
 
 /// A command that is performed: its slot, whose it is, and its ticket.
 type Performed = (u64, &'static str, u8, u64);
@@ -29,6 +29,13 @@ fn is_performed(entry: &(Slot, SharedCommand), expected: Performed) -> Result<bo
     let id = CommandId::new(name(user)?, node_ticket(number, seq)?);
     Ok(entry.0.get() == slot && entry.1.id() == id)
 }
+
+/// Two messages come in at a node, which then stops.
+const STOPPED: &[Happening] = &[
+    Happening::Mail(2, "alice", &["one"]),
+    Happening::Mail(2, "alice", &["two"]),
+    Happening::Crash(2),
+];
 
 fn check_performed(performed: &[(Slot, SharedCommand)]) -> Result<(), Fail> {
     check(
@@ -73,7 +80,7 @@ fn note_all(world: &mut World, events: &mut Vec<Event>) -> Result<(), Fail> {
 
 /// The events of the run.
 pub fn events_of(alloc: Global) -> Result<Vec<Event>, Fail> {
-    let mut world = World::new(alloc, config(alloc)?)?;
+    let mut world = new_service(alloc)?;
     let mut events = Vec::new(alloc);
     for happening in RUN {
         note(alloc, &mut world, &mut events, *happening)?;
@@ -94,27 +101,37 @@ fn step(alloc: Global, world: &mut World, happening: Happening) -> Result<(), Fa
     )
 }
 
-#[test]
-fn a_service_takes_the_run_event_by_event(rt: HostRuntime) -> Result<(), Fail> {
-    let alloc = rt.alloc();
-    let mut world = World::new(alloc, config(alloc)?)?;
-    for happening in RUN {
+/// The service behind these.
+fn service_behind(alloc: Global, happenings: &[Happening]) -> Result<World, Fail> {
+    let mut world = new_service(alloc)?;
+    for happening in happenings {
         step(alloc, &mut world, *happening)?;
     }
-    check_whole(&world)?;
-    check_performed(world.performed(node(1)?).ok_or("node 1 is down")?)?;
-    check_performed(world.performed(node(2)?).ok_or("node 2 is down")?)
+    Ok(world)
+}
+
+fn check_node(world: &World, number: u8) -> Result<(), Fail> {
+    check_performed(world.performed(node(number)?).ok_or("the node is down")?)
 }
 
 #[test]
-fn a_service_takes_the_run_in_one_call(rt: HostRuntime) -> Result<(), Fail> {
-    let alloc = rt.alloc();
-    let runs = run(alloc, config(alloc)?, events_of(alloc)?)?;
+fn a_service_takes_the_run_event_by_event(rt: HostRuntime) -> Result<(), Fail> {
+    let world = service_behind(rt.alloc(), RUN)?;
+    check_whole(&world)?;
+    check_node(&world, 1)?;
+    check_node(&world, 2)
+}
+
+fn check_replies(runs: &Runs) -> Result<(), Fail> {
     let (number, told) = runs.replies.get(0).ok_or("nobody was told anything")?;
     check(
         runs.replies.len() == 1 && *number == session() && told.as_slice() == TOLD,
         "the run tells something else",
-    )?;
+    )
+}
+
+/// Nodes 1 and 2 have performed all, and node 3, which is down, nothing.
+fn check_nodes(runs: &Runs) -> Result<(), Fail> {
     check(runs.performed.len() == 3, "another number of nodes")?;
     check_performed(runs.performed.get(0).ok_or("no node 1")?)?;
     check_performed(runs.performed.get(1).ok_or("no node 2")?)?;
@@ -122,19 +139,30 @@ fn a_service_takes_the_run_in_one_call(rt: HostRuntime) -> Result<(), Fail> {
     check(down.is_empty(), "node 3 has performed something")
 }
 
+/// What the events of the run bring in one call.
+fn runs_of(alloc: Global) -> Result<Runs, Fail> {
+    let events = events_of(alloc)?;
+    let config = config(alloc)?;
+    Ok(run(alloc, config, events)?)
+}
+
+#[test]
+fn a_service_takes_the_run_in_one_call(rt: HostRuntime) -> Result<(), Fail> {
+    let runs = runs_of(rt.alloc())?;
+    check_replies(&runs)?;
+    check_nodes(&runs)
+}
+
+fn check_last_ticket(world: &World, user: &str, expected: Option<Ticket>) -> Result<(), Fail> {
+    check(
+        world.last_ticket(node(2)?, name(user)?) == expected,
+        "another last ticket",
+    )
+}
+
 #[test]
 fn a_crash_forgets_no_ticket(rt: HostRuntime) -> Result<(), Fail> {
-    let alloc = rt.alloc();
-    let mut world = World::new(alloc, config(alloc)?)?;
-    step(alloc, &mut world, Happening::Mail(2, "alice", &["one"]))?;
-    step(alloc, &mut world, Happening::Mail(2, "alice", &["two"]))?;
-    step(alloc, &mut world, Happening::Crash(2))?;
-    check(
-        world.last_ticket(node(2)?, alice()?) == Some(node_ticket(2, 2)?),
-        "another ticket",
-    )?;
-    check(
-        world.last_ticket(node(2)?, name("bob")?).is_none(),
-        "a ticket of another user",
-    )
+    let world = service_behind(rt.alloc(), STOPPED)?;
+    check_last_ticket(&world, "alice", Some(node_ticket(2, 2)?))?;
+    check_last_ticket(&world, "bob", None)
 }

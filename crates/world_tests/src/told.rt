@@ -1,6 +1,6 @@
 //! What the session is told.
 
-use crate::plot::{TOLD, session};
+use crate::happenings::{TOLD, session};
 use samples::check;
 use std::alloc::Allocator;
 use std::test::Fail;

@@ -1,6 +1,6 @@
 //! What happens in the run: three nodes, one of which is down, mail for two users at two nodes, and a session that removes
 //! a message.
-ghost use Rattle.std.specs.Prelude.{◌≤◌, IfOk};
+ghost use Rattle.std.specs.Prelude.{◌≡◌, IfOk};
 
 use apop::{Accounts, stamp};
 use ballot::Cluster;
@@ -9,7 +9,7 @@ use pop3_wire::{Line, LineBytes};
 use samples::{name, node, text};
 use std::alloc::{Allocator, Global};
 use std::test::Fail;
-use world::{Config, Event, SessionId};
+use world::{Config, Event, SessionId, World};
 
 /// How many events of the run come by themselves at most, one after another.
 pub const LIMIT: u64 = 1_000;
@@ -71,16 +71,30 @@ pub fn session() -> SessionId {
     SessionId::new(1)
 }
 
+/// The accounts of the two users.
+fn accounts<A: Allocator + Copy>(alloc: A) -> Result<Accounts<A>, Fail> {
+    Ok(Accounts::read(alloc, b"alice pass s3\nbob pass s4\n")?)
+}
+
 /// What the service begins with.
 pub fn config<A: Allocator + Copy>(alloc: A) -> Result<Config<A>, Fail>
-    ensures { IfOk result (λ config. (1 ≤ config.window) × (config.window ≤ 1000)) }
+    ensures { IfOk result (λ config. config.window ≡ 10) }
 {
+    let accounts = accounts(alloc)?;
+    let limits = Limits::new(1_000, 1_000_000, 1_000_000).ok_or("no limits")?;
+    let cluster = Cluster::new(3).ok_or("no cluster")?;
     Ok(Config {
-        accounts: Accounts::read(alloc, b"alice pass s3\nbob pass s4\n")?,
-        limits: Limits::new(1_000, 1_000_000, 1_000_000).ok_or("no limits")?,
-        cluster: Cluster::new(3).ok_or("no cluster")?,
+        accounts,
+        limits,
+        cluster,
         window: 10,
     })
+}
+
+/// The service before the run.
+pub fn new_service(alloc: Global) -> Result<World, Fail> {
+    let config = config(alloc)?;
+    Ok(World::new(alloc, config)?)
 }
 
 /// The event that happens; none where all comes that comes by itself.
