@@ -25,6 +25,7 @@ pub mod RunOrders
 pub mod RunScripts
 pub mod RunFit
 pub mod Replaying
+pub mod DifferentNames
 pub mod Finding
 pub mod Naming
 pub mod Numbering

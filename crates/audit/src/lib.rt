@@ -5,6 +5,7 @@
 mod audit_error;
 mod auditing;
 mod check;
+mod different_names;
 mod envelope;
 mod event;
 mod findings;

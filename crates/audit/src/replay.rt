@@ -6,9 +6,10 @@ ghost use Rattle.node.specs.Replay.{sends_of};
 ghost use Rattle.audit.specs.Replays as spec;
 ghost use Rattle.maildrop.specs.CommandId.{CommandId};
 
+use crate::different_names::are_all_different;
 use crate::outcomes::Outcomes;
 use ballot::{Items, Memory};
-use maildrop::{CommandId, are_different};
+use maildrop::CommandId;
 use node::{Envelopes, Input, Node, NodeLog};
 use std::alloc::{Allocator, Global};
 use std::marker::Model;
@@ -37,7 +38,7 @@ fn begin<A: Allocator + Copy>(alloc: A, log: &NodeLog<A>) -> Result<Option<Node<
     ensures state { IfOk result (λ node. state_shown node false ≡ begun true log.now.opening) }
     ensures runs { IfOk result RunsUnlessStopped }
 {
-    if !are_different(log.opening.names.get()) {
+    if !are_all_different(alloc, log.opening.names.get())? {
         return Ok(None);
     }
     Node::new(

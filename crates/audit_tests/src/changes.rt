@@ -33,6 +33,8 @@ pub enum Change {
     AsOne,
     /// The second session is as if it hadn't begun.
     Blank,
+    /// The first name stands twice in the first log.
+    NameTwice,
 }
 
 fn is_p2a(input: &Input) -> bool {
@@ -130,11 +132,18 @@ fn change_session(transcript: &mut Transcript, change: Change) -> Result<(), Fai
     Ok(())
 }
 
+fn repeat_name(log: &mut NodeLog) -> Result<(), Fail> {
+    let name = *log.opening.names.get().first().ok_or("no name")?;
+    log.opening.names.push(name)?;
+    Ok(())
+}
+
 /// Changes what is left of a run.
 pub fn make_change(run: &mut Run, change: Change) -> Result<(), Fail> {
     match change {
         Change::Nothing => Ok(()),
         Change::WithoutP2a(place) => leave_out_p2a(run.logs.get_mut(place).ok_or("no log")?),
+        Change::NameTwice => repeat_name(run.logs.get_mut(0).ok_or("no log")?),
         Change::Twice => name_twice(run),
         Change::AsOne => as_one(run),
         Change::Blank => {

@@ -73,6 +73,7 @@ fn what_could_not_come_has_no_order(rt: HostRuntime) -> Result<(), Fail> {
     let rows = [
         (SECOND, Change::WithoutP2a(1), Found::NoOrder(1)),
         (ALONE, Change::NoTicket, Found::NoOrder(1)),
+        (ALONE, Change::NameTwice, Found::NoOrder(1)),
     ];
     check_rows(rt.alloc(), rows.as_slice())
 }
