@@ -69,6 +69,12 @@ impl<D: Deployment, R: Wait, L: Link> NodeDesk<D, R, L> {
         self.node.status(&self.rt)
     }
 
+    /// Whether an envelope lies in the inbox of a node of this cluster that runs here, and was not heard yet. Others may
+    /// come at any time.
+    pub fn has_unheard(&self) -> bool {
+        self.hub.has_unheard(&self.rt)
+    }
+
     /// Puts an envelope into the node's inbox. Gives whether it is in there: not where the envelope is to another node,
     /// where the node has stopped, or without memory.
     pub fn arrive(&self, envelope: Envelope<SharedCommand>) -> bool

@@ -52,6 +52,12 @@ impl Hub {
         }
     }
 
+    /// Whether an envelope lies in an inbox that its node has not heard.
+    pub(crate) fn has_unheard<R: Wait>(&self, rt: &R) -> bool {
+        let slits = self.slits.read(rt);
+        slits.iter().any(|slit| !slit.sender.is_empty())
+    }
+
     /// Closes all inboxes: who takes from one finds what is left in it, and then its end. Takes no memory.
     pub(crate) fn close<R: Wait>(&self, rt: &R, alloc: Global) {
         *self.slits.write(rt) = Vec::new(alloc);

@@ -132,9 +132,14 @@ impl Board {
         matches!(*stage, Stage::Ended)
     }
 
+    /// Lets the service stop: who listens finds it at the next connection.
+    pub(crate) fn begin_stop<R: Wait>(&self, rt: &R) {
+        self.stage.lock(rt).stop();
+    }
+
     /// Lets the service stop, and wakes who listens at these ports.
     pub(crate) fn stop<R: Net + Wait + Clock>(&self, rt: &R, ports: &[u16]) {
-        self.stage.lock(rt).stop();
+        self.begin_stop(rt);
         for port in ports {
             wake(rt, *port);
         }

@@ -1,6 +1,7 @@
 //! The threads of a port's connections.
 
 use crate::host::Host;
+use crate::idle::{Idle, Seat};
 use std::alloc::Global;
 use std::net::{Shutdown, TcpStream};
 use std::sync::{Arc, Mutex, Wait};
@@ -12,52 +13,78 @@ const STACK: usize = 262_144;
 /// The places of threads that have ended.
 pub(crate) type Ended = Arc<Mutex<Vec<usize>>>;
 
-/// A connection's thread, and the connection where it is to be cut at the end.
+/// A thread, and its connection where that is to be cut at the end.
 #[derive(Drop)]
 struct Post {
     thread: JoinHandle<()>,
     stream: Option<Arc<TcpStream>>,
 }
 
-/// The threads of a port's connections, at most so many at a time. Each has a place, which it tells as its last act, so
-/// that it is joined and its place is used again.
+/// The threads of a port's connections, at most so many at a time. One that has served its connection waits for another,
+/// or ends. Each has a place, which it tells as its last act, so that it is joined and its place is used again.
 #[derive(Drop)]
 pub(crate) struct Crew {
     posts: Vec<Option<Post>>,
     free: Vec<usize>,
     ended: Ended,
+    idle: Idle,
     most: usize,
 }
 
-/// Serves a connection to its end, and tells the place of its thread.
-fn attend<R: Wait, H: Host>(
-    rt: &R,
-    host: &mut H,
-    stream: Arc<TcpStream>,
-    ended: &Ended,
+/// What a thread serves connections by.
+#[derive(Drop)]
+struct Worker<H: Host> {
+    host: H,
+    seat: Seat,
+    ended: Ended,
     place: usize,
-) {
-    host.serve(&stream);
-    let _closed = stream.shutdown(Shutdown::Both);
-    drop(stream);
-    // There is room: it was made with the place.
-    let _full = ended.lock(rt).push(place);
+}
+
+impl<H: Host> Worker<H> {
+    /// Serves a connection to its end, and closes it.
+    fn serve(&mut self, stream: Arc<TcpStream>) {
+        self.host.serve(&stream);
+        let _closed = stream.shutdown(Shutdown::Both);
+    }
+
+    /// The next connection. One that is to be cut at the end has a thread of its own.
+    fn next<R: Wait>(&self, rt: &R) -> Option<Arc<TcpStream>> {
+        if self.host.is_cut_at_the_end() {
+            return None;
+        }
+        self.seat.next(rt)
+    }
+
+    /// Serves this connection, and those that are handed to it then.
+    fn run<R: Wait>(&mut self, rt: &R, first: Arc<TcpStream>) {
+        let mut next = Some(first);
+        for _ in rt.forever() {
+            let Some(stream) = next.take() else {
+                break;
+            };
+            self.serve(stream);
+            next = self.next(rt);
+        }
+        // There is room: it was made with the place.
+        let _full = self.ended.lock(rt).push(self.place);
+    }
 }
 
 impl Crew {
     /// No threads. Takes no memory.
-    pub(crate) fn new(alloc: Global, ended: Ended, most: usize) -> Self {
+    pub(crate) fn new(alloc: Global, ended: Ended, idle: Idle, most: usize) -> Self {
         Crew {
             posts: Vec::new(alloc),
             free: Vec::new(alloc),
             ended,
+            idle,
             most,
         }
     }
 
-    /// Joins the threads that have ended.
-    pub(crate) fn reap<R: Threads + Wait>(&mut self, rt: &R) {
-        for _ in rt.forever() {
+    /// Joins the threads that have ended, at most so many.
+    pub(crate) fn reap<R: Threads + Wait>(&mut self, rt: &R, most: usize) {
+        for _ in 0..most {
             let Some(place) = self.ended.lock(rt).pop() else {
                 return;
             };
@@ -70,13 +97,14 @@ impl Crew {
     }
 
     /// A place without a thread, if there is one or may be one more.
-    fn place<R: Wait>(&mut self, rt: &R) -> Option<usize> {
+    fn place<R: Threads + Wait>(&mut self, rt: &R) -> Option<usize> {
         if let Some(place) = self.free.pop() {
             return Some(place);
         }
         let count = self.posts.len();
         if count >= self.most {
-            return None;
+            self.reap(rt, count);
+            return self.free.pop();
         }
         let room = count + 1;
         self.posts.reserve(1).ok()?;
@@ -86,7 +114,8 @@ impl Crew {
         Some(count)
     }
 
-    /// Serves a connection on a thread of its own. Where there is none, the connection is closed without a word.
+    /// Has a connection served by a thread that waits for one, or by a new one. Where there is none, the connection is
+    /// closed without a word.
     pub(crate) fn take<R: Threads + Wait + Copy + Send + 'static, H: Host + Send + Drop + 'static>(
         &mut self,
         rt: R,
@@ -94,10 +123,25 @@ impl Crew {
         stream: TcpStream,
         host: &H,
     ) {
+        let Ok(stream) = Arc::new(alloc, stream) else {
+            return;
+        };
+        if let Some(stream) = self.idle.hand(&rt, stream) {
+            self.add(rt, stream, host);
+        }
+    }
+
+    /// Serves a connection on a new thread.
+    fn add<R: Threads + Wait + Copy + Send + 'static, H: Host + Send + Drop + 'static>(
+        &mut self,
+        rt: R,
+        stream: Arc<TcpStream>,
+        host: &H,
+    ) {
         let Some(place) = self.place(&rt) else {
             return;
         };
-        match start(rt, alloc, stream, host, &self.ended, place) {
+        match self.start(rt, stream, host, place) {
             Some(post) => {
                 if let Some(slot) = self.posts.get_mut(place) {
                     *slot = Some(post);
@@ -109,48 +153,61 @@ impl Crew {
         }
     }
 
+    /// Starts the thread of a place. Nothing where no thread or no memory is to be had.
+    fn start<R: Threads + Wait + Copy + Send + 'static, H: Host + Send + Drop + 'static>(
+        &self,
+        rt: R,
+        stream: Arc<TcpStream>,
+        host: &H,
+        place: usize,
+    ) -> Option<Post> {
+        let mut worker = Worker {
+            host: host.share().ok()?,
+            seat: self.idle.seat().ok()?,
+            ended: Arc::try_clone(&self.ended).ok()?,
+            place,
+        };
+        let kept = if host.is_cut_at_the_end() {
+            Some(Arc::try_clone(&stream).ok()?)
+        } else {
+            None
+        };
+        let thread = Builder::new()
+            .stack_size(STACK)
+            .spawn(&rt, move || worker.run(&rt, stream))
+            .ok()?;
+        Some(Post {
+            thread,
+            stream: kept,
+        })
+    }
+
     /// Joins all threads. Connections that are to be cut hear nothing more.
     pub(crate) fn end<R: Threads>(self, rt: &R) {
         let Crew {
             posts,
             free: _,
             ended: _,
+            idle,
             most: _,
         } = self;
+        drop(idle);
+        cut(&posts);
         for post in posts {
             if let Some(post) = post {
-                if let Some(stream) = &post.stream {
-                    let _closed = stream.shutdown(Shutdown::Read);
-                }
                 post.thread.join(rt);
             }
         }
     }
 }
 
-/// Starts the thread of a connection. Nothing where no thread or no memory is to be had.
-fn start<R: Threads + Wait + Copy + Send + 'static, H: Host + Send + Drop + 'static>(
-    rt: R,
-    alloc: Global,
-    stream: TcpStream,
-    host: &H,
-    ended: &Ended,
-    place: usize,
-) -> Option<Post> {
-    let mut host = host.share().ok()?;
-    let stream = Arc::new(alloc, stream).ok()?;
-    let kept = if host.is_cut_at_the_end() {
-        Some(Arc::try_clone(&stream).ok()?)
-    } else {
-        None
-    };
-    let ended = Arc::try_clone(ended).ok()?;
-    let thread = Builder::new()
-        .stack_size(STACK)
-        .spawn(&rt, move || attend(&rt, &mut host, stream, &ended, place))
-        .ok()?;
-    Some(Post {
-        thread,
-        stream: kept,
-    })
+/// Lets the connections that are to be cut hear nothing more.
+fn cut(posts: &[Option<Post>]) {
+    for post in posts {
+        if let Some(post) = post {
+            if let Some(stream) = &post.stream {
+                let _closed = stream.shutdown(Shutdown::Read);
+            }
+        }
+    }
 }

@@ -1,6 +1,7 @@
 //! The service `maildropd serve`, and the operator's `maildropd ctl`.
 #![tactic(auto)]
 
+mod arrivals;
 mod board;
 mod channel;
 mod crew;
@@ -8,6 +9,7 @@ mod ctl;
 mod delivery;
 mod fault;
 mod host;
+mod idle;
 mod listener;
 mod node_desk;
 mod operator;

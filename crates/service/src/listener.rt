@@ -1,9 +1,11 @@
 //! Takes the connections of a port.
 
+use crate::arrivals::Arrivals;
 use crate::board::Board;
 use crate::crew::{Crew, Ended};
 use crate::fault::Fault;
 use crate::host::Host;
+use crate::idle::Idle;
 use crate::system::{System, local};
 use std::alloc::Global;
 use std::net::TcpListener;
@@ -15,6 +17,10 @@ use std::time::Duration;
 /// How many milliseconds are waited before a connection is taken again, where none could be: the system has no
 /// descriptor, say.
 const PAUSE_MS: u64 = 10;
+
+/// How many threads that have ended are joined while connections wait: more than one end for each that starts, and so few
+/// that the next connection doesn't wait for them.
+const REAPED: usize = 16;
 
 /// A port at which connections are taken, at most so many at a time.
 #[derive(Drop)]
@@ -41,7 +47,11 @@ impl Port {
         board: Arc<Board>,
     ) -> Result<JoinHandle<()>, Fault> {
         let ended = Arc::new(alloc, Mutex::new(Vec::new(alloc)))?;
-        match thread::spawn(&rt, move || take_all(rt, alloc, self, &host, &board, ended)) {
+        let idle = Idle::new(alloc)?;
+        match thread::spawn(
+            &rt,
+            move || take_all(rt, alloc, self, &host, &board, ended, idle),
+        ) {
             Ok(thread) => Ok(thread),
             Err(_) => Err(Fault::Memory),
         }
@@ -56,19 +66,27 @@ fn take_all<R: System, H: Host + Send + Drop + 'static>(
     host: &H,
     board: &Board,
     ended: Ended,
+    idle: Idle,
 ) {
-    let mut crew = Crew::new(alloc, ended, port.most);
+    let Port { listener, most } = port;
+    let mut arrivals = Arrivals::new(alloc, listener);
+    let mut crew = Crew::new(alloc, ended, idle, most);
     for _ in rt.forever() {
-        let taken = port.listener.accept();
+        let next = arrivals.next();
         if board.is_stopping(&rt) {
             break;
         }
-        crew.reap(&rt);
-        match taken {
-            Ok((stream, _)) => crew.take(rt, alloc, stream, host),
+        match next {
+            Ok(stream) => crew.take(rt, alloc, stream, host),
             Err(_) => thread::sleep(&rt, Duration::from_millis(PAUSE_MS)),
         }
+        let most = if arrivals.are_waiting() {
+            REAPED
+        } else {
+            usize::MAX
+        };
+        crew.reap(&rt, most);
     }
-    drop(port);
+    drop(arrivals);
     crew.end(&rt);
 }

@@ -26,6 +26,10 @@ impl<D: Deployment, R: Wait + Copy, L: Link> ServedNode for NodeDesk<D, R, L> {
         self.campaign();
     }
 
+    fn has_unheard(&self) -> bool {
+        self.has_unheard()
+    }
+
     fn status(&self) -> Option<Status> {
         self.status()
     }

@@ -17,10 +17,14 @@ use std::alloc::Global;
 use std::io::{BufReader, Read, Write};
 use std::net::{Net, TcpStream};
 use std::sync::{Arc, Wait};
-use std::time::Clock;
+use std::time::{Clock, Duration};
 
 /// How many bytes of a mailbox file are read at a time.
 const PIECE: usize = 4096;
+
+/// How long an answer may wait for an operator who doesn't read it. Then the connection is closed, so that it holds up no
+/// end of the service.
+const LONGEST_WRITE_SECONDS: u64 = 60;
 
 /// Answers operators: one request a connection.
 #[derive(Drop)]
@@ -157,10 +161,10 @@ impl<R: Net + Wait + Clock + Copy, N: ServedNode + Desk<Op, Outcome> + Drop> Ope
         }
     }
 
-    /// Tells that the service stops, and stops it.
+    /// Stops the service, and tells so. Who listens is woken last, as that may have to wait for descriptors.
     fn stop<W: Write>(&self, writer: &mut W) -> Result<(), Fault> {
-        let said = say(writer, b"stopping\n");
-        let _unheard = writer.flush();
+        self.board.begin_stop(&self.rt);
+        let said = say_now(writer, b"stopping\n");
         self.board.stop(&self.rt, &self.ports);
         said
     }
@@ -211,6 +215,7 @@ impl<R: Net + Wait + Clock + Copy, N: ServedNode + Desk<Op, Outcome> + Drop> Ope
 impl<R: Net + Wait + Clock + Copy, N: ServedNode + Desk<Op, Outcome> + Drop> Host
     for OperatorHost<R, N> {
     fn serve(&mut self, stream: &TcpStream) {
+        let _waits = stream.set_write_timeout(Some(Duration::from_secs(LONGEST_WRITE_SECONDS)));
         let channel = Channel::new(self.alloc, stream);
         let _closed = self.respond(&channel);
     }

@@ -22,6 +22,9 @@ pub trait ServedNode {
     /// The node asks to lead.
     fn campaign(&self);
 
+    /// Whether something that was sent to a node of the service was not heard yet.
+    fn has_unheard(&self) -> bool;
+
     /// How the node stands, or nothing once its cluster has ended.
     fn status(&self) -> Option<Status>;
 }

@@ -19,8 +19,8 @@ use std::time::Duration;
 /// The most POP3 connections at a node at a time.
 const MOST_SESSIONS: usize = 4_096;
 
-/// The most connections of operators at a time.
-const MOST_OPERATORS: usize = 64;
+/// The most connections of operators at a time. One that waits for its node keeps its place also when its client has gone.
+const MOST_OPERATORS: usize = 1_024;
 
 /// The ports of a service: those of its nodes, in their order, and the operator's.
 #[derive(Drop)]
@@ -56,6 +56,7 @@ impl Ports {
 pub(crate) struct ServiceThreads {
     /// Those that take the connections of POP3 clients. Each ends once the sessions at its port have ended.
     pub(crate) sessions: Vec<JoinHandle<()>>,
+    /// The one that tells the nodes that time has passed. It ends once the sessions have ended.
     pub(crate) tickers: Vec<JoinHandle<()>>,
     /// The one that takes the connections of operators. It ends once these have ended.
     pub(crate) operators: Vec<JoinHandle<()>>,
@@ -97,11 +98,11 @@ fn start_sessions<R: System, N: ServedNode + Desk<Op, Outcome> + Send + Sync + D
     tick: Duration,
     threads: &mut ServiceThreads,
 ) -> Result<(), Fault> {
+    threads.tickers.reserve(1)?;
+    let ticker = ticker::start(rt, alloc, nodes, Arc::try_clone(board)?, tick)?;
+    threads.tickers.push_reserved(ticker);
     for (node, port) in nodes.iter().zip(ports) {
-        threads.tickers.reserve(1)?;
         threads.sessions.reserve(1)?;
-        let ticker = ticker::start(rt, node.share()?, Arc::try_clone(board)?, tick)?;
-        threads.tickers.push_reserved(ticker);
         let host = PopHost {
             rt,
             alloc,

@@ -1,46 +1,111 @@
-//! The time of a node.
+//! The time of the nodes.
 
 use crate::board::Board;
 use crate::fault::Fault;
 use crate::served_node::ServedNode;
 use cluster::Patience;
+use std::alloc::Global;
 use std::sync::{Arc, Wait};
 use std::thread;
 use std::thread::{JoinHandle, Threads};
 use std::time::{Clock, Duration};
 
-/// Tells a node on a thread of its own that time has passed, again and again, until the node stops or the
-/// sessions have ended.
+/// How often in a row a tick is put off at most.
+const MOST_PUT_OFF: u32 = 50;
+
+/// A node, and how long it has waited in vain.
+#[derive(Drop)]
+struct Watched<N: ServedNode> {
+    node: N,
+    patience: Patience,
+}
+
+impl<N: ServedNode> Watched<N> {
+    /// Time has passed for the node. Where it has waited in vain for long enough, it asks to lead.
+    fn tick(&mut self) {
+        self.node.tick();
+        if let Some(status) = self.node.status() {
+            if status.up && self.patience.tick(status) {
+                self.node.campaign();
+            }
+        }
+    }
+}
+
+/// Tells the nodes on a thread of its own that time has passed, again and again, until the sessions have ended.
 pub(crate) fn start<
     R: Threads + Wait + Clock + Copy + Send + 'static,
     N: ServedNode + Send + Drop + 'static,
->(rt: R, node: N, board: Arc<Board>, every: Duration) -> Result<JoinHandle<()>, Fault> {
-    match thread::spawn(&rt, move || tick_all(&rt, &node, &board, every)) {
+>(
+    rt: R,
+    alloc: Global,
+    nodes: &[N],
+    board: Arc<Board>,
+    every: Duration,
+) -> Result<JoinHandle<()>, Fault> {
+    let mut watched = Vec::new(alloc);
+    for node in nodes {
+        let patience = Patience::new(node.me());
+        let node = node.share()?;
+        watched.push(Watched { node, patience })?;
+    }
+    match thread::spawn(&rt, move || run(&rt, watched, &board, every)) {
         Ok(thread) => Ok(thread),
         Err(_) => Err(Fault::Memory),
     }
 }
 
-fn tick_all<R: Wait + Clock, N: ServedNode>(rt: &R, node: &N, board: &Board, every: Duration) {
-    let mut patience = Patience::new(node.me());
+/// A tick has the nodes send again whatever awaits an answer, and behind a change of the leader that is all that was ever
+/// decided. So it is put off while something that was sent waits to be heard: the answer may lie there, and a node that
+/// has much to hear doesn't wait in vain. Nodes at rest need no time, and their logs don't grow by it.
+fn run<R: Wait + Clock, N: ServedNode + Drop>(
+    rt: &R,
+    mut nodes: Vec<Watched<N>>,
+    board: &Board,
+    every: Duration,
+) {
+    let mut put_off = 0;
     for _ in rt.forever() {
-        if board.pauses(rt, every) || !tick(node, &mut patience) {
+        if board.pauses(rt, every) {
             return;
+        }
+        // Whoever makes a long step has its lock, for which this waits.
+        let are_at_rest = are_at_rest(&nodes);
+        if put_off < MOST_PUT_OFF && has_unheard(&nodes) {
+            put_off += 1;
+            continue;
+        }
+        put_off = 0;
+        if !are_at_rest {
+            tick_all(&mut nodes);
         }
     }
 }
 
-/// Tells a node that time has passed, and that it is to ask to lead where it has waited in vain for long enough. Gives
-/// whether the node is up.
-fn tick<N: ServedNode>(node: &N, patience: &mut Patience) -> bool {
-    node.tick();
-    match node.status() {
-        Some(status) if status.up => {
-            if patience.tick(status) {
-                node.campaign();
+/// Whether something that was sent to a node waits to be heard.
+fn has_unheard<N: ServedNode>(nodes: &[Watched<N>]) -> bool {
+    nodes.iter().any(|watched| watched.node.has_unheard())
+}
+
+/// Whether nobody waits for a node, and all that are up have come equally far. Looks at each node.
+fn are_at_rest<N: ServedNode>(nodes: &[Watched<N>]) -> bool {
+    let mut front = None;
+    let mut are_at_rest = true;
+    for watched in nodes {
+        match watched.node.status() {
+            Some(status) if status.up => {
+                let is_apart = front.is_some_and(|slot| slot != status.slot_out);
+                are_at_rest = are_at_rest && !status.waiting && !is_apart;
+                front = Some(status.slot_out);
             }
-            true
+            _ => {}
         }
-        _ => false,
+    }
+    are_at_rest
+}
+
+fn tick_all<N: ServedNode>(nodes: &mut [Watched<N>]) {
+    for watched in nodes.iter_mut() {
+        watched.tick();
     }
 }
