@@ -3,6 +3,7 @@ ghost use Rattle.std.specs.Prelude.{◌≡◌, ◌⊎◌, ◌++◌, ◌∷◌, �
 ghost use Rattle.std.specs.Ordering.{is_eq};
 ghost use Rattle.maildrop.specs.CommandId.{CommandId, compare_ids};
 ghost use Rattle.node.specs.Replay.{sends_of, ticket_of};
+ghost use Rattle.node.specs.declared.input.Input.TheVariants.{Crash};
 ghost use Rattle.node.specs.Nodes.{logged, stops_after, answer_of, answer_after, answered, IsKnown};
 ghost use Rattle.cluster.specs.Members.{member_of, is_told, IsLogOf, IsAnswered, IsStatusOf, status_of};
 
@@ -81,6 +82,8 @@ impl<D: Deployment> Member<D> {
     pub(crate) fn crash(&mut self) -> bool
         ensures up { result ≡ is_none self.old.stopped }
         ensures down { IsSome self.new.stopped }
+        ensures log { (self.new.log ≡ logged self.old.log Crash) ⊎ (self.new.log ≡ self.old.log) }
+        ensures told { self.new.told ≡ self.old.told }
         ensures opening { self.new.log.opening ≡ self.old.log.opening }
     {
         let was_up = self.is_up();
