@@ -4,7 +4,7 @@ ghost use Rattle.maildrop.specs.Name.{are_different};
 
 use crate::audits::{Remains, all_of, check_legal};
 use crate::clients::{new_accounts, new_client, new_page};
-use crate::services::{TURNS, alone, node, setup_of, wait_a_turn};
+use crate::services::{alone, end_watch, node, setup_of, start_watch, wait_a_turn};
 use cluster::{Cluster, Deployment, InboxLink, NodeDesk, Setup};
 use samples::check;
 use session::{End, OpenGate, Transcript};
@@ -23,11 +23,13 @@ type Nodes<D, R> = Cluster<D, R, InboxLink<R>>;
 
 type DeskOf<D, R> = NodeDesk<D, R, InboxLink<R>>;
 
-/// Ticks the node until it awaits an answer, and then crashes it, twice. Gives whether the first time alone it was up.
+/// Ticks the node until it awaits an answer, and then crashes it, twice. Gives whether the first time alone it was up:
+/// where the test took too long, a watcher has crashed it before.
 fn crash_once_waiting<D: Deployment, R: Wait + Clock>(rt: &R, desk: &DeskOf<D, R>) -> bool {
-    for _ in 0..TURNS {
+    for _ in rt.forever() {
         desk.tick();
-        if desk.status().is_some_and(|status| status.waiting) {
+        let status = desk.status();
+        if !status.is_some_and(|status| status.up && !status.waiting) {
             break;
         }
         wait_a_turn(rt);
@@ -36,15 +38,11 @@ fn crash_once_waiting<D: Deployment, R: Wait + Clock>(rt: &R, desk: &DeskOf<D, R
     was_up && !desk.crash()
 }
 
-/// Serves a client at a node that never leads, and crashes that node. What is left is legal.
-fn waits_in_vain<
+/// Serves a client at a node that never leads, and crashes that node. Gives the session's transcript.
+fn served<
     D: Deployment + Send + Sync + 'static,
     R: Threads + Wait + Clock + Copy + Send + Sync + 'static,
->(rt: R, alloc: Global, setup: &Setup) -> Result<(), Fail>
-    requires deployment { setup.now ≡ D.setup }
-    requires names { IsTrue (are_different setup.now.names) }
-{
-    let cluster = Nodes::<D, R>::start(rt, alloc, setup)?;
+>(rt: R, alloc: Global, cluster: &Nodes<D, R>) -> Result<Vec<Transcript>, Fail> {
     let accounts = new_accounts(alloc)?;
     let page = new_page(alloc)?;
     let job = new_client(rt, node(1)?, LINES, &page, OpenGate)?;
@@ -53,8 +51,23 @@ fn waits_in_vain<
     let operator = thread::spawn(&rt, move || crash_once_waiting(&rt, &desk))?;
     let transcripts = cluster.sessions(jobs, &accounts);
     check(operator.join(&rt), "the node was down, or is up")?;
+    all_of(alloc, transcripts?)
+}
+
+/// A cluster that is watched, whose session waits. What is left of it is legal.
+fn waits_in_vain<
+    D: Deployment + Send + Sync + 'static,
+    R: Threads + Wait + Clock + Copy + Send + Sync + 'static,
+>(rt: R, alloc: Global, setup: &Setup) -> Result<(), Fail>
+    requires deployment { setup.now ≡ D.setup }
+    requires names { IsTrue (are_different setup.now.names) }
+{
+    let cluster = Nodes::<D, R>::start(rt, alloc, setup)?;
+    let watch = start_watch(rt, alloc, &cluster)?;
+    let outcome = served(rt, alloc, &cluster);
+    end_watch(&rt, watch);
     let remains = Remains {
-        transcripts: all_of(alloc, transcripts?)?,
+        transcripts: outcome?,
         logs: cluster.stop(),
     };
     check_unanswered(remains.transcripts.first().ok_or("no answer")?)?;

@@ -1,17 +1,21 @@
-//! Clusters that have ended.
+//! Clusters that have ended, a node that has, and one that isn't there.
 ghost use Rattle.std.specs.Prelude.{◌≡◌, IsTrue};
 ghost use Rattle.maildrop.specs.Name.{are_different};
 
+use crate::clients::{new_accounts, new_client, new_page};
 use crate::services::{node, setup_of};
 use cluster::{Cluster, Deployment, InboxLink, Link, NodeDesk, Setup};
 use maildrop::Op;
 use samples::{alice, check};
-use session::Desk;
+use session::{Desk, OpenGate, Transcript};
 use std::alloc::Global;
 use std::marker::Brand;
 use std::sync::Wait;
 use std::test::Fail;
 use std::thread::Threads;
+
+/// A client that asks the desk for nothing, so that no node need lead.
+const LINES: &[u8] = b"QUIT\r\n";
 
 type Nodes<D, R> = Cluster<D, R, InboxLink<R>>;
 
@@ -23,6 +27,51 @@ fn check_stopped<D: Deployment, R: Wait, L: Link>(
     let told = desk.tell(alice()?, Op::Break);
     check(asked.is_err() && told.is_err(), "it gives something")?;
     check(!desk.crash() && desk.status().is_none(), "it is up")
+}
+
+/// The third node crashes once, and is down then.
+fn check_crash<
+    D: Deployment + Send + Sync + 'static,
+    R: Threads + Wait + Copy + Send + Sync + 'static,
+>(cluster: &Nodes<D, R>) -> Result<(), Fail> {
+    let third = node(3)?;
+    let was_up = cluster.crash(third);
+    check(was_up && !cluster.crash(third), "it was down, or is up")?;
+    let is_down = cluster.status(third).is_some_and(|status| !status.up);
+    check(is_down, "it stands as if it were up")
+}
+
+/// There is no fourth node: it has no desk, and nothing that could crash or be looked at.
+fn check_fourth<
+    D: Deployment + Send + Sync + 'static,
+    R: Threads + Wait + Copy + Send + Sync + 'static,
+>(cluster: &Nodes<D, R>) -> Result<(), Fail> {
+    let fourth = node(4)?;
+    check(cluster.desk(fourth)?.is_none(), "a node too many")?;
+    let was_up = cluster.crash(fourth);
+    check(!was_up && cluster.status(fourth).is_none(), "it is here")
+}
+
+/// Serves a client at a node that isn't there, and one at the second.
+fn served<D: Deployment + Send + Sync + 'static, R: Threads + Wait + Copy + Send + Sync + 'static>(
+    rt: R,
+    alloc: Global,
+    cluster: &Nodes<D, R>,
+) -> Result<Vec<Option<Transcript>>, Fail> {
+    let accounts = new_accounts(alloc)?;
+    let page = new_page(alloc)?;
+    let mut jobs = Vec::new(alloc);
+    jobs.push(new_client(rt, node(4)?, LINES, &page, OpenGate)?)?;
+    jobs.push(new_client(rt, node(2)?, LINES, &page, OpenGate)?)?;
+    Ok(cluster.sessions(jobs, &accounts)?)
+}
+
+/// The second of two sessions alone was served.
+fn check_second(transcripts: &[Option<Transcript>]) -> Result<(), Fail> {
+    let [first, second] = transcripts else {
+        return Err("another number of sessions".into());
+    };
+    check(first.is_none() && second.is_some(), "another one is served")
 }
 
 fn ends<D: Deployment + Send + Sync + 'static, R: Threads + Wait + Copy + Send + Sync + 'static>(
@@ -44,12 +93,15 @@ fn ends<D: Deployment + Send + Sync + 'static, R: Threads + Wait + Copy + Send +
     check_stopped(&mut desk)?;
     let cluster = Nodes::<D, R>::start(rt, alloc, setup)?;
     let mut desk = cluster.desk(node(2)?)?.ok_or("no desk")?;
-    check(cluster.desk(node(4)?)?.is_none(), "a node too many")?;
+    check_second(&served(rt, alloc, &cluster)?)?;
+    check_fourth(&cluster)?;
+    check_crash(&cluster)?;
     drop(cluster);
     check_stopped(&mut desk)
 }
 
-/// Once a cluster has stopped, or is let go, its desks answer that they have stopped.
+/// Once a cluster has stopped, or is let go, its desks answer that they have stopped. While it runs, one of its nodes
+/// crashes once, and one that isn't there neither crashes nor serves a session.
 #[test]
 fn a_desk_outlives_its_cluster(rt: HostRuntime) -> Result<(), Fail> {
     let setup = setup_of(rt.alloc(), 3)?;

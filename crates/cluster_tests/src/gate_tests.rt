@@ -22,6 +22,20 @@ const ALICE: &[u8] = b"USER alice\r\nPASS s3\r\nRETR 1\r\nQUIT\r\n";
 /// What bob's client sends. Its QUIT waits for the reply to alice's RETR.
 const BOB: &[u8] = b"USER bob\r\nPASS s4\r\nSTAT\r\nQUIT\r\n";
 
+/// What alice's client is to get.
+const TO_ALICE: &str = "+OK POP3 server ready <n.1@mail.test>\r\n\
++OK send PASS\r\n\
++OK maildrop has 1 messages (4 octets)\r\n\
++OK 4 octets\r\nhi\r\n.\r\n\
++OK signing off\r\n";
+
+/// What bob's client is to get.
+const TO_BOB: &str = "+OK POP3 server ready <n.1@mail.test>\r\n\
++OK send PASS\r\n\
++OK maildrop has 0 messages (0 octets)\r\n\
++OK 0 0\r\n\
++OK signing off\r\n";
+
 type Nodes<D, R> = Cluster<D, R, InboxLink<R>>;
 
 /// Serves both clients, alice's at node 1 and bob's at node 3, each with a page of its own.
@@ -70,6 +84,18 @@ fn served<
     all_of(alloc, cluster.sessions(jobs, &accounts)?)
 }
 
+/// Each client has got what it is to get.
+fn check_pages<R: Wait>(rt: &R, pages: &[Page; 2]) -> Result<(), Fail> {
+    check(
+        pages[0].lock(rt).as_slice() == TO_ALICE.as_bytes(),
+        "alice gets other replies",
+    )?;
+    check(
+        pages[1].lock(rt).as_slice() == TO_BOB.as_bytes(),
+        "bob gets other replies",
+    )
+}
+
 fn mailed_and_served<
     D: Deployment + Send + Sync + 'static,
     R: Threads + Wait + Clock + Copy + Send + Sync + 'static,
@@ -83,6 +109,7 @@ fn mailed_and_served<
         check(transcript.end == End::Closed, "a session ends otherwise")?;
     }
     check(!*gave_up.lock(&rt), "a session waits for the other in vain")?;
+    check_pages(&rt, pages)?;
     Ok(transcripts)
 }
 

@@ -3,7 +3,7 @@ ghost use Rattle.std.specs.Prelude.{◌≡◌, IsTrue};
 ghost use Rattle.maildrop.specs.Name.{are_different};
 
 use crate::services::{
-    Flag, TURNS, alone, deliver, end_watch, new_flag, node, setup_of, start_watch, wait_for,
+    Flag, alone, deliver, end_watch, new_flag, node, setup_of, start_watch, wait_for,
 };
 use ballot::{Envelope, Message};
 use cluster::{Cluster, Deployment, Link, NodeDesk, Setup};
@@ -59,14 +59,14 @@ impl<R: Wait + Clock> Link for Posted<R> {
     }
 }
 
-/// Looks at the node that sends, which takes its lock, and then hands the envelope on to it.
+/// Looks at the node that sends, which takes its lock, and then hands the envelope on to it, until the test is done.
 fn carry<D: Deployment, R: Wait + Clock>(
     rt: &R,
     desk: &NodeDesk<D, R, Posted<R>>,
     parcels: &Receiver<Parcel>,
     done: &Flag,
 ) {
-    for _ in 0..TURNS {
+    for _ in rt.forever() {
         if *done.lock(rt) {
             return;
         }
@@ -162,7 +162,8 @@ fn answers_at_once<
     let cluster = Cluster::<D, R, Meeting<R>>::start_over(rt, alloc, setup, links)?;
     cluster.campaign(node(1)?);
     for _ in 0..2 {
-        let envelope = envelopes.recv_timeout(&rt, Duration::from_secs(10))?;
+        // What a campaign sends is sent before it returns, so nothing is waited for.
+        let envelope = envelopes.try_recv(&rt)?;
         check(cluster.arrive(envelope), "an envelope is lost")?;
     }
     let logs = cluster.stop();

@@ -14,8 +14,8 @@ use std::thread;
 use std::thread::{JoinHandle, Threads};
 use std::time::{Clock, Duration};
 
-/// How many turns of a millisecond a test waits at most.
-pub const TURNS: u32 = 10_000;
+/// How many turns of a millisecond are waited for a flag at most.
+const TURNS: u32 = 10_000;
 
 /// A flag that threads share.
 pub type Flag = Arc<Mutex<bool>>;

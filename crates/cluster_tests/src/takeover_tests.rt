@@ -6,8 +6,7 @@ use crate::audits::{Remains, all_of};
 use crate::clients::{At, Page, Turns, new_accounts, new_client, new_page};
 use crate::orders::check_order;
 use crate::services::{
-    Flag, TURNS, alone, deliver, end_watch, new_flag, node, setup_of, start_watch, wait_a_turn,
-    wait_for,
+    Flag, alone, deliver, end_watch, new_flag, node, setup_of, start_watch, wait_a_turn,
 };
 use cluster::{Cluster, Deployment, InboxLink, NodeDesk, Patience, Setup};
 use samples::check;
@@ -86,7 +85,7 @@ impl Course {
 /// Ticks a node until the session is over. It asks to lead when it has waited in vain for long enough.
 fn tick_on<D: Deployment, R: Wait + Clock>(rt: &R, desk: &DeskOf<D, R>, course: &Course) {
     let mut patience = Patience::new(desk.me());
-    for _ in 0..TURNS {
+    for _ in rt.forever() {
         if *course.done.lock(rt) {
             return;
         }
@@ -98,6 +97,25 @@ fn tick_on<D: Deployment, R: Wait + Clock>(rt: &R, desk: &DeskOf<D, R>, course: 
     }
 }
 
+/// Waits until the client is logged in, or the leader has stopped: where that takes too long, a watcher crashes it.
+/// Gives whether the client is logged in.
+fn wait_for_login<D: Deployment, R: Wait + Clock>(
+    rt: &R,
+    leader: &DeskOf<D, R>,
+    logged_in: &Flag,
+) -> bool {
+    for _ in rt.forever() {
+        if *logged_in.lock(rt) {
+            return true;
+        }
+        if !leader.status().is_some_and(|status| status.up) {
+            return false;
+        }
+        wait_a_turn(rt);
+    }
+    unreachable!()
+}
+
 /// Crashes the leader once the client is logged in. Gives whether that came, and the leader was up.
 fn crash_leader<D: Deployment, R: Wait + Clock>(
     rt: &R,
@@ -105,7 +123,7 @@ fn crash_leader<D: Deployment, R: Wait + Clock>(
     other: &DeskOf<D, R>,
     course: &Course,
 ) -> bool {
-    let is_logged_in = wait_for(rt, &course.logged_in);
+    let is_logged_in = wait_for_login(rt, leader, &course.logged_in);
     let was_up = leader.crash();
     *course.crashed.lock(rt) = true;
     tick_on(rt, other, course);

@@ -100,6 +100,11 @@ fn taken(node: &Node<Heap>) -> usize {
     node.log().inputs.len()
 }
 
+/// Checks that a node has taken so many inputs.
+fn check_log(node: &Node<Heap>, logged: usize) -> Result<(), Fail> {
+    check(taken(node) == logged, "its log is another")
+}
+
 /// Checks that a node takes no input any more, for want of memory.
 fn check_refuses<'h>(node: &mut Node<Heap<'h>>) -> Result<(), Fail> {
     let again = node.step(Input::Tick);
@@ -117,20 +122,27 @@ fn check_holds_none<'h>(node: &mut Node<Heap<'h>>) -> Result<(), Fail> {
 fn check_stopped<'h>(node: &mut Node<Heap<'h>>, logged: usize) -> Result<(), Fail> {
     check(node.stopped() == Some(Stopped::Memory), "it runs")?;
     check_refuses(node)?;
-    check(taken(node) == logged, "its log is another")?;
+    check_log(node, logged)?;
     check_holds_none(node)
 }
 
-/// Checks what an input brings, where no memory was refused.
-fn check_taken(heap: Heap, outputs: &Outputs<Heap>, expected: Expected) -> Result<(), Fail> {
+/// Checks what an input brings, where no memory was refused, and that the log is longer by one.
+fn check_taken(
+    heap: Heap,
+    node: &Node<Heap>,
+    logged: usize,
+    outputs: &Outputs<Heap>,
+    expected: Expected,
+) -> Result<(), Fail> {
     check(!heap.has_refused(), "memory was refused, and it steps")?;
+    check_log(node, logged.saturating_add(1))?;
     match expected {
         Ok(expected) => check(in_short(outputs) == expected, "other messages"),
         Err(_) => check(false, "it steps"),
     }
 }
 
-/// Checks why an input isn't taken.
+/// Checks why an input isn't taken, and that the log is as it was.
 fn check_refused<'h>(
     heap: Heap<'h>,
     node: &mut Node<Heap<'h>>,
@@ -144,7 +156,10 @@ fn check_refused<'h>(
             check(stopped == Stopped::Memory, "another stop")?;
             check_stopped(node, logged)
         }
-        Err(expected) => check(stopped == expected, "another stop"),
+        Err(expected) => {
+            check(stopped == expected, "another stop")?;
+            check_log(node, logged)
+        }
     }
 }
 
@@ -161,7 +176,7 @@ fn check_step<'h>(
     let answer = node.step(input);
     heap.grant_all();
     match &answer {
-        Ok(outputs) => check_taken(heap, outputs, row.1),
+        Ok(outputs) => check_taken(heap, node, logged, outputs, row.1),
         Err(stopped) => check_refused(heap, node, logged, *stopped, row.1),
     }
 }

@@ -7,7 +7,8 @@ use std::test::*;
 
 const REQUESTS: Scene = Scene {
     accounts: "alice pass s3\n",
-    mailbox: "From x\n",
+    // No mailbox file: it has no From line.
+    mailbox: "hello\n",
     rows: &[
         Asks("", "bad request\n"),
         Asks("\n", "bad request\n"),
@@ -37,6 +38,9 @@ const REQUESTS: Scene = Scene {
         Asks("break 1 -x\n", "no such user\n"),
         Asks("break 4 alice\n", "down\n"),
         Asks("break 9 zoe\n", "down\n"),
+        Ctl("break 1 zoe", 0, "no such user\n"),
+        // The file is read before its user is looked for, who isn't there either.
+        Ctl("deliver 1 bob FILE", 3, "bad mbox\n"),
         Operator,
         // A line of 513 octets.
         Says(
