@@ -66,7 +66,7 @@ fn nodes<'a>(alloc: Global, serve: Command<'a>) -> Result<Command<'a>, Error> {
         alloc,
         "tick-ms",
         "MILLISECONDS",
-        "How much time lies between two ticks of a node, which sends again what is lost: 1 to 1000000",
+        "How much time lies at least between two ticks of a node, which sends again what is lost: 1 to 1000000",
     );
     let serve = serve
         .arg(nodes.default_value("3"))?

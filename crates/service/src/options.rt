@@ -11,7 +11,7 @@ use std::alloc::Global;
 /// The widest window.
 const WIDEST_WINDOW: u64 = 1_000;
 
-/// The most milliseconds between two ticks.
+/// The highest number of milliseconds that may be asked for between two ticks.
 const LONGEST_TICK_MS: u64 = 1_000_000;
 
 /// The most nodes.
@@ -44,7 +44,7 @@ pub struct ServeOptions<'a> {
     pub ids: u64,
     /// What stands behind the `@` of the greetings' timestamps.
     pub host: &'a [u8],
-    /// How many milliseconds lie between two ticks of a node: 1 to 1,000,000.
+    /// How many milliseconds lie between two ticks of a node at least: 1 to 1,000,000.
     pub tick_ms: u64,
 }
 
@@ -63,7 +63,7 @@ pub(crate) struct Settings {
     pub pop_port: u16,
     /// The port that takes the operator's requests.
     pub ctl_port: u16,
-    /// How many milliseconds lie between two ticks of a node: 1 to 1,000,000.
+    /// How many milliseconds lie between two ticks of a node at least: 1 to 1,000,000.
     pub tick_ms: u64,
 }
 

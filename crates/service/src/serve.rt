@@ -132,12 +132,12 @@ fn end_of<D: Deployment + Send + Sync + 'static, R: System>(
 {
     let ServiceThreads {
         sessions,
-        tickers,
+        ticker,
         operators,
     } = threads;
     join_all(rt, sessions);
     board.end(rt);
-    join_all(rt, tickers);
+    join_all(rt, ticker);
     let logs = cluster.stop();
     join_all(rt, operators);
     logs

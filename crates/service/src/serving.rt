@@ -56,9 +56,9 @@ impl Ports {
 pub(crate) struct ServiceThreads {
     /// Those that take the connections of POP3 clients. Each ends once the sessions at its port have ended.
     pub(crate) sessions: Vec<JoinHandle<()>>,
-    /// The one that tells the nodes that time has passed. It ends once the sessions have ended.
-    pub(crate) tickers: Vec<JoinHandle<()>>,
-    /// The one that takes the connections of operators. It ends once these have ended.
+    /// The one that tells the nodes that time has passed, once it is started. It ends once the sessions have ended.
+    pub(crate) ticker: Vec<JoinHandle<()>>,
+    /// The one that takes the connections of operators, once it is started. It ends once these have ended.
     pub(crate) operators: Vec<JoinHandle<()>>,
 }
 
@@ -73,7 +73,7 @@ pub(crate) fn start<R: System, N: ServedNode + Desk<Op, Outcome> + Send + Sync +
 ) -> (ServiceThreads, Result<(), Fault>) {
     let mut threads = ServiceThreads {
         sessions: Vec::new(alloc),
-        tickers: Vec::new(alloc),
+        ticker: Vec::new(alloc),
         operators: Vec::new(alloc),
     };
     let Ports { numbers, pop, ctl } = ports;
@@ -98,9 +98,9 @@ fn start_sessions<R: System, N: ServedNode + Desk<Op, Outcome> + Send + Sync + D
     tick: Duration,
     threads: &mut ServiceThreads,
 ) -> Result<(), Fault> {
-    threads.tickers.reserve(1)?;
+    threads.ticker.reserve(1)?;
     let ticker = ticker::start(rt, alloc, nodes, Arc::try_clone(board)?, tick)?;
-    threads.tickers.push_reserved(ticker);
+    threads.ticker.push_reserved(ticker);
     for (node, port) in nodes.iter().zip(ports) {
         threads.sessions.reserve(1)?;
         let host = PopHost {
