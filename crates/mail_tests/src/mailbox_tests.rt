@@ -92,6 +92,35 @@ fn mailboxes_however_cut(rt: HostRuntime) -> Result<(), Fail> {
     Ok(())
 }
 
+/// Pieces with no line that begins a message, and how many of them a reader takes: `feed` refuses the one after these,
+/// or, where all are taken, `finish` refuses.
+const UNFIT: &[(&[&str], usize)] = &[
+    (&["Fx"], 0),
+    (&["From", "x"], 1),
+    (&["F", "r"], 2),
+    (&["From"], 1),
+];
+
+/// How many of the pieces a reader takes until a call answers that there is no such line, if one does.
+fn taken(alloc: Global, pieces: &[&str]) -> Option<usize> {
+    let mut reader = Reader::new(alloc);
+    for (place, piece) in pieces.iter().enumerate() {
+        if let Err(MboxError::NoFromLine) = reader.feed(piece.as_bytes()) {
+            return Some(place);
+        }
+    }
+    let answer = reader.finish();
+    matches!(&answer, Err(MboxError::NoFromLine)).then_some(pieces.len())
+}
+
+#[test]
+fn pieces_are_refused_by_the_call_that_can_tell(rt: HostRuntime) -> Result<(), Fail> {
+    for (pieces, wanted) in UNFIT {
+        check(taken(rt.alloc(), pieces) == Some(*wanted), "another call")?;
+    }
+    Ok(())
+}
+
 /// A mailbox that is read, whole or so many bytes at a time. Where a request is refused that only gives memory back, it
 /// is read all the same.
 #[derive(Clone, Copy)]

@@ -1,11 +1,11 @@
 //! Each input of a node, with each of its requests for memory refused.
 
 use ballot::{Ballot, Envelope, Memory, Message};
-use maildrop::{Op, Shared};
+use maildrop::{Command, Op, Shared, SharedCommand};
 use node::{Input, Node, Outputs, Stopped};
 use refusing::Refusal;
 use samples::{
-    Heap, Scenario, alice, check, limits, name, node, node_ticket, refuse, requests, three,
+    Heap, Scenario, alice, check, limits, name, node, node_ticket, refuse, requests, slot, three,
 };
 use std::test::Fail;
 
@@ -16,46 +16,69 @@ enum Given {
     Take(&'static str),
     /// The first ballot of node 1 is asked for, of this node.
     P1a(u8),
+    /// The Take for alice that was submitted first is decided, for slot 1.
+    Decision,
     Tick,
     Campaign,
     Crash,
 }
 
-/// How many messages an input sends, and the number of the ticket that it gives, or why it isn't taken.
-type Expected = Result<(usize, Option<u64>), Stopped>;
+/// The kinds of the messages that an input sends, a letter for each, the number of the ticket that it gives, and whether
+/// the answer to alice's first Take is held then, or why the input isn't taken.
+type Expected = Result<(&'static str, Option<u64>, bool), Stopped>;
 
 /// An input, what comes of it, and how many requests for memory it makes at most.
 type Row = (Given, Expected, u64);
 
-/// Tickets are counted by user, a message to another node brings nothing, and a crash is the end.
-const ROWS: [Row; 9] = [
-    (Given::Take("alice"), Ok((3, Some(1))), 11),
-    (Given::Take("bob"), Ok((3, Some(1))), 3),
-    (Given::Take("alice"), Ok((3, Some(2))), 3),
-    (Given::P1a(2), Ok((1, None)), 2),
-    (Given::P1a(3), Ok((0, None)), 1),
-    (Given::Tick, Ok((12, None)), 5),
-    (Given::Campaign, Ok((3, None)), 2),
-    (Given::Crash, Ok((0, None)), 0),
+/// Tickets are counted by user, a message to another node brings nothing, and a crash is the end. An answer is held from
+/// the decision on, so that each later stop has one to drop.
+const ROWS: [Row; 10] = [
+    (Given::Take("alice"), Ok(("ppp", Some(1), false)), 11),
+    (Given::Take("bob"), Ok(("ppp", Some(1), false)), 3),
+    (Given::Take("alice"), Ok(("ppp", Some(2), false)), 3),
+    (Given::P1a(2), Ok(("b", None, false)), 2),
+    (Given::P1a(3), Ok(("", None, false)), 1),
+    (Given::Tick, Ok(("pppppppppddd", None, false)), 5),
+    (Given::Decision, Ok(("", None, true)), 3),
+    (Given::Campaign, Ok(("aaa", None, true)), 2),
+    (Given::Crash, Ok(("", None, false)), 1),
     (Given::Tick, Err(Stopped::Crashed), 0),
 ];
 
-fn message_of<'h>(to: u8) -> Result<Input<Heap<'h>>, Fail> {
-    let round = Ballot {
-        round: 0,
-        leader: node(1)?,
-    };
+/// A message of node 1.
+fn arrive<'h>(
+    to: u8,
+    message: Message<SharedCommand<Heap<'h>>, Heap<'h>>,
+) -> Result<Input<Heap<'h>>, Fail> {
     Ok(Input::Arrive(Envelope {
         from: node(1)?,
         to: node(to)?,
-        message: Message::P1a(round),
+        message,
     }))
+}
+
+fn first_ballot() -> Result<Ballot, Fail> {
+    Ok(Ballot {
+        round: 0,
+        leader: node(1)?,
+    })
+}
+
+/// The Take for alice that is submitted first.
+fn first_take<'h>(heap: Heap<'h>) -> Result<SharedCommand<Heap<'h>>, Fail> {
+    let command = Command {
+        user: alice()?,
+        ticket: node_ticket(2, 1)?,
+        op: Op::Take,
+    };
+    Ok(Shared::new(heap, command)?)
 }
 
 fn input_of<'h>(heap: Heap<'h>, given: Given) -> Result<Input<Heap<'h>>, Fail> {
     Ok(match given {
         Given::Take(user) => Input::Submit(name(user)?, Shared::new(heap, Op::Take)?),
-        Given::P1a(to) => message_of(to)?,
+        Given::P1a(to) => arrive(to, Message::P1a(first_ballot()?))?,
+        Given::Decision => arrive(2, Message::Decision(slot(1)?, first_take(heap)?))?,
         Given::Tick => Input::Tick,
         Given::Campaign => Input::Campaign,
         Given::Crash => Input::Crash,
@@ -88,11 +111,31 @@ fn node_after<'h>(heap: Heap<'h>, rows: &[Row]) -> Result<Node<Heap<'h>>, Fail> 
     Ok(node)
 }
 
-/// How many messages a step sends, and the number of its ticket.
-fn in_short(outputs: &Outputs<Heap>) -> (usize, Option<u64>) {
-    let sent = outputs.sends.get().iter();
-    let own = sent.filter(|envelope| envelope.from.get() == 2).count();
-    (own, outputs.ticket.map(|ticket| ticket.get().1))
+/// The letter of a message's kind.
+fn letter(message: &Message<SharedCommand<Heap>, Heap>) -> u8 {
+    match message {
+        Message::Propose(_, _) => b'p',
+        Message::P1a(_) => b'a',
+        Message::P1b(_) => b'b',
+        Message::Ask(_) => b'd',
+        _ => b'?',
+    }
+}
+
+/// Whether a message comes from node 2, and is of this kind.
+fn is_of(sent: &Envelope<SharedCommand<Heap>, Heap>, kind: u8) -> bool {
+    sent.from.get() == 2 && letter(&sent.message) == kind
+}
+
+/// Whether a step sends messages of these kinds, and gives the ticket of this number.
+fn gives(outputs: &Outputs<Heap>, kinds: &str, number: Option<u64>) -> bool {
+    let sends = outputs.sends.get();
+    sends.len() == kinds.len()
+        && sends
+            .iter()
+            .zip(kinds.as_bytes())
+            .all(|(sent, kind)| is_of(sent, *kind))
+        && outputs.ticket.map(|ticket| ticket.get().1) == number
 }
 
 /// How many inputs a node has taken.
@@ -111,11 +154,16 @@ fn check_refuses<'h>(node: &mut Node<Heap<'h>>) -> Result<(), Fail> {
     check(matches!(&again, Err(Stopped::Memory)), "it takes an input")
 }
 
-/// Checks that a node holds no answer.
+/// Whether a node holds the answer to alice's first Take.
+fn is_held(node: &Node<Heap>) -> Result<bool, Fail> {
+    Ok(node.has_answer(alice()?, node_ticket(2, 1)?))
+}
+
+/// Checks that a node holds no answer to alice's first Take, and gives none.
 fn check_holds_none<'h>(node: &mut Node<Heap<'h>>) -> Result<(), Fail> {
-    let (user, ticket) = (alice()?, node_ticket(2, 1)?);
-    check(!node.has_answer(user, ticket), "an answer")?;
-    check(node.take_answer(user, ticket).is_none(), "one is given")
+    check(!is_held(node)?, "an answer")?;
+    let answer = node.take_answer(alice()?, node_ticket(2, 1)?);
+    check(answer.is_none(), "one is given")
 }
 
 /// Checks that a node that was refused memory has stopped for good, with its log as it was, and holds no answer.
@@ -137,7 +185,10 @@ fn check_taken(
     check(!heap.has_refused(), "memory was refused, and it steps")?;
     check_log(node, logged.saturating_add(1))?;
     match expected {
-        Ok(expected) => check(in_short(outputs) == expected, "other messages"),
+        Ok((kinds, number, held)) => {
+            check(gives(outputs, kinds, number), "other messages")?;
+            check(is_held(node)? == held, "an answer, or none")
+        }
         Err(_) => check(false, "it steps"),
     }
 }
@@ -158,7 +209,8 @@ fn check_refused<'h>(
         }
         Err(expected) => {
             check(stopped == expected, "another stop")?;
-            check_log(node, logged)
+            check_log(node, logged)?;
+            check_holds_none(node)
         }
     }
 }
