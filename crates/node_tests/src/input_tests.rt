@@ -130,12 +130,16 @@ fn is_of(sent: &Envelope<SharedCommand<Heap>, Heap>, kind: u8) -> bool {
 /// Whether a step sends messages of these kinds, and gives the ticket of this number.
 fn gives(outputs: &Outputs<Heap>, kinds: &str, number: Option<u64>) -> bool {
     let sends = outputs.sends.get();
-    sends.len() == kinds.len()
-        && sends
-            .iter()
-            .zip(kinds.as_bytes())
-            .all(|(sent, kind)| is_of(sent, *kind))
-        && outputs.ticket.map(|ticket| ticket.get().1) == number
+    let kinds = kinds.as_bytes();
+    if sends.len() != kinds.len() {
+        return false;
+    }
+    for i in 0..sends.len() {
+        if !is_of(&sends[i], kinds[i]) {
+            return false;
+        }
+    }
+    outputs.ticket.map(|ticket| ticket.get().1) == number
 }
 
 /// How many inputs a node has taken.
