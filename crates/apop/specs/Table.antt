@@ -1,5 +1,5 @@
--- The accounts of a table that keeps names and credentials apart.
-use Rattle.std.specs.Prelude.{ℕ, List, [], ◌∷◌}
+-- The accounts of a table from names to credentials.
+use Rattle.std.specs.Prelude.{ℕ, List, map}
 use Rattle.apop.specs.Accounts.{Account}
 use Rattle.apop.specs.declared.credential.Credential.{Credential}
 
@@ -7,7 +7,5 @@ module _ {A : Type 0} where
   abbrev pub account_with : List ℕ → Credential A → Account
   account_with name credential = record { name = name; method = credential.method; secret = credential.secret }
 
-  abbrev pub accounts_with : List (List ℕ) → List (Credential A) → List Account
-  accounts_with [] credentials = []
-  accounts_with (name ∷ names) [] = []
-  accounts_with (name ∷ names) (credential ∷ credentials) = account_with name credential ∷ accounts_with names credentials
+  abbrev pub accounts_in_table : List (List ℕ × Credential A) → List Account
+  accounts_in_table entries = map (λ (name, credential). account_with name credential) entries

@@ -3,32 +3,39 @@ ghost use Rattle.std.specs.Prelude.{◌≡◌, ◌++◌, ◌∷◌, [], false, m
 ghost use Rattle.apop.specs.Accounts.{has_account, name_of, HaveDifferentNames};
 ghost use Rattle.apop.specs.Login.{passes, passes_apop};
 
-use crate::credential::{Credential, credential_of};
+use crate::credential::Credential;
 use crate::row::Row;
 use crate::timestamp::Stamp;
 use ballot::{Items, Memory};
+use indexmap::IndexMap;
 use maildrop::Name;
 use std::alloc::{Allocator, Global};
+use std::hash::{BuildHasherDefault, FoldHasher};
 use std::marker::Model;
 
-/// The users who may log in, each with a method and a secret, in the order of their file.
+/// Credentials by the names of their users, in the order of the accounts.
+type Credentials<A> = IndexMap<Name, Credential<A>, BuildHasherDefault<FoldHasher>, A>;
+
+/// The users who may log in, each with a method and a secret, in the order of their file. A user is found by a hash of
+/// the name, so a login costs the same however many users there are.
 #[derive(Drop)]
 pub struct Accounts<A: Allocator = Global> {
+    /// The names once more, in one piece, as they are handed out.
     names: Vec<Name, A>,
-    credentials: Vec<Credential<A>, A>,
+    credentials: Credentials<A>,
 }
 
 impl<A: Allocator> Model for Accounts<A> {
-    ghost use Rattle.std.specs.Prelude.{◌≡◌, List, length};
-    ghost use Rattle.apop.specs.Accounts.{Account, HaveDifferentNames};
-    ghost use Rattle.apop.specs.Table.{accounts_with};
+    ghost use Rattle.std.specs.Prelude.{◌≡◌, List, map};
+    ghost use Rattle.apop.specs.Accounts.{Account, HaveDifferentNames, name_of};
+    ghost use Rattle.apop.specs.Table.{accounts_in_table};
 
     ghost Value = { List Account };
 
-    ghost view = { λ a. accounts_with a.names.items a.credentials.items };
+    ghost view = { λ a. accounts_in_table a.credentials.entries };
 
-    ghost invariant = { λ a. (length a.names.items ≡ length a.credentials.items)
-        × HaveDifferentNames (accounts_with a.names.items a.credentials.items) };
+    ghost invariant = { λ a. (a.names.items ≡ map name_of (accounts_in_table a.credentials.entries))
+        × HaveDifferentNames (accounts_in_table a.credentials.entries) };
 }
 
 impl<A: Allocator + Copy> Accounts<A> {
@@ -38,8 +45,15 @@ impl<A: Allocator + Copy> Accounts<A> {
     {
         Accounts {
             names: Vec::new(alloc),
-            credentials: Vec::new(alloc),
+            credentials: IndexMap::new(alloc),
         }
+    }
+
+    /// Whether an account has this name. Takes no memory.
+    pub(crate) fn has(&self, name: &Name) -> bool
+        ensures { result ≡ has_account self.now name.now }
+    {
+        self.credentials.contains_key(name)
     }
 
     /// Adds an account at the end.
@@ -50,10 +64,11 @@ impl<A: Allocator + Copy> Accounts<A> {
     {
         let secret = Items::from_bytes(*self.names.allocator(), row.secret)?;
         self.names.reserve(1)?;
-        self.credentials.push(Credential {
+        let credential = Credential {
             method: row.method,
             secret,
-        })?;
+        };
+        self.credentials.insert(row.name, credential)?;
         self.names.push_reserved(row.name);
         Ok(())
     }
@@ -70,7 +85,7 @@ impl<A: Allocator + Copy> Accounts<A> {
     pub fn check_pass(&self, name: &Name, secret: &[u8]) -> bool
         ensures { result ≡ passes self.now name.now secret.now }
     {
-        match credential_of(&self.names, &self.credentials, name) {
+        match self.credentials.get(name) {
             Some(credential) => credential.admits_secret(secret),
             None => false,
         }
@@ -81,7 +96,7 @@ impl<A: Allocator + Copy> Accounts<A> {
     pub fn check_apop(&self, name: &Name, stamp: &Stamp, digest: &[u8]) -> bool
         ensures { result ≡ passes_apop self.now name.now stamp.now digest.now }
     {
-        match credential_of(&self.names, &self.credentials, name) {
+        match self.credentials.get(name) {
             Some(credential) => credential.admits_digest(stamp, digest),
             None => false,
         }

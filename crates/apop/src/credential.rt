@@ -1,13 +1,11 @@
 //! What accounts log in by.
-ghost use Rattle.std.specs.Prelude.{◌≡◌, length, None, Some, MatchOption};
+ghost use Rattle.std.specs.Prelude.{◌≡◌};
 ghost use Rattle.apop.specs.Login as spec;
-ghost use Rattle.apop.specs.Table.{account_with, accounts_with};
 
 use crate::digest::digest_of;
 use crate::method::Method;
 use crate::timestamp::Stamp;
 use ballot::Items;
-use maildrop::Name;
 use std::alloc::{Allocator, Global};
 
 /// What an account logs in by.
@@ -37,23 +35,4 @@ impl<A: Allocator> Credential<A> {
             Method::Apop => digest_of(stamp, self.secret.get()).as_slice() == digest,
         }
     }
-}
-
-/// The credential of a name, if it is one of the names. It takes time in proportion to their number.
-pub(crate) fn credential_of<'a, A: Allocator>(
-    names: &[Name],
-    credentials: &'a [Credential<A>],
-    name: &Name,
-) -> Option<&'a Credential<A>>
-    requires { length names.now ≡ length credentials.now }
-    ensures { let account = spec.account_named (accounts_with names.now credentials.now) name.now in
-        MatchOption result (account ≡ None) (λ credential. account ≡ Some (account_with name.now credential.now)) }
-{
-    for i in 0..names.len() {
-        let credential = &credentials[i];
-        if names[i] == *name {
-            return Some(credential);
-        }
-    }
-    None
 }

@@ -2,27 +2,21 @@
 ghost use Rattle.std.specs.Prelude.{◌≡◌, ◌++◌, ◌+◌, [], ◌⊎◌, Ok, Err, Some, None, OnOk, IfOk, IfErr};
 ghost use Rattle.std.specs.Option.{option_to_list};
 ghost use Rattle.apop.specs.Accounts.{accounts_of, fault_of, row_of as account_of_row};
-ghost use Rattle.apop.specs.Seen.{AreNamesOf};
 
 use crate::accounts::Accounts;
 use crate::error::AccountsError;
 use crate::row::row_of;
-use maildrop::{Name, next_line};
+use maildrop::next_line;
 use std::alloc::Allocator;
-use std::collections::BTreeSet;
 
-/// Adds the account of the line of this number, if the line isn't empty. The set has the names of the accounts, so a
-/// name that stands twice is found without going over them.
+/// Adds the account of the line of this number, if the line isn't empty.
 fn add_line<A: Allocator + Copy>(
     accounts: &mut Accounts<A>,
-    names: &mut BTreeSet<Name, A>,
     number: usize,
     line: &[u8],
 ) -> Result<(), AccountsError>
-    requires { AreNamesOf names.old accounts.old }
     ensures sound { OnOk result (fault_of number accounts.old line.now ≡ None) }
     ensures added { OnOk result (accounts.new ≡ accounts.old ++ option_to_list (account_of_row line.now)) }
-    ensures names { OnOk result (AreNamesOf names.new accounts.new) }
     ensures refused { IfErr result
         (λ error. (error ≡ AccountsError.Memory) ⊎ (fault_of number accounts.old line.now ≡ Some error)) }
 {
@@ -32,8 +26,7 @@ fn add_line<A: Allocator + Copy>(
     let Some(row) = row_of(line) else {
         return Err(AccountsError::Line(number));
     };
-    let is_new = names.insert(row.name).map_err(|_| AccountsError::Memory)?;
-    if !is_new {
+    if accounts.has(&row.name) {
         return Err(AccountsError::Twice(number));
     }
     accounts.push(&row).map_err(|_| AccountsError::Memory)?;
@@ -52,12 +45,11 @@ impl<A: Allocator + Copy> Accounts<A> {
             (λ error. (error ≡ AccountsError.Memory) ⊎ (accounts_of bytes.now ≡ Err error)) }
     {
         let mut accounts = Accounts::new(alloc);
-        let mut names = BTreeSet::new(alloc);
         let mut number = 0;
         let mut rest = bytes;
         while let Some((line, behind)) = next_line(rest) {
             number += 1;
-            add_line(&mut accounts, &mut names, number, line)?;
+            add_line(&mut accounts, number, line)?;
             rest = behind;
         }
         Ok(accounts)

@@ -41,12 +41,12 @@ impl Scenario for Read {
 fn a_table_is_refused_or_read_whole(rt: HostRuntime) -> Result<(), Fail> {
     let two: &[&str] = &["alice", "bob"];
     for (table, names, most) in [
-        ("alice pass s3\nbob apop a b", Ok(two), 5),
+        ("alice pass s3\nbob apop a b", Ok(two), 7),
         ("alice pass", Err(AccountsError::Line(1)), 0),
         (
             "alice pass a\n\nalice apop b",
             Err(AccountsError::Twice(3)),
-            4,
+            6,
         ),
     ] {
         let count = requests(rt.alloc(), &Read { table, names }, most)?;
@@ -93,7 +93,7 @@ impl Scenario for Compared {
 
 #[test]
 fn an_account_is_made_or_refused(rt: HostRuntime) -> Result<(), Fail> {
-    let single = requests(rt.alloc(), &Single, 3)?;
+    let single = requests(rt.alloc(), &Single, 6)?;
     println!(rt; "Accounts::single: {single}")?;
     let compared = requests(rt.alloc(), &Compared, 0)?;
     println!(rt; "check_pass, check_apop: {compared}")?;

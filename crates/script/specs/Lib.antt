@@ -2,6 +2,7 @@ pub mod Words
 pub mod Kinds
 pub mod Commands
 pub mod Written
+pub mod Seen
 pub mod Rows
 pub mod Scripts
 pub mod Output

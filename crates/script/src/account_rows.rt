@@ -1,7 +1,7 @@
 //! The accounts of a script, as bytes of an accounts file.
 ghost use Rattle.std.specs.Prelude.{◌≡◌, ◌++◌, ◌∷◌, [], ◌⊎◌, Ok, Err, OnOk, OnErr, IfErr};
 ghost use Rattle.apop.specs.Accounts.{row_of as account_of_row};
-ghost use Rattle.apop.specs.Seen.{AreNamesOf};
+ghost use Rattle.script.specs.Seen.{AreNamesOf};
 ghost use Rattle.script.specs.Rows.{AreRows, accounts_written};
 ghost use Rattle.script.specs.Scripts.{with_account};
 

@@ -40,7 +40,7 @@ pub struct Settings<A: Allocator = Global> {
 }
 
 impl<A: Allocator> Model for Settings<A> {
-    ghost use Rattle.apop.specs.Seen.{AreNamesOf};
+    ghost use Rattle.script.specs.Seen.{AreNamesOf};
     ghost use Rattle.script.specs.Rows.{AreRows, accounts_written};
     ghost use Rattle.script.specs.Scripts.{Settings};
 

@@ -59,6 +59,36 @@ two_asked : (conversation {A = Global} accounts stamp (lines_of (codes "USER ali
     ≡ record { line = 1; user = codes "alice"; op = Take } ∷ record { line = 3; user = codes "alice"; op = Commit (ticket 1) (1 ∷ []) } ∷ []
 two_asked = refl
 
+-- a message of 20 octets and one of 21
+abbrev pair : List (Message Global)
+pair = message 1 (codes "Subject: a1" ∷ [] ∷ codes "one" ∷ []) ∷ message 2 (codes "Subject: b1" ∷ [] ∷ codes "four" ∷ []) ∷ []
+
+-- a message that is marked can't be named, isn't counted, and is there again behind RSET
+marked : (conversation {A = Global} accounts stamp (lines_of (codes "USER alice\r\nPASS s\r\nDELE 1\r\nDELE 1\r\nLIST\r\nLIST 1\r\nSTAT\r\nRSET\r\nUIDL\r\nUIDL 002\r\n")) (login pair ∷ [])).replies
+    ≡ greeting ∷ codes "+OK send PASS\r\n" ∷ codes "+OK maildrop has 2 messages (41 octets)\r\n" ∷ codes "+OK message 1 deleted\r\n" ∷ codes "-ERR no such message\r\n"
+    ∷ codes "+OK 1 messages (21 octets)\r\n2 21\r\n.\r\n" ∷ codes "-ERR no such message\r\n" ∷ codes "+OK 1 21\r\n" ∷ codes "+OK maildrop has 2 messages (41 octets)\r\n"
+    ∷ codes "+OK\r\n1 1\r\n2 2\r\n.\r\n" ∷ codes "+OK 2 2\r\n" ∷ []
+unfolding digits
+marked = refl
+
+-- no message has the number 0, a number has at most nine digits, and nobody logs in twice
+misnamed : (conversation {A = Global} accounts stamp (lines_of (codes "USER alice\r\nPASS s\r\nRETR 0\r\nRETR 1234567890\r\nUSER\r\n")) (login pair ∷ [])).replies
+    ≡ greeting ∷ codes "+OK send PASS\r\n" ∷ codes "+OK maildrop has 2 messages (41 octets)\r\n" ∷ codes "-ERR no such message\r\n" ∷ codes "-ERR bad arguments\r\n"
+    ∷ codes "-ERR not in this state\r\n" ∷ []
+unfolding digits
+misnamed = refl
+
+-- PASS stands directly behind a USER that was taken
+late_secret : (conversation {A = Global} accounts stamp (lines_of (codes "USER alice\r\nNOOP\r\nPASS s\r\n")) []).replies
+    ≡ greeting ∷ codes "+OK send PASS\r\n" ∷ codes "-ERR not in this state\r\n" ∷ codes "-ERR not in this state\r\n" ∷ []
+late_secret = refl
+
+-- a wrong secret, an unknown user and a secret with a space behind it: the third wrong login closes
+three_logins : (conversation {A = Global} accounts stamp (lines_of (codes "USER alice\r\nPASS x\r\nUSER zoe\r\nPASS s\r\nUSER alice\r\nPASS s \r\nNOOP\r\n")) []).replies
+    ≡ greeting ∷ codes "+OK send PASS\r\n" ∷ codes "-ERR invalid login\r\n" ∷ codes "+OK send PASS\r\n" ∷ codes "-ERR invalid login\r\n"
+    ∷ codes "+OK send PASS\r\n" ∷ codes "-ERR invalid login\r\n" ∷ []
+three_logins = refl
+
 -- a maildrop that another session has locked
 locked : (conversation {A = Global} accounts stamp (lines_of (codes "USER alice\nPASS s\nNOOP\n")) (record { ticket = ticket 1; outcome = InUse } ∷ [])).replies
     ≡ greeting ∷ codes "+OK send PASS\r\n" ∷ codes "-ERR [IN-USE] maildrop already locked\r\n" ∷ []

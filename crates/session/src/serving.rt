@@ -26,6 +26,9 @@ use std::io::{Read, Write};
 /// How many bytes of the input are read at a time.
 const PIECE: usize = 4096;
 
+/// The most reads of a session.
+const MOST_READS: u32 = u32::MAX;
+
 /// Writes as much as the writer takes, and gives how many bytes that is. Less than all means that a write failed, or
 /// took nothing.
 fn send<W: Write>(writer: &mut W, bytes: &[u8]) -> usize
@@ -148,7 +151,7 @@ fn listen<A: Allocator + Copy, R: Read, W: Write, D: Desk<Op<A>, Outcome<A>>, G:
 {
     let mut lines = LineReader::new();
     let mut buffer = [0u8; PIECE];
-    for _ in 0..u32::MAX {
+    for _ in 0..MOST_READS {
         let count = match reader.read(&mut buffer) {
             Ok(0) => return End::HungUp,
             Ok(count) => count,

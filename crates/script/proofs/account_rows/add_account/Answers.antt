@@ -3,7 +3,7 @@ use Rattle.std.specs.BTreeSet.{Updates}
 use Rattle.std.specs.Cmp.Lexicographic.{slice_cmp}
 use Rattle.std.specs.Ordering.{nat_cmp}
 use Rattle.apop.specs.Accounts.{has_account}
-use Rattle.apop.proofs.SeenLemmas.{AreNamesOf-push}
+use Rattle.script.proofs.SeenLemmas.{AreNamesOf-push}
 use Rattle.script.specs.Rows.{accounts_written}
 use Rattle.script.proofs.AccountRows.{account_in, accounts-push, rows-push}
 use Rattle.script.proofs.account_rows.add_account.Goals as goal

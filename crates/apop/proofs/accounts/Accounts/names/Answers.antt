@@ -1,6 +1,4 @@
-use Rattle.std.proofs.Common.{sym}
-use Rattle.apop.proofs.TableLemmas.{names-accounts_with}
 use Rattle.apop.proofs.accounts.Accounts.names.Goals as goal
 
 pub returns-clause-value : goal.returns-clause-value
-returns-clause-value g c = rw (c.as_slice.ensures.value, ← c.self.view_is) (sym (names-accounts_with _ _ c.self.invariant.0))
+returns-clause-value g c = rw (c.as_slice.ensures.value, ← c.self.view_is) c.self.invariant.0

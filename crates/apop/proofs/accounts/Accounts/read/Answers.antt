@@ -7,6 +7,5 @@ loop-line-preserved g c =
     let first = rw c.in-Some.ensures.0 at c.loop-line.invariant.read in
     record {
       read = rw c.in_ok-add_line.ensures.added (HasRead-more _ c.in-Some.line.now _ c.loop-line.accounts c.loop-line.number first c.in_ok-add_line.ensures.sound);
-      names = c.in_ok-add_line.ensures.names;
       small = omega (arith, c.in-Some.ensures);
     }

@@ -1,13 +1,11 @@
 use Rattle.std.proofs.Common.{◌+◌, ◌≤◌, length}
 use Rattle.std.specs.Str.Lines.{lines}
-use Rattle.apop.specs.Seen.{AreNamesOf}
 use Rattle.apop.proofs.ReadingLemmas.{HasRead}
 use Rattle.apop.proofs.accounts.Accounts.read.Given as goal
 
 abbrev pub invariant-loop-line : goal.invariant-loop-line
 invariant-loop-line g l = record {
   read : HasRead (lines l.bytes) (lines l.rest) l.accounts l.number;
-  names : AreNamesOf l.names l.accounts;
   small : l.number + length l.rest ≤ length l.bytes;
 }
 

@@ -1,4 +1,5 @@
-use Rattle.std.proofs.Common.{◌∙◌, ap, sym}
+use Rattle.std.proofs.Common.{◌∙◌, ap, sym, arith}
+use Rattle.std.proofs.lemmas.Bool.{false≢true}
 use Rattle.world.specs.Settling.{all_replies}
 use Rattle.world.specs.Worlds.{World}
 use Rattle.world.proofs.WholeRuns.{pushed_next, replies_there}
@@ -12,3 +13,6 @@ loop-place-preserved g c =
     pushed_next _ c.loop-place.replies.items c.push.new.self.items (session, c.in_ok-bytes.bytes) (all_replies w) c.loop-place.place (session, it.replies)
     c.in_ok-push.ensures.items c.loop-place.invariant (ap (λ b. (session, b)) (c.in_ok-bytes.ensures.items ∙ c.get.ensures))
     (replies_there c.self.inside.hosts c.self.inside.connections.entries w c.loop-place.place session it (ap (λ (v : World g.row.A.Denot). v.service) c.self.view_is) (sym c.in-Some.ensures.entry))
+
+pub unreachable-requires : goal.unreachable-requires
+unreachable-requires g c = false≢true (rw c.in_default.is at (c.get_index.ensures.found.1 (omega (arith, c.loop-place-test.true, c.len-place-end.ensures.len))))

@@ -1,4 +1,4 @@
--- The set of the names that stand in a file.
+-- The set of the names of accounts.
 use Rattle.std.proofs.Common.{◌≡◌, ℕ, Bool, true, false, ◌||◌, cond, List, [], ◌∷◌, ◌++◌, refl, sym, ap, ◌∙◌}
 use Rattle.std.specs.BTreeSet.{BTreeSet, contains, Updates}
 use Rattle.std.specs.BTreeMap.{is_at}
@@ -8,7 +8,7 @@ use Rattle.std.specs.Str.{bytes_eq}
 use Rattle.std.proofs.lemmas.List.Folds.{list_any-append}
 use Rattle.std.proofs.lemmas.Map.Text.{is_eq-slice_cmp}
 use Rattle.apop.specs.Accounts.{Account, has_account}
-use Rattle.apop.specs.Seen.{AreNamesOf}
+use Rattle.script.specs.Seen.{AreNamesOf}
 
 -- what is added here, or was there
 cond-or : (here there : Bool) → cond here true there ≡ (there || (here || false))

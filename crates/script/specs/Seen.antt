@@ -1,4 +1,4 @@
--- The names that stand in a file so far.
+-- The names of the accounts that a script has so far.
 use Rattle.std.specs.Prelude.{◌≡◌, ℕ, List}
 use Rattle.std.specs.BTreeSet.{BTreeSet, contains}
 use Rattle.std.specs.Cmp.Lexicographic.{slice_cmp}
