@@ -2,7 +2,6 @@
 #![tactic(auto)]
 
 mod fault;
-mod gathering;
 mod lone;
 mod lone_asks;
 mod lone_desk;

@@ -8,15 +8,18 @@ ghost use Rattle.server.specs.Served.{IsSessionOf, IsMailed, IsOfRun, IsEndBy, I
 ghost use Rattle.server.specs.Options as spec;
 
 use crate::fault::Fault;
-use crate::gathering::Gathering;
 use crate::lone_desk::LoneDesk;
 use crate::mail::{deliver, texts_of};
 use crate::options::{LONE_IDS, LONE_MESSAGES, LONE_OCTETS, LoneOptions};
 use apop::{Accounts, Method, Stamp, stamp};
+use gathering::Gathering;
 use maildrop::{Limits, Name};
 use session::{End, OpenGate, serve};
 use std::alloc::Global;
 use std::io::{Read, Write};
+
+/// How many bytes of replies `lone` gathers at most.
+const GATHERED: usize = 65_536;
 
 /// The account that the options name, with the user's name.
 fn account_of(alloc: Global, options: &LoneOptions<'_>) -> Result<(Name, Accounts), Fault>
@@ -158,7 +161,7 @@ pub fn lone_run_gathered<H: AllocGlobal + Eprint, R: Read + Drop, W: Write + Dro
     ensures status { (result ≡ 1) ⊎ IsStatusOf Global options.now result }
     ensures refused { (¬ spec.IsAccount options.now) → result ≡ 2 }
 {
-    let gathering = Gathering::new(rt.alloc(), writer);
+    let gathering = Gathering::new(rt.alloc(), writer, GATHERED);
     let status = lone_run(
         rt,
         &mut gathering.heard(reader),

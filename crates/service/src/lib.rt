@@ -3,7 +3,6 @@
 
 mod arrivals;
 mod board;
-mod channel;
 mod crew;
 mod ctl;
 mod delivery;

@@ -4,12 +4,12 @@ ghost use Rattle.std.specs.Io.KnownBytes.{Appends};
 ghost use Rattle.script.specs.Requests.{longest_request};
 
 use crate::board::Board;
-use crate::channel::Channel;
 use crate::delivery::{deliver, texts_in};
 use crate::fault::Fault;
 use crate::host::Host;
 use crate::served_node::ServedNode;
 use ballot::{Memory, NodeId};
+use gathering::Gathering;
 use maildrop::{Name, Op, Outcome};
 use script::{KeyPrefix, LONGEST_REQUEST, Request, parse_request};
 use session::Desk;
@@ -19,7 +19,7 @@ use std::net::{Net, TcpStream};
 use std::sync::{Arc, Wait};
 use std::time::{Clock, Duration};
 
-/// How many bytes of a mailbox file are read at a time.
+/// How many bytes of a mailbox file are read at a time, and how many bytes of an answer are gathered at most.
 const PIECE: usize = 4096;
 
 /// How long an answer may wait for an operator who doesn't read it. Then the connection is closed, so that it holds up no
@@ -191,9 +191,11 @@ impl<R: Net + Wait + Clock + Copy, N: ServedNode + Desk<Op, Outcome> + Drop> Ope
     }
 
     /// Hears a request, and answers it. After want of memory what was not written yet is not said.
-    fn respond(&self, channel: &Channel<'_>) -> Result<(), Fault> {
-        let mut writer = channel.writer();
-        let Ok(mut reader) = BufReader::with_capacity(self.alloc, PIECE, channel.reader()) else {
+    fn respond(&self, stream: &TcpStream) -> Result<(), Fault> {
+        let operator = Gathering::new(self.alloc, stream, PIECE);
+        let mut writer = operator.said();
+        let Ok(mut reader) = BufReader::with_capacity(self.alloc, PIECE, operator.heard(stream))
+        else {
             return Err(Fault::Memory);
         };
         let mut line = [0u8; LONGEST_REQUEST];
@@ -215,9 +217,10 @@ impl<R: Net + Wait + Clock + Copy, N: ServedNode + Desk<Op, Outcome> + Drop> Ope
 impl<R: Net + Wait + Clock + Copy, N: ServedNode + Desk<Op, Outcome> + Drop> Host
     for OperatorHost<R, N> {
     fn serve(&mut self, stream: &TcpStream) {
+        // An outcome is told as soon as it is there.
+        let _slower = stream.set_nodelay(true);
         let _waits = stream.set_write_timeout(Some(Duration::from_secs(LONGEST_WRITE_SECONDS)));
-        let channel = Channel::new(self.alloc, stream);
-        let _closed = self.respond(&channel);
+        let _closed = self.respond(stream);
     }
 
     fn share(&self) -> Result<Self, Memory> {

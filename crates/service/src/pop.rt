@@ -1,16 +1,19 @@
 //! POP3 connections.
 
 use crate::board::Board;
-use crate::channel::Channel;
 use crate::host::Host;
 use crate::served_node::ServedNode;
 use ballot::Memory;
+use gathering::Gathering;
 use maildrop::{Op, Outcome};
 use session::{Desk, OpenGate, serve};
 use std::alloc::Global;
 use std::net::TcpStream;
 use std::random::RandomSource;
 use std::sync::{Arc, Wait};
+
+/// How many bytes of replies a connection gathers at most. Their room stays with it while it is idle.
+const GATHERED: usize = 4_096;
 
 /// Serves POP3 sessions (RFC 1939) at a node.
 #[derive(Drop)]
@@ -33,17 +36,17 @@ impl<R: RandomSource + Wait + Copy, N: ServedNode + Desk<Op, Outcome> + Drop> Ho
         let Some(stamp) = self.board.new_stamp(&self.rt, self.alloc) else {
             return;
         };
-        let channel = Channel::new(self.alloc, stream);
+        let client = Gathering::new(self.alloc, stream, GATHERED);
         let transcript = serve(
             self.alloc,
-            &mut channel.reader(),
-            &mut channel.writer(),
+            &mut client.heard(stream),
+            &mut client.said(),
             self.board.accounts(),
             stamp,
             &mut self.node,
             &mut OpenGate,
         );
-        let _unheard = channel.flush();
+        let _unheard = client.flush();
         self.board.keep(&self.rt, transcript);
     }
 
