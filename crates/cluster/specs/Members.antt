@@ -1,7 +1,6 @@
 -- What is known of a node of a cluster by whoever gets its lock, or got it.
-use Rattle.std.specs.Prelude.{◌≡◌, ℕ, Bool, true, List, [], Option, Some, None, is_none, IfSome}
+use Rattle.std.specs.Prelude.{◌≡◌, ◌⊎◌, ℕ, Bool, true, false, if◌then◌else◌, List, [], ◌∷◌, Option, Some, None, is_some, is_none, IfSome}
 use Rattle.std.specs.declared.alloc.Global.{Global}
-use Rattle.std.specs.List.{list_any}
 use Rattle.std.specs.Ordering.{is_eq}
 use Rattle.maildrop.specs.CommandId.{CommandId, compare_ids}
 use Rattle.maildrop.specs.Ticket.{Ticket}
@@ -10,10 +9,12 @@ use Rattle.maildrop.specs.declared.outcome.Outcome.{Outcome}
 use Rattle.leader.specs.Leaders.{phase_is_active}
 use Rattle.replica.specs.Replicas.{is_waiting}
 use Rattle.node.specs.Replay.{NodeState, replayed}
-use Rattle.node.specs.Nodes.{NodeValue, Awaited, answered}
+use Rattle.node.specs.Nodes.{NodeValue, Awaited, logged, answer_of, answered}
+use Rattle.node.specs.declared.input.Input.TheVariants.{Crash}
 use Rattle.node.specs.declared.log.NodeLog.{NodeLog}
 use Rattle.node.specs.declared.log.Opening.{Opening}
 use Rattle.node.specs.declared.stopped.Stopped.{Stopped}
+use Rattle.node.specs.declared.stopped.Stopped.TheVariants.{Crashed, Memory}
 use Rattle.session.specs.Desks.{Given}
 use Rattle.cluster.specs.Fits.{may_answer}
 use Rattle.cluster.specs.declared.setup.Setup.{Setup}
@@ -29,9 +30,29 @@ pub record MemberValue : Type 0 where
 abbrev pub member_of : NodeValue Global → MemberValue
 member_of node = record { log = node.log; stopped = node.stopped; awaited = node.awaited; told = [] }
 
--- whether the command is one of those
-abbrev pub is_told : CommandId → List CommandId → Bool
-is_told id told = list_any (λ other. is_eq (compare_ids other id)) told
+-- a node that has stopped for this reason awaits nothing
+abbrev pub stopped_for : Stopped → NodeLog Global → List CommandId → MemberValue
+stopped_for stop log told = record { log = log; stopped = Some stop; awaited = []; told = told }
+
+-- a node that was up has crashed: its log ends in the crash, or is as it was, without memory
+abbrev pub HasCrashed : (before after : MemberValue) → Type 0
+HasCrashed before after =
+    (after ≡ stopped_for Crashed (logged before.log Crash) before.told) ⊎ (after ≡ stopped_for Memory before.log before.told)
+
+-- whether the command is the first of those whose answers nobody awaits
+abbrev pub is_first : CommandId → List CommandId → Bool
+is_first id [] = false
+is_first id (first ∷ others) = is_eq (compare_ids first id)
+
+-- these are left of them: the first isn't, once its answer is there
+abbrev pub still_told : List CommandId → Awaited Global → List CommandId
+still_told [] awaited = []
+still_told (first ∷ others) awaited = if is_some (answer_of first awaited) then others else first ∷ others
+
+-- the answer to the first of them isn't there
+abbrev pub IsGone : List CommandId → Awaited Global → Type 0
+IsGone [] awaited = Unit {0}
+IsGone (first ∷ others) awaited = answer_of first awaited ≡ None
 
 -- what the node of this number begins with
 abbrev pub opening_of : Setup → ℕ → Opening Global

@@ -176,10 +176,7 @@ impl<
             logs: Vec::new(alloc),
         };
         for (me, link) in links {
-            match cluster.start_node(setup, me, link) {
-                Ok(()) => {}
-                Err(error) => return Err(error),
-            }
+            cluster.start_node(setup, me, link)?;
         }
         Ok(cluster)
     }
@@ -208,8 +205,9 @@ impl<
         }
     }
 
-    /// Puts an envelope into its addressee's inbox. Gives whether it is in there: not where that node doesn't run here,
-    /// where it has stopped, or without memory.
+    /// Puts an envelope into its addressee's inbox. Gives whether it is in there: not where that node doesn't run here, its
+    /// thread has ended, or without memory. A node that has stopped hears none. Its thread ends at the next that comes, so
+    /// one may still be put in there, and is lost.
     pub fn arrive(&self, envelope: Envelope<SharedCommand>) -> bool
         ensures { is_among envelope.to self.now ≡ false → result ≡ false }
     {
@@ -279,8 +277,9 @@ impl<
         self.alloc
     }
 
-    /// Ends the threads, and gives the logs of the nodes, in the order in which these were started. From then on their
-    /// desks answer that they have stopped. Takes no memory.
+    /// Ends the threads, each once its node has heard what is in its inbox or has stopped, and gives the logs of the nodes,
+    /// in the order in which these were started. From then on their desks answer that they have stopped. Where a link's `send` doesn't return,
+    /// neither does this. Takes no memory.
     pub fn stop(self) -> Vec<NodeLog>
         ensures { All (λ log. IsLogOf D.setup log.opening.me log) result.items }
     {

@@ -75,8 +75,9 @@ impl<D: Deployment, R: Wait, L: Link> NodeDesk<D, R, L> {
         self.hub.has_unheard(&self.rt)
     }
 
-    /// Puts an envelope into the node's inbox. Gives whether it is in there: not where the envelope is to another node,
-    /// where the node has stopped, or without memory.
+    /// Puts an envelope into the node's inbox. Gives whether it is in there: not where the envelope is to another node, the
+    /// node's thread has ended, or without memory. A node that has stopped hears none. Its thread ends at the next that
+    /// comes, so one may still be put in there, and is lost.
     pub fn arrive(&self, envelope: Envelope<SharedCommand>) -> bool
         ensures { result ≡ true → envelope.to ≡ self.now }
     {

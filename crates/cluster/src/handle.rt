@@ -29,8 +29,10 @@ struct Shared<D: Deployment, L: Link> {
     alloc: Global,
 }
 
-/// A node's number, with what its threads share. Each of its calls is one step under the lock, or a look; what the step
-/// sends is sent once the lock is free. Contracts see it as the number.
+/// A node's number, with what its threads share. What a call does to the node it does under the lock: a step, or a batch of
+/// them, each with those that bring the node what it sends to itself; or it takes an answer, lets one go that nobody awaits,
+/// takes the node away at the end, or looks. What the steps send to others is sent once the lock is free. Contracts see it as
+/// the number.
 #[derive(Drop)]
 pub(crate) struct NodeHandle<D: Deployment, L: Link> {
     me: NodeId,
@@ -186,7 +188,7 @@ impl<D: Deployment, L: Link> NodeHandle<D, L> {
     /// Nobody awaits the answer to this command, which is let go once it is there.
     pub(crate) fn tell<R: Wait>(&self, rt: &R, user: Name, ticket: Ticket) {
         if let Some(member) = &mut *self.shared.member.lock(rt) {
-            member.tell(user, ticket);
+            let _no_room = member.tell(user, ticket);
             member.forget_first();
         }
     }
@@ -233,7 +235,7 @@ impl<D: Deployment, L: Link> NodeHandle<D, L> {
 
     /// Takes the node away, and gives its log. From then on there is none.
     pub(crate) fn retire<R: Wait>(&self, rt: &R) -> Option<NodeLog>
-        ensures { IfSome result (λ log. IsLogOf D.setup log.opening.me log) }
+        ensures { IfSome result (λ log. IsLogOf D.setup self.now log) }
     {
         let member = self.shared.member.lock(rt).take();
         self.shared.waiters.wake(Groups::ALL);

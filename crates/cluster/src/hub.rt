@@ -42,8 +42,8 @@ impl Hub {
         Ok(inbox)
     }
 
-    /// Puts an envelope into its addressee's inbox. Gives whether it is in there: not where that node doesn't run here,
-    /// nor without memory.
+    /// Puts an envelope into its addressee's inbox. Gives whether it is in there: not where that node doesn't run here, its
+    /// thread has ended, or without memory.
     pub(crate) fn deliver<R: Wait>(&self, rt: &R, envelope: Envelope<SharedCommand>) -> bool {
         let slits = self.slits.read(rt);
         match slits.iter().find(|slit| slit.node == envelope.to) {

@@ -1,5 +1,6 @@
 //! Nodes on threads: one thread a node, which hears what comes to its inbox, and desks by which sessions on threads of their
-//! own ask a node and await its answers. All that a thread does to a node is one step under the node's lock.
+//! own ask a node and await its answers. All that a thread does to a node it does under the node's lock: steps, up to 32
+//! envelopes at a time and each with what the node sends to itself, the taking and letting go of answers, and the end.
 #![tactic(auto)]
 
 mod cluster;

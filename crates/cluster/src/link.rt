@@ -6,7 +6,8 @@ use maildrop::SharedCommand;
 use std::sync::{Arc, Wait};
 
 /// Where a node's envelopes go. A link may lose them, and may hand each on late or more than once. It is called by
-/// several threads, none of which then has a node's lock.
+/// several threads, none of which then has a node's lock. A node's thread hears nothing while its call doesn't return, and
+/// the end of the cluster waits for that: `Cluster::stop`, and letting the cluster go.
 pub trait Link {
     fn send(&self, envelope: Envelope<SharedCommand>);
 

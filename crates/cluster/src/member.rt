@@ -1,16 +1,16 @@
 //! A node of a cluster, as it lies under its lock.
-ghost use Rattle.std.specs.Prelude.{◌≡◌, ◌⊎◌, ◌++◌, ◌∷◌, ℕ, [], true, false, IsSome, OnOk, IfOk, IfErr, IfSome, is_none, Some, None};
+ghost use Rattle.std.specs.Prelude.{◌≡◌, ◌++◌, ◌∷◌, ℕ, [], true, false, OnOk, IfOk, IfErr, IfSome, is_none, Some, None, Err};
 ghost use Rattle.std.specs.Ordering.{is_eq};
 ghost use Rattle.maildrop.specs.CommandId.{CommandId, compare_ids};
 ghost use Rattle.node.specs.Replay.{sends_of, ticket_of};
-ghost use Rattle.node.specs.declared.input.Input.TheVariants.{Crash};
-ghost use Rattle.node.specs.Nodes.{logged, stops_after, answer_of, answer_after, answered, IsKnown};
-ghost use Rattle.cluster.specs.Members.{member_of, is_told, IsLogOf, IsAnswered, IsStatusOf, status_of};
+ghost use Rattle.node.specs.Nodes.{logged, stops_after, no_ticket_for, answer_of, answer_after, answered, IsKnown};
+ghost use Rattle.node.specs.Tickets.{CanStop};
+ghost use Rattle.cluster.specs.Members.{member_of, HasCrashed, is_first, still_told, IsGone, IsLogOf, IsAnswered, IsStatusOf, status_of};
 
 use crate::setup::Deployment;
 use crate::status::Status;
 use crate::waiters::Groups;
-use ballot::NodeId;
+use ballot::{Memory, NodeId};
 use maildrop::{CommandId, Name, Outcome, Ticket};
 use node::{Input, Node, NodeLog, Outputs, Stopped};
 use std::alloc::Global;
@@ -57,9 +57,10 @@ impl<D: Deployment> Member<D> {
         self.node.me()
     }
 
-    /// Whether the node takes inputs.
+    /// Whether the node takes inputs. Where it doesn't, no answer is awaited of it.
     pub(crate) fn is_up(&self) -> bool
-        ensures { result ≡ is_none self.now.stopped }
+        ensures up { result ≡ is_none self.now.stopped }
+        ensures awaits_none { IfSome self.now.stopped (λ _. self.now.awaited ≡ []) }
     {
         self.node.stopped().is_none()
     }
@@ -72,30 +73,34 @@ impl<D: Deployment> Member<D> {
         ensures stops { OnOk result (self.new.stopped ≡ stops_after input) }
         ensures answers { OnOk result (stops_after input ≡ None → (id : CommandId) → answer_of id self.new.awaited ≡ answer_after self.old.log input id (answer_of id self.old.awaited)) }
         ensures err { IfErr result (λ stop. self.new ≡ record { log = self.old.log; stopped = Some stop; awaited = []; told = self.old.told }) }
+        ensures cause { self.old.stopped ≡ None → IfErr result (λ stop. CanStop (no_ticket_for self.old.log input) stop) }
+        ensures used { self.old.stopped ≡ None → no_ticket_for self.old.log input ≡ true → result ≡ Err Stopped.TicketsUsed }
+        ensures again { IfSome self.old.stopped (λ stop. result ≡ Err stop) }
         ensures told { self.new.told ≡ self.old.told }
         ensures opening { self.new.log.opening ≡ self.old.log.opening }
     {
         self.node.step(input)
     }
 
-    /// The node stops, for good. Gives whether it was up until now.
+    /// The node stops, for good, and no answer is awaited of it any more. Its log has the crash, unless there was no memory
+    /// for that. One that was down stays as it was. Gives whether it was up until now.
     pub(crate) fn crash(&mut self) -> bool
         ensures up { result ≡ is_none self.old.stopped }
-        ensures down { IsSome self.new.stopped }
-        ensures log { (self.new.log ≡ logged self.old.log Crash) ⊎ (self.new.log ≡ self.old.log) }
-        ensures told { self.new.told ≡ self.old.told }
-        ensures opening { self.new.log.opening ≡ self.old.log.opening }
+        ensures crashed { self.old.stopped ≡ None → HasCrashed self.old self.new }
+        ensures again { IfSome self.old.stopped (λ _. self.new ≡ self.old) }
     {
         let was_up = self.is_up();
         let _crashed = self.step(Input::Crash);
+        prove!(!self.is_up());
         was_up
     }
 
-    /// Takes the answer to a user's command, once it is there.
+    /// Takes the answer to a user's command, once it is there. It is given once, and none once the node has stopped.
     pub(crate) fn take_answer(&mut self, user: Name, ticket: Ticket) -> Option<Outcome>
         ensures answer { result ≡ answer_of (record { user = user; ticket = ticket }) self.old.awaited }
         ensures given { IfSome result (λ outcome. answered self.old.log (record { user = user; ticket = ticket }) ≡ Some outcome) }
         ensures logged { IfSome result (λ outcome. IsAnswered D.setup self.old.log.opening.me user ticket outcome) }
+        ensures none { IfSome self.old.stopped (λ _. result ≡ None) }
         ensures gone { answer_of (record { user = user; ticket = ticket }) self.new.awaited ≡ None }
         ensures others { (id : CommandId) → is_eq (compare_ids (record { user = user; ticket = ticket }) id) ≡ false
             → answer_of id self.new.awaited ≡ answer_of id self.old.awaited }
@@ -107,17 +112,23 @@ impl<D: Deployment> Member<D> {
         self.node.take_answer(user, ticket)
     }
 
-    /// Nobody awaits the answer to this command. It is let go once it is there.
-    pub(crate) fn tell(&mut self, user: Name, ticket: Ticket)
-        ensures told { (self.new.told ≡ self.old.told ++ record { user = user; ticket = ticket } ∷ []) ⊎ (self.new.told ≡ self.old.told) }
+    /// Nobody awaits the answer to this command, so it is the last of those whose answers are let go. After `Memory` it isn't
+    /// one of them, and its answer stays.
+    pub(crate) fn tell(&mut self, user: Name, ticket: Ticket) -> Result<(), Memory>
+        ensures told { OnOk result (self.new.told ≡ self.old.told ++ record { user = user; ticket = ticket } ∷ []) }
+        ensures err { IfErr result (λ _. self.new.told ≡ self.old.told) }
         ensures node { self.new ≡ record { log = self.old.log; stopped = self.old.stopped; awaited = self.old.awaited; told = self.new.told } }
     {
-        let _no_room = self.told.push_back(CommandId::new(user, ticket));
+        self.told.push_back(CommandId::new(user, ticket))?;
+        Ok(())
     }
 
-    /// Lets go the answer to the first of the commands whose answers nobody awaits, if it is there.
+    /// Lets go the answer to the first of the commands whose answers nobody awaits, if it is there. That command is then
+    /// none of them any more.
     pub(crate) fn forget_first(&mut self)
-        ensures others { (id : CommandId) → is_told id self.old.told ≡ false → answer_of id self.new.awaited ≡ answer_of id self.old.awaited }
+        ensures told { self.new.told ≡ still_told self.old.told self.old.awaited }
+        ensures gone { IsGone self.old.told self.new.awaited }
+        ensures others { (id : CommandId) → is_first id self.old.told ≡ false → answer_of id self.new.awaited ≡ answer_of id self.old.awaited }
         ensures log { self.new.log ≡ self.old.log }
         ensures stopped { self.new.stopped ≡ self.old.stopped }
     {

@@ -57,7 +57,10 @@ impl<
                 None => None,
                 Some(desk) => thread::spawn(&rt, move || run_job(alloc, job, &accounts, desk)).ok(),
             };
-            let _room = threads.push(thread);
+            if let Err(refused) = threads.push(thread) {
+                // There is room for each, so this doesn't come; a session's thread is joined in any case.
+                let _transcript = joined(&rt, refused.value);
+            }
         }
         for thread in threads {
             let _room = transcripts.push(joined(&rt, thread));
