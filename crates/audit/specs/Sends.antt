@@ -12,9 +12,9 @@ module _ {A : Type 0} where
   abbrev pub topic_of : Message (Command A) A → Topic
   topic_of (Propose slot command) = topic.Propose slot
   topic_of (P1a ballot) = topic.P1a ballot
-  topic_of (P1b promise) = topic.P1b promise.asked
+  topic_of (P1b promise) = topic.P1b promise.asked promise.ballot
   topic_of (P2a pvalue) = topic.P2a pvalue.slot pvalue.ballot
-  topic_of (P2b vote) = topic.P2b vote.slot vote.asked
+  topic_of (P2b vote) = topic.P2b vote.slot vote.asked vote.ballot
   topic_of (Decision slot command) = topic.Decision slot
   topic_of (Ask slot) = topic.Ask slot
 

@@ -15,14 +15,15 @@ use std::alloc::{Allocator, Global};
 use std::hash::{BuildHasherDefault, FoldHasher};
 use std::marker::Model;
 
-/// What a message is about. Of one sender and one addressee, messages that are about the same are hardly ever different.
+/// What a message is about. Of one sender and one addressee, messages that are about the same differ in a command, or in
+/// what an acceptor had accepted, and hardly ever do.
 #[derive(Clone, Copy, Debug, PartialEq, Eq, Hash)]
 pub(crate) enum Topic {
     Propose(Slot),
     P1a(Ballot),
-    P1b(Ballot),
+    P1b(Ballot, Ballot),
     P2a(Slot, Ballot),
-    P2b(Slot, Ballot),
+    P2b(Slot, Ballot, Ballot),
     Decision(Slot),
     Ask(Slot),
 }
@@ -30,7 +31,8 @@ pub(crate) enum Topic {
 /// Places in a list of messages, by sender, addressee and topic.
 type Places<A> = IndexMap<(NodeId, NodeId, Topic), usize, BuildHasherDefault<FoldHasher>, A>;
 
-/// Messages in the order in which they were sent. To find one costs a look-up.
+/// Messages in the order in which they were sent. To find one costs a look-up where it is the last with its sender,
+/// addressee and topic, or there is none with these; else it may be compared with each.
 #[derive(Drop)]
 pub(crate) struct Sent<A: Allocator + Copy = Global> {
     envelopes: Envelopes<A>,
@@ -58,9 +60,9 @@ fn topic_of<A: Allocator + Copy>(message: &Message<SharedCommand<A>, A>) -> Topi
     match message {
         Message::Propose(slot, _) => Topic::Propose(*slot),
         Message::P1a(ballot) => Topic::P1a(*ballot),
-        Message::P1b(promise) => Topic::P1b(promise.asked),
+        Message::P1b(promise) => Topic::P1b(promise.asked, promise.ballot),
         Message::P2a(pvalue) => Topic::P2a(pvalue.slot, pvalue.ballot),
-        Message::P2b(vote) => Topic::P2b(vote.slot, vote.asked),
+        Message::P2b(vote) => Topic::P2b(vote.slot, vote.asked, vote.ballot),
         Message::Decision(slot, _) => Topic::Decision(*slot),
         Message::Ask(slot) => Topic::Ask(*slot),
     }

@@ -1,10 +1,10 @@
 //! Logs and transcripts that tell something else than what happened.
 
 use crate::runs::Run;
-use ballot::{Items, Message};
+use ballot::{Envelope, Items, Message};
 use maildrop::{Op, Outcome};
 use node::{Input, NodeLog};
-use samples::alice;
+use samples::{alice, ballot, node};
 use session::{Asked, Transcript};
 use std::alloc::Global;
 use std::test::Fail;
@@ -33,8 +33,14 @@ pub enum Change {
     AsOne,
     /// The second session is as if it hadn't begun.
     Blank,
+    /// The operations of the first session stand in reverse.
+    Reversed,
     /// The first name stands twice in the first log.
     NameTwice,
+    /// The first log begins with a window that no node has.
+    NoWindow,
+    /// The log at this place ends with the arrival of a message that no node sent.
+    Unsent(usize),
 }
 
 fn is_p2a(input: &Input) -> bool {
@@ -59,7 +65,7 @@ fn leave_out_p2a(log: &mut NodeLog) -> Result<(), Fail> {
     Ok(())
 }
 
-/// Changes what the desk gave for an operation of a session, the last or the first one.
+/// Takes from the last operation of a session its outcome, and its ticket too unless that is kept.
 fn change_last(transcript: &mut Transcript, keeps_ticket: bool) {
     let mut entries = transcript.asked.take().into_vec();
     if let Some(entry) = entries.last_mut() {
@@ -71,6 +77,7 @@ fn change_last(transcript: &mut Transcript, keeps_ticket: bool) {
     transcript.asked = Items::from_vec(entries);
 }
 
+/// Gives the first operation of a session this outcome, or none.
 fn change_first(transcript: &mut Transcript, outcome: Option<Outcome>) {
     let mut entries = transcript.asked.take().into_vec();
     if let Some(entry) = entries.first_mut() {
@@ -127,14 +134,32 @@ fn change_session(transcript: &mut Transcript, change: Change) -> Result<(), Fai
         Change::NoTicket => change_last(transcript, false),
         Change::OneMore => ask_more(transcript, None)?,
         Change::Untold => ask_more(transcript, Some(Outcome::InUse))?,
+        Change::Reversed => reverse(transcript),
         _ => {}
     }
     Ok(())
 }
 
+fn reverse(transcript: &mut Transcript) {
+    let mut entries = transcript.asked.take().into_vec();
+    entries.reverse();
+    transcript.asked = Items::from_vec(entries);
+}
+
 fn repeat_name(log: &mut NodeLog) -> Result<(), Fail> {
     let name = *log.opening.names.get().first().ok_or("no name")?;
     log.opening.names.push(name)?;
+    Ok(())
+}
+
+/// Puts the arrival of a P1a last that asks for a ballot of a round that no node began.
+fn add_unsent(log: &mut NodeLog) -> Result<(), Fail> {
+    let message = Message::P1a(ballot((9, 1))?);
+    log.inputs.push(Input::Arrive(Envelope {
+        from: node(1)?,
+        to: log.opening.me,
+        message,
+    }))?;
     Ok(())
 }
 
@@ -144,6 +169,11 @@ pub fn make_change(run: &mut Run, change: Change) -> Result<(), Fail> {
         Change::Nothing => Ok(()),
         Change::WithoutP2a(place) => leave_out_p2a(run.logs.get_mut(place).ok_or("no log")?),
         Change::NameTwice => repeat_name(run.logs.get_mut(0).ok_or("no log")?),
+        Change::NoWindow => {
+            run.logs.get_mut(0).ok_or("no log")?.opening.window = 0;
+            Ok(())
+        }
+        Change::Unsent(place) => add_unsent(run.logs.get_mut(place).ok_or("no log")?),
         Change::Twice => name_twice(run),
         Change::AsOne => as_one(run),
         Change::Blank => {

@@ -1,6 +1,7 @@
 //! Audits whose requests for memory are refused in turn.
 
-use crate::runs::{Found, Plan, audited, play};
+use crate::runs::{Plan, audited, play};
+use audit::AuditError;
 use refusing::Refusal;
 use samples::{Heap, Scenario, check, requests};
 use std::test::Fail;
@@ -27,9 +28,9 @@ impl Scenario for Audited {
         let found = audited(heap, &run);
         heap.grant_all();
         let expected = if heap.has_refused() {
-            Found::Memory
+            Some(AuditError::Memory)
         } else {
-            Found::Legal
+            None
         };
         check(found == expected, "another finding")
     }

@@ -24,15 +24,6 @@ pub struct Plan {
     pub sessions: &'static [(usize, &'static str)],
 }
 
-/// What an audit finds.
-#[derive(Clone, Copy, Debug, PartialEq, Eq)]
-pub enum Found {
-    Legal,
-    NoOrder(u8),
-    WrongAnswer(usize),
-    Memory,
-}
-
 fn served<A: Allocator + Copy>(
     alloc: A,
     nodes: &mut Nodes<A>,
@@ -72,22 +63,9 @@ pub fn play<A: Allocator + Copy>(alloc: A, plan: Plan) -> Result<Run<A>, Fail> {
     Ok(Run { logs, transcripts })
 }
 
-fn found_by(error: AuditError) -> Found {
-    match error {
-        AuditError::NoOrder(node) => Found::NoOrder(node.get()),
-        AuditError::WrongAnswer(session) => Found::WrongAnswer(session),
-        AuditError::Memory => Found::Memory,
-    }
-}
-
-pub fn audited<A: Allocator + Copy>(alloc: A, run: &Run<A>) -> Found {
-    match audit(alloc, &run.logs, &run.transcripts) {
-        Ok(events) => {
-            drop(events);
-            Found::Legal
-        }
-        Err(error) => found_by(error),
-    }
+/// Why an audit gives no events, if it doesn't.
+pub fn audited<A: Allocator + Copy>(alloc: A, run: &Run<A>) -> Option<AuditError> {
+    audit(alloc, &run.logs, &run.transcripts).err()
 }
 
 /// The events of a legal order.

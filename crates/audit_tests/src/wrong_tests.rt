@@ -1,8 +1,9 @@
 //! What an audit finds where logs or transcripts tell something else than what happened.
 
 use crate::changes::{Change, make_change};
-use crate::runs::{Found, Plan, audited, play};
-use samples::check;
+use crate::runs::{Plan, audited, play};
+use audit::AuditError::{self, NoOrder, WrongAnswer};
+use samples::{check, node};
 use std::alloc::Global;
 use std::test::Fail;
 
@@ -44,7 +45,8 @@ const CRASHED: Plan = Plan {
     sessions: &[(1, LINES)],
 };
 
-type Row = (Plan, Change, Found);
+/// What is changed of what is left of a plan, and why the audit then gives no events, if it doesn't.
+type Row = (Plan, Change, Option<AuditError>);
 
 fn check_rows(alloc: Global, rows: &[Row]) -> Result<(), Fail> {
     for (plan, what, expected) in rows {
@@ -58,22 +60,27 @@ fn check_rows(alloc: Global, rows: &[Row]) -> Result<(), Fail> {
 #[test]
 fn what_happened_is_legal(rt: HostRuntime) -> Result<(), Fail> {
     let rows = [
-        (ALONE, Change::Nothing, Found::Legal),
-        (APART, Change::Nothing, Found::Legal),
-        (CRASHED, Change::Nothing, Found::Legal),
-        (TWO, Change::Nothing, Found::Legal),
-        (ALONE, Change::NoOutcome, Found::Legal),
-        (ALONE, Change::OneMore, Found::Legal),
+        (ALONE, Change::Nothing, None),
+        (APART, Change::Nothing, None),
+        (CRASHED, Change::Nothing, None),
+        (TWO, Change::Nothing, None),
+        (ALONE, Change::NoOutcome, None),
+        (ALONE, Change::OneMore, None),
     ];
     check_rows(rt.alloc(), rows.as_slice())
 }
 
 #[test]
 fn what_could_not_come_has_no_order(rt: HostRuntime) -> Result<(), Fail> {
+    let (first, second, third) = (node(1)?, node(2)?, node(3)?);
     let rows = [
-        (SECOND, Change::WithoutP2a(1), Found::NoOrder(1)),
-        (ALONE, Change::NoTicket, Found::NoOrder(1)),
-        (ALONE, Change::NameTwice, Found::NoOrder(1)),
+        (SECOND, Change::WithoutP2a(1), Some(NoOrder(first))),
+        (ALONE, Change::NoTicket, Some(NoOrder(first))),
+        (ALONE, Change::Reversed, Some(NoOrder(first))),
+        (ALONE, Change::NameTwice, Some(NoOrder(first))),
+        (ALONE, Change::NoWindow, Some(NoOrder(first))),
+        (SECOND, Change::Unsent(1), Some(NoOrder(second))),
+        (SECOND, Change::Unsent(2), Some(NoOrder(third))),
     ];
     check_rows(rt.alloc(), rows.as_slice())
 }
@@ -81,10 +88,10 @@ fn what_could_not_come_has_no_order(rt: HostRuntime) -> Result<(), Fail> {
 #[test]
 fn what_was_told_otherwise_is_wrong(rt: HostRuntime) -> Result<(), Fail> {
     let rows = [
-        (ALONE, Change::OtherOutcome, Found::WrongAnswer(0)),
-        (ALONE, Change::Untold, Found::WrongAnswer(0)),
-        (TWO, Change::Twice, Found::WrongAnswer(1)),
-        (APART, Change::AsOne, Found::WrongAnswer(0)),
+        (ALONE, Change::OtherOutcome, Some(WrongAnswer(0))),
+        (ALONE, Change::Untold, Some(WrongAnswer(0))),
+        (TWO, Change::Twice, Some(WrongAnswer(1))),
+        (APART, Change::AsOne, Some(WrongAnswer(0))),
     ];
     check_rows(rt.alloc(), rows.as_slice())
 }
