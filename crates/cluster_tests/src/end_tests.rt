@@ -3,7 +3,7 @@ ghost use Rattle.std.specs.Prelude.{◌≡◌, IsTrue};
 ghost use Rattle.maildrop.specs.Name.{are_different};
 
 use crate::clients::{new_accounts, new_client, new_page};
-use crate::services::{node, setup_of};
+use crate::services::{end_watch, node, setup_of, start_watch};
 use cluster::{Cluster, Deployment, InboxLink, Link, NodeDesk, Setup};
 use maildrop::Op;
 use samples::{alice, check};
@@ -13,6 +13,7 @@ use std::marker::Brand;
 use std::sync::Wait;
 use std::test::Fail;
 use std::thread::Threads;
+use std::time::Clock;
 
 /// A client that asks the desk for nothing, so that no node need lead.
 const LINES: &[u8] = b"QUIT\r\n";
@@ -74,15 +75,10 @@ fn check_second(transcripts: &[Option<Transcript>]) -> Result<(), Fail> {
     check(first.is_none() && second.is_some(), "another one is served")
 }
 
-fn ends<D: Deployment + Send + Sync + 'static, R: Threads + Wait + Copy + Send + Sync + 'static>(
-    rt: R,
-    alloc: Global,
-    setup: &Setup,
-) -> Result<(), Fail>
-    requires deployment { setup.now ≡ D.setup }
-    requires names { IsTrue (are_different setup.now.names) }
-{
-    let cluster = Nodes::<D, R>::start(rt, alloc, setup)?;
+/// A cluster of which something is asked stops, and gives the logs of all its nodes.
+fn stops<D: Deployment + Send + Sync + 'static, R: Threads + Wait + Copy + Send + Sync + 'static>(
+    cluster: Nodes<D, R>,
+) -> Result<(), Fail> {
     let mut desk = cluster.desk(node(2)?)?.ok_or("no desk")?;
     cluster.tick(node(2)?);
     let logs = cluster.stop();
@@ -90,14 +86,40 @@ fn ends<D: Deployment + Send + Sync + 'static, R: Threads + Wait + Copy + Send +
         logs.len() == 3 && !logs[1].inputs.is_empty(),
         "a log is missing",
     )?;
-    check_stopped(&mut desk)?;
-    let cluster = Nodes::<D, R>::start(rt, alloc, setup)?;
+    check_stopped(&mut desk)
+}
+
+/// A cluster of which something is asked is let go.
+fn is_let_go<
+    D: Deployment + Send + Sync + 'static,
+    R: Threads + Wait + Copy + Send + Sync + 'static,
+>(rt: R, alloc: Global, cluster: Nodes<D, R>) -> Result<(), Fail> {
     let mut desk = cluster.desk(node(2)?)?.ok_or("no desk")?;
     check_second(&served(rt, alloc, &cluster)?)?;
     check_fourth(&cluster)?;
     check_crash(&cluster)?;
     drop(cluster);
     check_stopped(&mut desk)
+}
+
+/// Both clusters are watched to their ends and beyond: a desk whose node is left in place would be asked in vain.
+fn ends<
+    D: Deployment + Send + Sync + 'static,
+    R: Threads + Wait + Clock + Copy + Send + Sync + 'static,
+>(rt: R, alloc: Global, setup: &Setup) -> Result<(), Fail>
+    requires deployment { setup.now ≡ D.setup }
+    requires names { IsTrue (are_different setup.now.names) }
+{
+    let cluster = Nodes::<D, R>::start(rt, alloc, setup)?;
+    let watch = start_watch(rt, alloc, &cluster)?;
+    let outcome = stops(cluster);
+    end_watch(&rt, watch);
+    outcome?;
+    let cluster = Nodes::<D, R>::start(rt, alloc, setup)?;
+    let watch = start_watch(rt, alloc, &cluster)?;
+    let outcome = is_let_go(rt, alloc, cluster);
+    end_watch(&rt, watch);
+    outcome
 }
 
 /// Once a cluster has stopped, or is let go, its desks answer that they have stopped. While it runs, one of its nodes

@@ -24,3 +24,5 @@ mod services;
 mod session_tests;
 #[cfg(test)]
 mod takeover_tests;
+#[cfg(test)]
+mod thread_tests;
