@@ -6,10 +6,10 @@ unsafe extern "C" {
     fn bench_nodes(pairs: u64) -> u64;
 }
 
-/// Pairs of commands of the runs: few, many, and some more than these.
+/// Pairs of commands of the runs: few, many, and twice as many, so that what the last ones cost is half of the longest run.
 const FEW: u64 = 500;
 const MANY: u64 = 50_000;
-const MORE: u64 = 60_000;
+const MORE: u64 = 2 * MANY;
 
 /// Has so many pairs of commands performed, and prints the milliseconds of processor time, and the most memory that the process had
 /// besides what it had before, in bytes.
@@ -53,9 +53,10 @@ pub fn tell() {
     let commands = |pairs: u64| 2.0 * pairs as f64;
     let each = |time: f64, pairs: u64| time * 1e3 / commands(pairs);
     println!(
-        "{:<40} {:>10.2} us a command   the first 1,000: {:.2}   from the 100,000th on: {:.2}",
+        "{:<40} {:>10.2} us a command   {:.0} a second   the first 1,000: {:.2}   the second 100,000: {:.2}",
         "Three nodes, 100,000 commands",
         each(many, MANY),
+        1e6 / each(many, MANY),
         each(few, FEW),
         each(more - many, MORE - MANY)
     );
