@@ -1,5 +1,5 @@
 //! A writer, and the replies that are gathered for it.
-ghost use Rattle.std.specs.Prelude.{◌≡◌, ◌≤◌, [], ◌++◌, length, take, IfOk, OnOk};
+ghost use Rattle.std.specs.Prelude.{◌≡◌, ◌≤◌, [], ◌++◌, true, length, take, IsErr, IfOk, OnOk, IfErr};
 ghost use Rattle.std.specs.Io.KnownBytes.{Keeps, Appends, append_known};
 
 use std::alloc::Global;
@@ -39,6 +39,9 @@ impl<W: Write> Replies<W> {
             (append_known (W.contents self.old.writer) self.old.gathered.items)
             (append_known (W.contents self.new.writer) self.new.gathered.items)) }
         ensures all { OnOk result (self.new.gathered.items ≡ []) }
+        ensures failed { IfErr result (λ _. self.new.has_failed ≡ true) }
+        ensures spent { self.old.has_failed ≡ true → IsErr result }
+        ensures most { self.new.most ≡ self.old.most }
     {
         if self.has_failed {
             return Err(failed());
@@ -58,6 +61,9 @@ impl<W: Write> Replies<W> {
         ensures said { IfOk result (λ count. Appends
             (append_known (W.contents self.old.writer) self.old.gathered.items)
             (append_known (W.contents self.new.writer) self.new.gathered.items) (take count bytes.now)) }
+        ensures failed { IfErr result (λ _. self.new.has_failed ≡ true) }
+        ensures spent { self.old.has_failed ≡ true → IsErr result }
+        ensures most { self.new.most ≡ self.old.most }
     {
         self.write_out()?;
         let taken = self.writer.write(bytes);
@@ -72,6 +78,9 @@ impl<W: Write> Replies<W> {
         ensures said { IfOk result (λ count. Appends
             (append_known (W.contents self.old.writer) self.old.gathered.items)
             (append_known (W.contents self.new.writer) self.new.gathered.items) (take count reply.now)) }
+        ensures failed { IfErr result (λ _. self.new.has_failed ≡ true) }
+        ensures spent { self.old.has_failed ≡ true → IsErr result }
+        ensures most { self.new.most ≡ self.old.most }
     {
         if self.has_failed {
             return Err(failed());
