@@ -2,18 +2,21 @@
 
 use crate::desks::{desk_of_two, lone_stamp};
 use apop::Accounts;
-use maildrop::Op;
-use session::{End, Gate, Transcript, serve};
+use maildrop::{Name, Op, Outcome, Ticket};
+use server::LoneDesk;
+use session::{Desk, DeskStopped, End, Gate, Transcript, serve};
 use std::alloc::Global;
 use std::cell::RefCell;
 use std::io;
 use std::io::Write;
+use std::process::Abort;
 use std::test::Fail;
 
-/// What happened, a letter each: `(` a line is entered, `)` it is left, `w` a reply is written.
+/// What happened, a letter each: `(` a line is entered, `)` it is left, `w` a reply is written, `d` the desk is asked or
+/// told something.
 type Events = RefCell<String>;
 
-fn tell(events: &Events, letter: char) {
+fn note(events: &Events, letter: char) {
     if let Ok(mut events) = events.try_borrow_mut() {
         let _ = events.push(letter);
     }
@@ -32,11 +35,11 @@ impl Gate for Watched<'_> {
     ghost leaves = { λ _ _. ⊤ };
 
     fn enter(&mut self) {
-        tell(self.events, '(');
+        note(self.events, '(');
     }
 
     fn leave(&mut self) {
-        tell(self.events, ')');
+        note(self.events, ')');
     }
 }
 
@@ -49,7 +52,7 @@ struct Replies<'a> {
 
 impl Write for Replies<'_> {
     fn write(&mut self, buf: &[u8]) -> io::Result<usize> {
-        tell(self.events, 'w');
+        note(self.events, 'w');
         if self.left == 0 {
             return Err(io::Error::from(io::ErrorKind::BrokenPipe));
         }
@@ -62,11 +65,38 @@ impl Write for Replies<'_> {
     }
 }
 
+/// The desk of two messages. Only while a line is heard, or at a hangup, it is asked or told anything, so its letters
+/// show when a line is heard.
+#[derive(Drop)]
+struct NotedDesk<'a> {
+    events: &'a Events,
+    inner: LoneDesk,
+}
+
+impl Desk<Op, Outcome> for NotedDesk<'_> {
+    ghost use Rattle.std.specs.Prelude.{⊤};
+
+    ghost gives = { λ _ _ _. ⊤ };
+
+    fn ask(&mut self, name: Name, op: Op) -> Result<(Ticket, Outcome), DeskStopped> {
+        note(self.events, 'd');
+        self.inner.ask(name, op)
+    }
+
+    fn tell(&mut self, name: Name, op: Op) -> Result<Ticket, DeskStopped> {
+        note(self.events, 'd');
+        self.inner.tell(name, op)
+    }
+}
+
 /// What happens in a session of these lines, whose writer takes so many replies, and the transcript.
 fn served(alloc: Global, mut lines: &[u8], replies: usize) -> Result<(String, Transcript), Fail> {
     let accounts = Accounts::read(alloc, b"alice pass s\n")?;
-    let mut desk = desk_of_two(alloc)?;
     let events = RefCell::new(String::new(alloc));
+    let mut desk = NotedDesk {
+        events: &events,
+        inner: desk_of_two(alloc)?,
+    };
     let mut writer = Replies {
         events: &events,
         left: replies,
@@ -84,23 +114,46 @@ fn served(alloc: Global, mut lines: &[u8], replies: usize) -> Result<(String, Tr
     );
     drop(gate);
     drop(writer);
+    drop(desk);
     Ok((events.into_inner(), transcript))
+}
+
+/// Checks what happens in each session: its lines, how many replies its writer takes, and the letters.
+fn assert_events(rt: &impl Abort, alloc: Global, rows: &[(&str, usize, &str)]) -> Result<(), Fail> {
+    for (lines, replies, expected) in rows {
+        let (events, _transcript) = served(alloc, lines.as_bytes(), *replies)?;
+        assert_eq!(rt; events.as_str(), *expected, "{lines:?}");
+    }
+    Ok(())
 }
 
 /// A reply is written between the entering of its line and its leaving, and a line whose reply was not written whole is
 /// not left. The greeting is no line's.
 #[test]
 fn a_gate_holds_each_line_and_its_reply(rt: HostRuntime) -> Result<(), Fail> {
-    for (lines, replies, expected) in [
-        ("USER alice\r\nPASS s\r\nDELE 1\r\n", 9, "w(w)(w)(w)"),
+    let rows = [
+        ("NOOP\r\nNOOP\r\nNOOP\r\n", 9, "w(w)(w)(w)"),
         ("NOOP\r\nQUIT\r\nNOOP\r\n", 9, "w(w)(w)"),
         ("NOOP\r\nNOOP\r\n", 1, "w(w"),
         ("NOOP\r\n", 0, "w"),
-    ] {
-        let (events, _transcript) = served(rt.alloc(), lines.as_bytes(), replies)?;
-        assert_eq!(rt; events.as_str(), expected, "{lines:?}");
-    }
-    Ok(())
+    ];
+    assert_events(&rt, rt.alloc(), &rows)
+}
+
+/// A line is heard behind the entering of the gate, and before its reply is written: the desk is asked between the two
+/// by the line that takes the lock and by the one that gives it back. The Free of a hangup is no line's.
+#[test]
+fn a_gate_is_entered_before_its_line_is_heard(rt: HostRuntime) -> Result<(), Fail> {
+    let rows = [
+        ("USER alice\r\nPASS s\r\nDELE 1\r\n", 9, "w(w)(dw)(w)d"),
+        (
+            "USER alice\r\nPASS s\r\nDELE 1\r\nQUIT\r\n",
+            9,
+            "w(w)(dw)(w)(dw)",
+        ),
+        ("USER alice\r\nPASS s\r\n", 2, "w(w)(dwd"),
+    ];
+    assert_events(&rt, rt.alloc(), &rows)
 }
 
 /// The entries of a login and of a client that hangs up.

@@ -61,15 +61,12 @@ impl Scenario for Served {
             && rest.iter().all(|byte| *byte == 0)
             && is_end(heap, transcript.end, count == self.replies.len());
         let (got, given) = locks_of(&transcript);
-        let is_given = got == given || matches!(refusal, Refusal::All { .. });
         let (_, outcome) = desk.perform(alice()?, Op::Take).ok_or("no ticket")?;
-        let is_free = matches!(&outcome, Outcome::Taken(_)) == (got == given);
+        let is_free = matches!(&outcome, Outcome::Taken(_));
         drop(outcome);
         check(is_front, "other replies, or another end")?;
-        check(
-            is_given && is_free,
-            "a lock is kept that memory was there to give back",
-        )
+        check(got == given, "a lock is not given back")?;
+        check(is_free, "the desk holds a lock")
     }
 }
 
