@@ -1,23 +1,43 @@
 //! Each input of a node, with each of its requests for memory refused.
 
-use ballot::{Ballot, Envelope, Memory, Message};
+use ballot::{Envelope, Items, Memory, Message, PValue, Promise, Vote};
 use maildrop::{Command, Op, Shared, SharedCommand};
 use node::{Input, Node, Outputs, Stopped};
 use refusing::Refusal;
 use samples::{
-    Heap, Scenario, alice, check, limits, name, node, node_ticket, refuse, requests, slot, three,
+    Heap, Scenario, alice, ballot, check, limits, name, node, node_ticket, refuse, requests, slot,
+    three,
 };
 use std::test::Fail;
+
+/// A message between nodes. Its command is the Take for alice that is submitted first.
+#[derive(Clone, Copy, Debug)]
+enum Told {
+    /// The Take is proposed for slot 2.
+    Propose,
+    /// The first ballot of node 1 is asked for.
+    P1a,
+    /// The first ballot of node 2 is promised, by a node that accepted the Take for slot 1 under that of node 1.
+    P1b,
+    /// The Take is to be accepted for slot 1 under the first ballot of node 1.
+    P2a,
+    /// A vote for the first ballot of node 2 in slot 1.
+    P2b,
+    /// The Take is decided for slot 1.
+    Decision,
+    /// The decision of slot 1 is asked for.
+    Ask,
+}
 
 /// An input of node 2 among three.
 #[derive(Clone, Copy, Debug)]
 enum Given {
     /// A Take for this user.
     Take(&'static str),
-    /// The first ballot of node 1 is asked for, of this node.
-    P1a(u8),
-    /// The Take for alice that was submitted first is decided, for slot 1.
-    Decision,
+    /// A message of this node comes.
+    Gets(u8, Told),
+    /// A message of node 1 that is for node 3.
+    Astray(Told),
     Tick,
     Campaign,
     Crash,
@@ -32,37 +52,38 @@ type Row = (Given, Expected, u64);
 
 /// Tickets are counted by user, a message to another node brings nothing, and a crash is the end. An answer is held from
 /// the decision on, so that each later stop has one to drop.
-const ROWS: [Row; 10] = [
+const ROWS: &[Row] = &[
     (Given::Take("alice"), Ok(("ppp", Some(1), false)), 11),
     (Given::Take("bob"), Ok(("ppp", Some(1), false)), 3),
     (Given::Take("alice"), Ok(("ppp", Some(2), false)), 3),
-    (Given::P1a(2), Ok(("b", None, false)), 2),
-    (Given::P1a(3), Ok(("", None, false)), 1),
+    (Given::Gets(1, Told::P1a), Ok(("b", None, false)), 2),
+    (Given::Astray(Told::P1a), Ok(("", None, false)), 1),
     (Given::Tick, Ok(("pppppppppddd", None, false)), 5),
-    (Given::Decision, Ok(("", None, true)), 3),
+    (Given::Gets(1, Told::Decision), Ok(("", None, true)), 3),
     (Given::Campaign, Ok(("aaa", None, true)), 2),
     (Given::Crash, Ok(("", None, false)), 1),
     (Given::Tick, Err(Stopped::Crashed), 0),
 ];
 
-/// A message of node 1.
-fn arrive<'h>(
-    to: u8,
-    message: Message<SharedCommand<Heap<'h>>, Heap<'h>>,
-) -> Result<Input<Heap<'h>>, Fail> {
-    Ok(Input::Arrive(Envelope {
-        from: node(1)?,
-        to: node(to)?,
-        message,
-    }))
-}
+/// Two of three promises make a leader, which asks for what it was told was accepted, and two of three votes decide.
+const LED: &[Row] = &[
+    (Given::Campaign, Ok(("aaa", None, false)), 3),
+    (Given::Gets(1, Told::P1b), Ok(("", None, false)), 3),
+    (Given::Gets(3, Told::P1b), Ok(("AAA", None, false)), 6),
+    (Given::Gets(1, Told::Propose), Ok(("AAA", None, false)), 2),
+    (Given::Gets(1, Told::P2b), Ok(("", None, false)), 1),
+    (Given::Gets(3, Told::P2b), Ok(("DDD", None, false)), 2),
+];
 
-fn first_ballot() -> Result<Ballot, Fail> {
-    Ok(Ballot {
-        round: 0,
-        leader: node(1)?,
-    })
-}
+/// An acceptor answers, a decision is told once it is known, and a command that wasn't submitted here has no answer.
+const HEARD: &[Row] = &[
+    (Given::Gets(1, Told::P2a), Ok(("B", None, false)), 4),
+    (Given::Gets(3, Told::Ask), Ok(("", None, false)), 0),
+    (Given::Gets(1, Told::Decision), Ok(("", None, false)), 3),
+    (Given::Gets(3, Told::Ask), Ok(("D", None, false)), 2),
+    (Given::Gets(1, Told::P1a), Ok(("b", None, false)), 4),
+    (Given::Gets(3, Told::Decision), Ok(("", None, false)), 0),
+];
 
 /// The Take for alice that is submitted first.
 fn first_take<'h>(heap: Heap<'h>) -> Result<SharedCommand<Heap<'h>>, Fail> {
@@ -74,11 +95,65 @@ fn first_take<'h>(heap: Heap<'h>) -> Result<SharedCommand<Heap<'h>>, Fail> {
     Ok(Shared::new(heap, command)?)
 }
 
+/// The Take in slot 1, under the first ballot of node 1.
+fn first_pvalue<'h>(heap: Heap<'h>) -> Result<PValue<SharedCommand<Heap<'h>>>, Fail> {
+    Ok(PValue {
+        ballot: ballot((0, 1))?,
+        slot: slot(1)?,
+        command: first_take(heap)?,
+    })
+}
+
+/// A promise of the first ballot of node 2, with what was accepted before.
+fn first_promise<'h>(heap: Heap<'h>) -> Result<Promise<SharedCommand<Heap<'h>>, Heap<'h>>, Fail> {
+    let mut accepted = Items::new(heap);
+    accepted.push(first_pvalue(heap)?)?;
+    let own = ballot((0, 2))?;
+    Ok(Promise {
+        asked: own,
+        ballot: own,
+        accepted,
+    })
+}
+
+/// A vote for the first ballot of node 2 in slot 1.
+fn first_vote() -> Result<Vote, Fail> {
+    let own = ballot((0, 2))?;
+    Ok(Vote {
+        asked: own,
+        slot: slot(1)?,
+        ballot: own,
+    })
+}
+
+fn message_of<'h>(
+    heap: Heap<'h>,
+    told: Told,
+) -> Result<Message<SharedCommand<Heap<'h>>, Heap<'h>>, Fail> {
+    Ok(match told {
+        Told::Propose => Message::Propose(slot(2)?, first_take(heap)?),
+        Told::P1a => Message::P1a(ballot((0, 1))?),
+        Told::P1b => Message::P1b(first_promise(heap)?),
+        Told::P2a => Message::P2a(first_pvalue(heap)?),
+        Told::P2b => Message::P2b(first_vote()?),
+        Told::Decision => Message::Decision(slot(1)?, first_take(heap)?),
+        Told::Ask => Message::Ask(slot(1)?),
+    })
+}
+
+fn arrive<'h>(heap: Heap<'h>, from: u8, to: u8, told: Told) -> Result<Input<Heap<'h>>, Fail> {
+    Ok(Input::Arrive(Envelope {
+        from: node(from)?,
+        to: node(to)?,
+        message: message_of(heap, told)?,
+    }))
+}
+
 fn input_of<'h>(heap: Heap<'h>, given: Given) -> Result<Input<Heap<'h>>, Fail> {
     Ok(match given {
         Given::Take(user) => Input::Submit(name(user)?, Shared::new(heap, Op::Take)?),
-        Given::P1a(to) => arrive(to, Message::P1a(first_ballot()?))?,
-        Given::Decision => arrive(2, Message::Decision(slot(1)?, first_take(heap)?))?,
+        Given::Gets(from, told) => arrive(heap, from, 2, told)?,
+        Given::Astray(told) => arrive(heap, 1, 3, told)?,
         Given::Tick => Input::Tick,
         Given::Campaign => Input::Campaign,
         Given::Crash => Input::Crash,
@@ -111,14 +186,16 @@ fn node_after<'h>(heap: Heap<'h>, rows: &[Row]) -> Result<Node<Heap<'h>>, Fail> 
     Ok(node)
 }
 
-/// The letter of a message's kind.
+/// The letter of a message's kind: a large one in phase 2, and for what is decided.
 fn letter(message: &Message<SharedCommand<Heap>, Heap>) -> u8 {
     match message {
         Message::Propose(_, _) => b'p',
         Message::P1a(_) => b'a',
         Message::P1b(_) => b'b',
+        Message::P2a(_) => b'A',
+        Message::P2b(_) => b'B',
+        Message::Decision(_, _) => b'D',
         Message::Ask(_) => b'd',
-        _ => b'?',
     }
 }
 
@@ -240,13 +317,14 @@ fn check_step<'h>(
 /// The inputs of the rows up to this place, with memory refused to the last.
 #[derive(Clone, Copy)]
 struct Played {
+    rows: &'static [Row],
     place: usize,
 }
 
 impl Scenario for Played {
     fn run(&self, heap: Heap, refusal: Refusal) -> Result<(), Fail> {
-        let before = ROWS.get(..self.place).ok_or("no rows")?;
-        let row = *ROWS.get(self.place).ok_or("no row")?;
+        let before = self.rows.get(..self.place).ok_or("no rows")?;
+        let row = *self.rows.get(self.place).ok_or("no row")?;
         let mut node = node_after(heap, before)?;
         check_step(heap, &mut node, row, refusal)
     }
@@ -254,9 +332,11 @@ impl Scenario for Played {
 
 #[test]
 fn a_refused_node_stops(rt: HostRuntime) -> Result<(), Fail> {
-    for (place, (given, _, most)) in ROWS.iter().enumerate() {
-        let made = requests(rt.alloc(), &Played { place }, *most)?;
-        println!(rt; "Node, {given:?}: {made}")?;
+    for rows in [ROWS, LED, HEARD] {
+        for (place, (given, _, most)) in rows.iter().enumerate() {
+            let made = requests(rt.alloc(), &Played { rows, place }, *most)?;
+            println!(rt; "Node, {given:?}: {made}")?;
+        }
     }
     Ok(())
 }
