@@ -65,7 +65,7 @@ pub fn tickets_name_one_submit<A: Allocator>()
 {}
 
 /// The ticket that a user got last is that of the user's last Submit, and no other input changes it. A log after which
-/// a user has no ticket left has as many inputs as there are tickets.
+/// a user has no ticket left has at least as many inputs as there are tickets.
 pub fn tickets_last<A: Allocator>()
     ensures last { (log : NodeLog A) (user : List ℕ) (op : Op A) →
         last_ticket log.opening.me user (logged log (Submit user op)).inputs ≡ ticket_of log (Submit user op) }
@@ -74,8 +74,8 @@ pub fn tickets_last<A: Allocator>()
     ensures used { (log : NodeLog A) (i : Input A) → no_ticket_for log i ≡ true → LAST_TICKET ≤ length log.inputs }
 {}
 
-/// A node begins without a crash, and a crash is for good: it sends and answers nothing, and no input behind it changes or
-/// sends anything.
+/// A node begins as its opening says, and a crash is for good: it sends and answers nothing, and no input behind it
+/// changes or sends anything.
 pub fn crashes_are_for_good<A: Allocator>()
     ensures opening { (opening : Opening A) → replayed (record { opening = opening; inputs = [] }) ≡ new_node opening }
     ensures sends { (log : NodeLog A) → sends_of log Crash ≡ [] }

@@ -132,7 +132,7 @@ impl<A: Allocator + Copy> Node<A> {
     }
 
     /// Whether the answer to the user's command with this ticket is there. It is there once the node has performed the
-    /// command, if that was submitted here, until it is taken or the node stops.
+    /// command, if the command was submitted here before, until it is taken or the node stops.
     pub fn has_answer(&self, user: Name, ticket: Ticket) -> bool
         ensures value { result ≡ is_some (answer_of (record { user = user; ticket = ticket }) self.now.awaited) }
         ensures stopped { IfSome self.now.stopped (λ _. result ≡ false) }
