@@ -2,3 +2,6 @@ pub mod FirstLine
 pub mod Playing
 pub mod Ending
 pub mod Telling
+pub mod Places
+pub mod Arrivals
+pub mod Marks

@@ -137,7 +137,7 @@ module _ {A : Type 0} where
   Settles next zero p told = AreOutcomesTold p told
   Settles next (suc n) p told = (t : Told A) × AreOutcomesTold p t × SettlesBy (Settles next n) t (next t.play) told
 
-  -- what a node has performed is told; that it is down, where there is no such node
+  -- what a node has performed is told; that it is down, where there is no such node. Of one that has crashed either may be
   abbrev pub IsOrderTold : ℕ → Play A → Told A → Type 0
   IsOrderTold node p told =
       ((performed : List (ℕ × maildrop.Command A)) × (performed_by p.world.service node ≡ Some performed) × (told ≡ record { play = p; text = order_lines node performed }))

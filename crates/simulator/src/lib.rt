@@ -2,6 +2,7 @@
 #![tactic(auto)]
 
 mod bounded;
+mod deliveries;
 mod events;
 mod fault;
 mod operations;
@@ -9,6 +10,7 @@ mod play;
 mod refusal;
 mod report;
 mod run;
+mod service;
 mod sessions;
 mod sim;
 mod subject;

@@ -7,6 +7,7 @@ use crate::events::event_of;
 use crate::operations::Operations;
 use crate::refusal::refusal_of;
 use crate::report::Report;
+use crate::service::Service;
 use crate::sessions::Sessions;
 use crate::subject::{Subject, subject_of};
 use crate::undelivered::Route;
@@ -16,12 +17,12 @@ use maildrop::CommandId;
 use script::{Command, Refusal, Settings};
 use std::alloc::Global;
 use std::marker::Model;
-use world::{Config, Event, SessionId, World};
+use world::{Config, Event, SessionId};
 
 /// A service that a script drives, and what of it is still to be written.
 #[derive(Drop)]
 pub(crate) struct Play {
-    world: World,
+    service: Service,
     operations: Operations,
     sessions: Sessions,
     /// `settle` and `storm` look at messages from this place on.
@@ -34,7 +35,7 @@ impl Model for Play {
 
     ghost Value = { Play Global };
 
-    ghost view = { λ p. record { world = p.world; shown = p.sessions; first = p.first } };
+    ghost view = { λ p. record { world = p.service; shown = p.sessions; first = p.first } };
 }
 
 impl Play {
@@ -52,7 +53,7 @@ impl Play {
             window: settings.window().get(),
         };
         Ok(Play {
-            world: World::new(alloc, config)?,
+            service: Service::new(alloc, config)?,
             operations: Operations::new(alloc),
             sessions: Sessions::new(alloc),
             first: 0,
@@ -63,7 +64,7 @@ impl Play {
     fn tell_replies(&mut self, session: SessionId, report: &mut Report) -> Result<(), Memory>
         ensures { OnOk result (spec.IsWritten (spec.replies_told session self.old (client_of session self.old.world.service.clients)) self.new report.old report.new) }
     {
-        match self.world.replies(session) {
+        match self.service.world().replies(session) {
             Some(replies) => self.sessions.write_replies(session, replies, report),
             None => Ok(()),
         }
@@ -75,7 +76,7 @@ impl Play {
     {
         match subject {
             Subject::Session(session) => self.tell_replies(session, report),
-            Subject::Operation(node, user) => self.operations.add(&self.world, node, user),
+            Subject::Operation(node, user) => self.operations.add(self.service.world(), node, user),
             Subject::Nodes => Ok(()),
         }
     }
@@ -85,7 +86,7 @@ impl Play {
         ensures { OnOk result (spec.IsWritten (spec.given self.old event) self.new report.old report.new) }
     {
         let subject = subject_of(&event);
-        match self.world.step(event) {
+        match self.service.step(event) {
             Ok(()) => self.tell(subject, report),
             Err(refused) => report.refusal(refusal_of(refused)?),
         }
@@ -97,7 +98,7 @@ impl Play {
     {
         let (user, ticket) = id.get();
         let (node, _) = ticket.get();
-        match self.world.take_outcome(node, user, ticket) {
+        match self.service.take_outcome(node, user, ticket) {
             Some(outcome) => report.outcome(&user, ticket, &outcome),
             None => Ok(()),
         }
@@ -116,7 +117,7 @@ impl Play {
     fn write_outcomes(&mut self, alloc: Global, report: &mut Report) -> Result<(), Memory>
         ensures { OnOk result (spec.Tells (spec.AreOutcomesTold self.old) self.new report.old report.new) }
     {
-        let due = self.operations.take_due(alloc, &self.world)?;
+        let due = self.operations.take_due(alloc, self.service.world())?;
         self.write_each(due.as_slice(), report)
     }
 
@@ -125,9 +126,10 @@ impl Play {
         ensures { OnOk result (spec.IsWritten (spec.all_collected self.old) self.new report.old report.new) }
     {
         for _ in 0..self.sessions.len() {
+            let world = self.service.world();
             // No message stands behind the last one, so what comes next is an answer.
-            let behind = self.world.sent().len();
-            let Some(event) = self.world.next_oldest(behind) else {
+            let behind = world.sent().len();
+            let Some(event) = world.next_oldest(behind) else {
                 return Ok(());
             };
             self.give(event, report)?;
@@ -141,7 +143,7 @@ impl Play {
     {
         for _ in 0..limit {
             self.write_outcomes(alloc, report)?;
-            let Some(event) = self.world.next_oldest(self.first) else {
+            let Some(event) = self.service.world().next_oldest(self.first) else {
                 return Ok(());
             };
             self.give(event, report)?;
@@ -162,7 +164,7 @@ impl Play {
     {
         for _ in 0..limit {
             self.write_outcomes(alloc, report)?;
-            let Some(event) = self.world.next_newest(self.first, copies) else {
+            let Some(event) = self.service.world().next_newest(self.first, copies) else {
                 return Ok(());
             };
             self.give(event, report)?;
@@ -174,7 +176,7 @@ impl Play {
     fn deliver(&mut self, route: Route, report: &mut Report) -> Result<(), Memory>
         ensures { OnOk result (spec.IsWritten (spec.delivered self.old route) self.new report.old report.new) }
     {
-        match route.first_undelivered(self.world.sent()) {
+        match self.service.first_undelivered(route) {
             Some(place) => self.give(Event::Arrive(place), report),
             None => report.refusal(Refusal::NotSent),
         }
@@ -184,7 +186,7 @@ impl Play {
     fn order(&self, node: NodeId, report: &mut Report) -> Result<(), Memory>
         ensures { OnOk result (spec.Tells (spec.IsOrderTold node self.now) self.now report.old report.new) }
     {
-        match self.world.performed(node) {
+        match self.service.world().performed(node) {
             Some(performed) => report.order(node, performed),
             None => report.refusal(Refusal::Down),
         }
@@ -194,7 +196,7 @@ impl Play {
     fn lose(&mut self)
         ensures { self.new ≡ spec.lost self.old }
     {
-        self.first = self.world.sent().len();
+        self.first = self.service.world().sent().len();
     }
 
     /// A command that is one event.

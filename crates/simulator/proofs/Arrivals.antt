@@ -1,0 +1,158 @@
+-- What was sent stays, and arrives more and more often.
+use Rattle.std.proofs.Common.{◌≡◌, ℕ, zero, suc, ◌+◌, ◌-◌, ◌≤◌, List, [], ◌∷◌, ◌++◌, Bool, true, false, Option, Some, None, refl, sym, ap, ◌∙◌, subst, ⊎_elim, arith, cond, set, length}
+use Rattle.std.specs.Prelude.{slice_get, Result, Ok, Err, OnOk, OnErr}
+use Rattle.node.specs.Nodes.{logged}
+use Rattle.node.specs.Replay.{sends_of}
+use Rattle.node.specs.declared.input.Input.{Input}
+use Rattle.node.specs.declared.input.Input.TheVariants.{Submit, Arrive, Tick, Campaign, Crash}
+use Rattle.node.specs.declared.log.NodeLog.{NodeLog}
+use Rattle.world.specs.Clients.{Client, client_of}
+use Rattle.world.specs.Interrupted.{IsInterrupted, IsItsCrashed, IsAddresseeCrashed}
+use Rattle.world.specs.Messages.{Network, NodeEvent, Submits, Arrives, Ticks, Campaigns, Crashes, log_of, is_up, newly_sent, taken_by, takes, with_arrival, arrives, happens, happen}
+use Rattle.world.specs.Refusals.{step_refusal}
+use Rattle.world.specs.Worlds.{World, stepped}
+use Rattle.world.specs.declared.refused.Refused.{Refused}
+use Rattle.world.specs.Services as service
+use Rattle.world.specs.Services.{Service, Happening, Occurs, Lost}
+use Rattle.world.specs.declared.config.Config.{Config}
+use Rattle.world.specs.declared.event.Event.{Event}
+use Rattle.world.specs.declared.event.Event.TheVariants as event
+use Rattle.world.specs.declared.sent.Sent.{Sent}
+use Rattle.world.proofs.ServiceRuns.{happens_follows}
+
+module _ {A : Type 0} where
+  -- the message is still there, and has arrived as often at least
+  pub record Stays (s : Sent A) (o : Option (Sent A)) : Type 0 where
+    pub now : Sent A
+    pub there : o ≡ Some now
+    pub same : now.envelope ≡ s.envelope
+    pub often : s.arrived ≤ now.arrived
+
+  pub record Grows (old new : List (Sent A)) : Type 0 where
+    pub longer : length old ≤ length new
+    pub each : (k : ℕ) (s : Sent A) → slice_get old k ≡ Some s → Stays s (slice_get new k)
+
+  unmoved : (ss : List (Sent A)) → Grows ss ss
+  unmoved ss = record { longer = omega arith; each = λ k s e. record { now = s; there = e; same = refl; often = omega arith } }
+
+  on : (a b c : List (Sent A)) → Grows a b → Grows b c → Grows a c
+  on a b c p q = record {
+    longer = omega (arith, p.longer, q.longer);
+    each = λ k s e.
+        let x = p.each k s e in
+        let y = q.each k x.now x.there in
+        record { now = y.now; there = y.there; same = y.same ∙ x.same; often = omega (arith, x.often, y.often) };
+  }
+
+  got_before : (ss ts : List (Sent A)) (k : ℕ) (s : Sent A) → slice_get ss k ≡ Some s → slice_get (ss ++ ts) k ≡ Some s
+  got_before [] ts k s e = absurd (cc)
+  got_before (x ∷ ss) ts zero s e = e
+  got_before (x ∷ ss) ts (suc k) s e = got_before ss ts k s e
+
+  longer_by : (ss ts : List (Sent A)) → length ss ≤ length (ss ++ ts)
+  longer_by [] ts = omega arith
+  longer_by (x ∷ ss) ts = let rest = longer_by ss ts in omega (arith, rest)
+
+  more : (ss ts : List (Sent A)) → Grows ss (ss ++ ts)
+  more ss ts = record { longer = longer_by ss ts; each = λ k s e. record { now = s; there = got_before ss ts k s e; same = refl; often = omega arith } }
+
+  one_arrival : (which : ℕ) (ss : List (Sent A)) (k : ℕ) (s : Sent A) → slice_get ss k ≡ Some s → Stays s (slice_get (with_arrival which ss) k)
+  one_arrival which [] k s e = absurd (cc)
+  one_arrival zero (x ∷ ss) zero s e =
+      let same : x ≡ s = cc e in
+      record { now = record { envelope = x.envelope; arrived = x.arrived + 1 }; there = refl; same = ap (λ (y : Sent A). y.envelope) same; often = let n : x.arrived ≡ s.arrived = ap (λ (y : Sent A). y.arrived) same in omega (arith, n) }
+  one_arrival zero (x ∷ ss) (suc k) s e = record { now = s; there = e; same = refl; often = omega arith }
+  one_arrival (suc which) (x ∷ ss) zero s e = record { now = s; there = e; same = refl; often = omega arith }
+  one_arrival (suc which) (x ∷ ss) (suc k) s e = one_arrival which ss k s e
+
+  as_long : (which : ℕ) (ss : List (Sent A)) → length ss ≡ length (with_arrival which ss)
+  as_long which [] = refl
+  as_long zero (x ∷ ss) = refl
+  as_long (suc which) (x ∷ ss) = ap suc (as_long which ss)
+
+  arrived : (which : ℕ) (ss : List (Sent A)) → Grows ss (with_arrival which ss)
+  arrived which ss = record { longer = let n = as_long which ss in omega (arith, n); each = one_arrival which ss }
+
+  takes_grow : (w : Network A) (n : ℕ) (i : Input A) → Grows w.sent (takes w n i).sent
+  takes_grow w n i =
+      go (log_of n w.logs)
+    where
+      go : (o : Option (NodeLog A)) → Grows w.sent (taken_by w n i o).sent
+      go None = unmoved w.sent
+      go (Some log) =
+          one (is_up (Some log))
+        where
+          one : (t : Bool) → Grows w.sent (cond t (record { logs = set w.logs (n - 1) (logged log i); sent = w.sent ++ newly_sent (sends_of log i) }) w).sent
+          one true = more w.sent (newly_sent (sends_of log i))
+          one false = unmoved w.sent
+
+  arrives_grow : (w : Network A) (k : ℕ) (o : Option (Sent A)) → Grows w.sent (arrives w k o).sent
+  arrives_grow w k None = unmoved w.sent
+  arrives_grow w k (Some s) =
+      go (is_up (log_of s.envelope.to w.logs))
+    where
+      counted : Network A
+      counted = record { logs = w.logs; sent = with_arrival k w.sent }
+
+      go : (t : Bool) → Grows w.sent (cond t (takes counted s.envelope.to (Arrive s.envelope)) w).sent
+      go true = on w.sent counted.sent (takes counted s.envelope.to (Arrive s.envelope)).sent (arrived k w.sent) (takes_grow counted s.envelope.to (Arrive s.envelope))
+      go false = unmoved w.sent
+
+  happens_grow : (w : Network A) (e : NodeEvent A) → Grows w.sent (happens w e).sent
+  happens_grow w (Submits n name op) = takes_grow w n (Submit name op)
+  happens_grow w (Arrives k) = arrives_grow w k (slice_get w.sent k)
+  happens_grow w (Ticks n) = takes_grow w n Tick
+  happens_grow w (Campaigns n) = takes_grow w n Campaign
+  happens_grow w (Crashes n) = takes_grow w n Crash
+
+  happen_grow : (w : Network A) (es : List (NodeEvent A)) → Grows w.sent (happen w es).sent
+  happen_grow w [] = unmoved w.sent
+  happen_grow w (e ∷ es) = on w.sent (happens w e).sent (happen (happens w e) es).sent (happens_grow w e) (happen_grow (happens w e) es)
+
+  happening_grows : (cfg : Config A) (w : Service A) (h : Happening A) → Grows w.network.sent (service.happens cfg w h).network.sent
+  happening_grows cfg w h =
+      let next = happens_follows w cfg h in
+      subst (λ (n : Network A). Grows w.network.sent n.sent) (sym next.1) (happen_grow w.network next.0)
+
+  pub occurs_grow : (cfg : Config A) (w : Service A) (e : Event A) → Grows w.network.sent (service.occurs cfg w e).network.sent
+  occurs_grow cfg w e = happening_grows cfg w (Occurs e)
+
+  follows_grow : (cfg : Config A) (w later : Service A) (h : Happening A) → later ≡ service.happens cfg w h → Grows w.network.sent later.network.sent
+  follows_grow cfg w later h is = subst (λ (v : Service A). Grows w.network.sent v.network.sent) (sym is) (happening_grows cfg w h)
+
+  its_grow : (cfg : Config A) (w later : Service A) (c : Option (Client A)) → IsItsCrashed cfg c w later → Grows w.network.sent later.network.sent
+  its_grow cfg w later None is = absurd is
+  its_grow cfg w later (Some c) is = follows_grow cfg w later (Occurs (event.Crash c.node)) is
+
+  addressee_grow : (cfg : Config A) (w later : Service A) (s : Option (Sent A)) → IsAddresseeCrashed cfg s w later → Grows w.network.sent later.network.sent
+  addressee_grow cfg w later None is = absurd is
+  addressee_grow cfg w later (Some s) is = follows_grow cfg w later (Occurs (event.Crash s.envelope.to)) is
+
+  pub interrupted_grow : (cfg : Config A) (e : Event A) (w later : Service A) → IsInterrupted cfg e w later → Grows w.network.sent later.network.sent
+  interrupted_grow cfg (event.Connect session node stamp) w later is = subst (λ (v : Service A). Grows w.network.sent v.network.sent) (sym is) (unmoved w.network.sent)
+  interrupted_grow cfg (event.Line session line) w later is =
+      ⊎_elim (λ lost. follows_grow cfg w later (Lost session) lost) (λ crashed. its_grow cfg w later (client_of session w.clients) crashed) is
+  interrupted_grow cfg (event.Hangup session) w later is = its_grow cfg w later (client_of session w.clients) is
+  interrupted_grow cfg (event.Collect session) w later is = follows_grow cfg w later (Lost session) is
+  interrupted_grow cfg (event.Mail node user text key) w later is = follows_grow cfg w later (Occurs (event.Crash node)) is
+  interrupted_grow cfg (event.Break node user) w later is = follows_grow cfg w later (Occurs (event.Crash node)) is
+  interrupted_grow cfg (event.Arrive which) w later is = addressee_grow cfg w later (slice_get w.network.sent which) is
+  interrupted_grow cfg (event.Tick node) w later is = follows_grow cfg w later (Occurs (event.Crash node)) is
+  interrupted_grow cfg (event.Campaign node) w later is = follows_grow cfg w later (Occurs (event.Crash node)) is
+  interrupted_grow cfg (event.Crash node) w later is = follows_grow cfg w later (Occurs (event.Crash node)) is
+
+  -- whatever an event came to, messages stay
+  pub step_grows : (w later : World A) (e : Event A) (result : Result (Unit {0}) Refused) → ((reason : Refused) → step_refusal w.config w.service e ≡ Some reason → later ≡ w)
+      → OnOk result (later ≡ stepped w e) → (step_refusal w.config w.service e ≡ None → OnErr result (IsInterrupted w.config e w.service later.service))
+      → Grows w.service.network.sent later.service.network.sent
+  step_grows w later e result unchanged happened cut =
+      go (step_refusal w.config w.service e) refl result happened cut
+    where
+      moves : World A → Type 0
+      moves v = Grows w.service.network.sent v.service.network.sent
+
+      go : (o : Option Refused) → step_refusal w.config w.service e ≡ o → (r : Result (Unit {0}) Refused) → OnOk r (later ≡ stepped w e)
+          → (step_refusal w.config w.service e ≡ None → OnErr r (IsInterrupted w.config e w.service later.service)) → moves later
+      go (Some reason) is r a b = subst moves (sym (unchanged reason is)) (unmoved w.service.network.sent)
+      go None is (Ok done) a b = subst moves (sym a) (occurs_grow w.config w.service e)
+      go None is (Err error) a b = interrupted_grow w.config e w.service later.service (b is)
