@@ -2,6 +2,7 @@
 
 use crate::host::Host;
 use crate::idle::{Idle, Seat};
+use ballot::Memory;
 use std::alloc::Global;
 use std::net::{Shutdown, TcpStream};
 use std::sync::{Arc, Mutex, Wait};
@@ -13,11 +14,14 @@ const STACK: usize = 262_144;
 /// The places of threads that have ended.
 pub(crate) type Ended = Arc<Mutex<Vec<usize>>>;
 
+/// A connection until it has been served. Then there is nothing, so that it is closed although its thread isn't joined yet.
+type Held = Arc<Mutex<Option<Arc<TcpStream>>>>;
+
 /// A thread, and its connection where that is to be cut at the end.
 #[derive(Drop)]
 struct Post {
     thread: JoinHandle<()>,
-    stream: Option<Arc<TcpStream>>,
+    held: Option<Held>,
 }
 
 /// The threads of a port's connections, at most so many at a time. One that has served its connection waits for another,
@@ -36,15 +40,20 @@ pub(crate) struct Crew {
 struct Worker<H: Host> {
     host: H,
     seat: Seat,
+    /// What its post has of the connection, where that is to be cut at the end.
+    held: Option<Held>,
     ended: Ended,
     place: usize,
 }
 
 impl<H: Host> Worker<H> {
-    /// Serves a connection to its end, and closes it.
-    fn serve(&mut self, stream: Arc<TcpStream>) {
+    /// Serves a connection to its end, and closes it: a client that still sends what nobody reads is not to wait for ever.
+    fn serve<R: Wait>(&mut self, rt: &R, stream: Arc<TcpStream>) {
         self.host.serve(&stream);
         let _closed = stream.shutdown(Shutdown::Both);
+        if let Some(held) = &self.held {
+            *held.lock(rt) = None;
+        }
     }
 
     /// The next connection. One that is to be cut at the end has a thread of its own.
@@ -62,7 +71,7 @@ impl<H: Host> Worker<H> {
             let Some(stream) = next.take() else {
                 break;
             };
-            self.serve(stream);
+            self.serve(rt, stream);
             next = self.next(rt);
         }
         // There is room: it was made with the place.
@@ -127,7 +136,7 @@ impl Crew {
             return;
         };
         if let Some(stream) = self.idle.hand(&rt, stream) {
-            self.add(rt, stream, host);
+            self.add(rt, alloc, stream, host);
         }
     }
 
@@ -135,13 +144,14 @@ impl Crew {
     fn add<R: Threads + Wait + Copy + Send + 'static, H: Host + Send + Drop + 'static>(
         &mut self,
         rt: R,
+        alloc: Global,
         stream: Arc<TcpStream>,
         host: &H,
     ) {
         let Some(place) = self.place(&rt) else {
             return;
         };
-        match self.start(rt, stream, host, place) {
+        match self.start(rt, alloc, stream, host, place) {
             Some(post) => {
                 if let Some(slot) = self.posts.get_mut(place) {
                     *slot = Some(post);
@@ -157,33 +167,33 @@ impl Crew {
     fn start<R: Threads + Wait + Copy + Send + 'static, H: Host + Send + Drop + 'static>(
         &self,
         rt: R,
+        alloc: Global,
         stream: Arc<TcpStream>,
         host: &H,
         place: usize,
     ) -> Option<Post> {
+        let (held, theirs) = if host.is_cut_at_the_end() {
+            let (held, theirs) = hold(alloc, &stream).ok()?;
+            (Some(held), Some(theirs))
+        } else {
+            (None, None)
+        };
         let mut worker = Worker {
             host: host.share().ok()?,
             seat: self.idle.seat().ok()?,
+            held: theirs,
             ended: Arc::try_clone(&self.ended).ok()?,
             place,
-        };
-        let kept = if host.is_cut_at_the_end() {
-            Some(Arc::try_clone(&stream).ok()?)
-        } else {
-            None
         };
         let thread = Builder::new()
             .stack_size(STACK)
             .spawn(&rt, move || worker.run(&rt, stream))
             .ok()?;
-        Some(Post {
-            thread,
-            stream: kept,
-        })
+        Some(Post { thread, held })
     }
 
     /// Joins all threads. Connections that are to be cut hear nothing more.
-    pub(crate) fn end<R: Threads>(self, rt: &R) {
+    pub(crate) fn end<R: Threads + Wait>(self, rt: &R) {
         let Crew {
             posts,
             free: _,
@@ -192,7 +202,7 @@ impl Crew {
             most: _,
         } = self;
         drop(idle);
-        cut(&posts);
+        cut(rt, &posts);
         for post in posts {
             if let Some(post) = post {
                 post.thread.join(rt);
@@ -201,12 +211,27 @@ impl Crew {
     }
 }
 
+/// A connection that is to be cut at the end, for its post and for its thread.
+fn hold(alloc: Global, stream: &Arc<TcpStream>) -> Result<(Held, Held), Memory> {
+    let stream = Arc::try_clone(stream)?;
+    let held = Arc::new(alloc, Mutex::new(Some(stream)))?;
+    let theirs = Arc::try_clone(&held)?;
+    Ok((held, theirs))
+}
+
+/// Lets a connection hear nothing more, unless it has been served.
+fn cut_one<R: Wait>(rt: &R, held: &Held) {
+    if let Some(stream) = &*held.lock(rt) {
+        let _closed = stream.shutdown(Shutdown::Read);
+    }
+}
+
 /// Lets the connections that are to be cut hear nothing more.
-fn cut(posts: &[Option<Post>]) {
+fn cut<R: Wait>(rt: &R, posts: &[Option<Post>]) {
     for post in posts {
         if let Some(post) = post {
-            if let Some(stream) = &post.stream {
-                let _closed = stream.shutdown(Shutdown::Read);
+            if let Some(held) = &post.held {
+                cut_one(rt, held);
             }
         }
     }

@@ -1,4 +1,5 @@
 //! Takes the connections of a port.
+ghost use Rattle.std.specs.Prelude.{◌≡◌, IfErr};
 
 use crate::arrivals::Arrivals;
 use crate::board::Board;
@@ -31,7 +32,9 @@ pub(crate) struct Port {
 
 impl Port {
     /// Listens at a port of this machine.
-    pub(crate) fn open<R: System>(rt: &R, number: u16, most: usize) -> Result<Port, Fault> {
+    pub(crate) fn open<R: System>(rt: &R, number: u16, most: usize) -> Result<Port, Fault>
+        ensures { IfErr result (λ fault. fault ≡ Fault.Listen number) }
+    {
         match TcpListener::bind(rt, local(number)) {
             Ok(listener) => Ok(Port { listener, most }),
             Err(_) => Err(Fault::Listen(number)),

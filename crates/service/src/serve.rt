@@ -1,11 +1,13 @@
 //! `maildropd serve`: nodes, sessions and an operator's port in one process.
-ghost use Rattle.std.specs.Prelude.{◌≡◌, ◌≤◌, ◌++◌, ◌∷◌, [], IsTrue, IsErrOf, IfOk, OnOk, map};
+ghost use Rattle.std.specs.Prelude.{◌≡◌, ◌≤◌, ◌++◌, ◌∷◌, [], ◌⊎◌, Ok, Some, IsTrue, IsErrOf, IfOk, IfErr, OnOk, map};
 ghost use Rattle.std.specs.Io.KnownBytes.{Appends};
 ghost use Rattle.service.specs.Options as spec;
+ghost use Rattle.service.specs.Faults as faults;
 ghost use Rattle.service.specs.Verdicts as verdicts;
 ghost use Rattle.service.specs.declared.verdict.Verdict.TheVariants.{Legal};
 ghost use Rattle.std.specs.List.{All};
 ghost use Rattle.cluster.specs.Members.{IsLogOf};
+ghost use Rattle.apop.specs.Accounts as table;
 ghost use Rattle.apop.specs.Accounts.{name_of};
 ghost use Rattle.maildrop.specs.Name.{are_different};
 
@@ -35,7 +37,30 @@ use std::time::{Clock, Duration};
 /// The node that asks to lead as soon as the service starts.
 const FIRST_LEADER: u8 = 1;
 
-/// The accounts of a file.
+/// What is told of an accounts file that is refused.
+fn fault_of(error: AccountsError) -> Fault
+    ensures { result ≡ faults.fault_of error }
+{
+    match error {
+        AccountsError::Line(line) => Fault::Account(line),
+        AccountsError::Twice(line) => Fault::NameTwice(line),
+        AccountsError::Memory => Fault::Memory,
+    }
+}
+
+/// The accounts of a file of these bytes.
+fn accounts_in(alloc: Global, bytes: &[u8]) -> Result<Accounts, Fault>
+    ensures value { IfOk result (λ accounts. table.accounts_of bytes.now ≡ Ok accounts) }
+    ensures refused { IfErr result
+        (λ fault. (fault ≡ Fault.Memory) ⊎ (faults.fault_in (table.accounts_of bytes.now) ≡ Some fault)) }
+{
+    match Accounts::read(alloc, bytes) {
+        Ok(accounts) => Ok(accounts),
+        Err(error) => Err(fault_of(error)),
+    }
+}
+
+/// The accounts of the file of this path.
 fn accounts_of<R: Files>(rt: &R, alloc: Global, path: &str) -> Result<Accounts, Fault> {
     let mut bytes = Vec::new(alloc);
     let read = match std::fs::open(rt, path) {
@@ -43,15 +68,9 @@ fn accounts_of<R: Files>(rt: &R, alloc: Global, path: &str) -> Result<Accounts, 
         Err(error) => Err(error),
     };
     match read {
-        Ok(_) => {}
-        Err(error) if error.kind() == io::ErrorKind::OutOfMemory => return Err(Fault::Memory),
-        Err(_) => return Err(Fault::Read),
-    }
-    match Accounts::read(alloc, bytes.as_slice()) {
-        Ok(accounts) => Ok(accounts),
-        Err(AccountsError::Line(line)) => Err(Fault::Account(line)),
-        Err(AccountsError::Twice(line)) => Err(Fault::NameTwice(line)),
-        Err(AccountsError::Memory) => Err(Fault::Memory),
+        Ok(_) => accounts_in(alloc, bytes.as_slice()),
+        Err(error) if error.kind() == io::ErrorKind::OutOfMemory => Err(Fault::Memory),
+        Err(_) => Err(Fault::Read),
     }
 }
 

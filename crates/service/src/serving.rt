@@ -1,4 +1,6 @@
 //! The threads of a service, from its start to its end.
+ghost use Rattle.std.specs.Prelude.{IfErr};
+ghost use Rattle.service.specs.Faults.{IsPortFault};
 
 use crate::board::Board;
 use crate::fault::Fault;
@@ -36,7 +38,9 @@ impl Ports {
         rt: &R,
         alloc: Global,
         settings: &Settings,
-    ) -> Result<Ports, Fault> {
+    ) -> Result<Ports, Fault>
+        ensures { IfErr result (λ fault. IsPortFault settings.now fault) }
+    {
         let mut numbers = Vec::new(alloc);
         let mut pop = Vec::new(alloc);
         for node in 1..=settings.cluster.get() {
