@@ -1,13 +1,14 @@
 //! POP3 clients of a service, and raw connections to it.
 
 use std::alloc::Global;
+use std::io;
 use std::io::{Read, Write};
 use std::net::{Ipv4Addr, Net, Shutdown, SocketAddr, TcpStream};
 use std::test::Fail;
 use std::time::Duration;
 
 /// How many seconds a client waits for what it is told. A test that meets this bound fails.
-const PATIENCE: u64 = 30;
+pub const PATIENCE: u64 = 30;
 
 /// What each greeting begins with.
 pub const GREETING: &[u8] = b"+OK POP3 server ready <";
@@ -37,6 +38,35 @@ pub fn read_all(alloc: Global, stream: &TcpStream) -> Result<Vec<u8>, Fail> {
     let mut bytes = Vec::new(alloc);
     reader.read_to_end(&mut bytes)?;
     Ok(bytes)
+}
+
+/// What a client hears that comes to a port at which nobody takes connections any more: nothing. Before the port is closed
+/// the system may still give it a connection, which then ends, or is reset.
+pub fn heard_at_last<R: Net<Stream = TcpStream>>(
+    rt: &R,
+    alloc: Global,
+    port: u16,
+) -> Result<Vec<u8>, Fail> {
+    let mut heard = Vec::new(alloc);
+    let mut stream = match rt.connect(local(port)) {
+        Ok(stream) => stream,
+        Err(error) if is_end(&error) => return Ok(heard),
+        Err(error) => return Err(Fail::from(error)),
+    };
+    stream.set_read_timeout(Some(Duration::from_secs(PATIENCE)))?;
+    match stream.read_to_end(&mut heard) {
+        Ok(_) => Ok(heard),
+        Err(error) if is_end(&error) => Ok(heard),
+        Err(error) => Err(Fail::from(error)),
+    }
+}
+
+/// Whether an error says that nobody listens at a port, or does any more.
+fn is_end(error: &io::Error) -> bool {
+    matches!(
+        error.kind(),
+        io::ErrorKind::ConnectionRefused | io::ErrorKind::ConnectionReset
+    )
 }
 
 /// Reads so many lines, and gives the last one.

@@ -2,7 +2,7 @@
 
 use crate::plays::Row::{Asks, Ctl, Misled, Operator, Says, Shows};
 use crate::plays::{STOP, Scene, play};
-use crate::running::start;
+use crate::running::{file, remove, start};
 use std::test::*;
 
 const REQUESTS: Scene = Scene {
@@ -50,7 +50,8 @@ const REQUESTS: Scene = Scene {
         ),
         // What a POP3 client is told answers no operator.
         Misled(1, 1),
-        Shows("\nnode 2 up passive slot "),
+        // Four slots were decided: one for each `break` above that names node 1 and a user.
+        Shows("node 1 up active slot 5\nnode 2 up passive slot "),
         STOP,
     ],
 };
@@ -105,4 +106,27 @@ fn deliveries_are_refused(rt: HostRuntime) -> Result<(), Fail> {
     let alloc = rt.alloc();
     let service = start!(rt, alloc, DELIVERIES.accounts);
     play(&rt, alloc, service, &DELIVERIES)
+}
+
+/// A file that is no mailbox: it has no From line.
+const NO_MAILBOX: &[u8] = b"hello\n";
+
+/// How many bytes it has in all. A connection of which little is read holds far fewer.
+const MANY: usize = 16_000_000;
+
+/// The service refuses a file by its first bytes, while most of it was not sent yet, and the operator is told so.
+#[test]
+fn a_large_file_is_refused_early(rt: HostRuntime) -> Result<(), Fail> {
+    let alloc = rt.alloc();
+    let service = start!(rt, alloc, "alice pass s3\n");
+    let mut bytes = Vec::new(alloc);
+    bytes.extend_from_slice(NO_MAILBOX)?;
+    bytes.resize(MANY, b'x')?;
+    let path = file(&rt, alloc, "large", bytes.as_slice())?;
+    let told = service.ctl(&rt, alloc, &["deliver", "1", "alice", path.as_str()]);
+    remove(&rt, path.as_str());
+    assert!(rt; told.is(3, b"bad mbox\n"));
+    let (status, _) = service.stop(&rt, alloc)?;
+    assert_eq!(rt; status, 0);
+    Ok(())
 }

@@ -1,6 +1,6 @@
 //! Scenes: what operators and POP3 clients do at a service, row by row, and what each is told.
 
-use crate::clients::{GREETING, answer, connect, line_after, read_all, send};
+use crate::clients::{GREETING, answer, connect, heard_at_last, line_after, read_all, send};
 use crate::running::{Running, ctl, file, remove};
 use std::alloc::Global;
 use std::io::{Eprint, Read};
@@ -28,6 +28,8 @@ pub enum Row {
     Asks(&'static str, &'static str),
     /// A client comes to a node, and is greeted.
     Comes(u16),
+    /// A client comes to a node in vain: it is not greeted, and its connection ends, if it gets one.
+    Refused(u16),
     /// A client comes to the operator's port.
     Operator,
     /// This client sends these bytes, and hears those.
@@ -147,6 +149,11 @@ impl Stage {
         is_greeting(self.alloc, line.as_slice(), self.greeted)
     }
 
+    /// Whether a client comes to a node in vain.
+    fn is_refused<R: Net<Stream = TcpStream>>(&self, rt: &R, node: u16) -> Result<bool, Fail> {
+        Ok(heard_at_last(rt, self.alloc, self.service.node(node))?.is_empty())
+    }
+
     /// A client comes to the operator's port.
     fn come_as_operator<R: Net<Stream = TcpStream>>(&mut self, rt: &R) -> Result<bool, Fail> {
         self.clients.push(connect(rt, self.service.ctl_port)?)?;
@@ -190,6 +197,7 @@ impl Stage {
             Row::Misled(node, status) => Ok(self.is_misled(rt, node, status)),
             Row::Asks(bytes, lines) => self.answers(rt, bytes, lines),
             Row::Comes(node) => self.come(rt, node),
+            Row::Refused(node) => self.is_refused(rt, node),
             Row::Operator => self.come_as_operator(rt),
             Row::Says(number, bytes, wanted) => self.says(number, bytes, wanted),
             Row::Ends(number) => self.ends(number),

@@ -1,26 +1,34 @@
 //! Services that run while a test looks on.
 
-use crate::clients::local;
+use crate::clients::{PATIENCE, local};
 use service::{ServeOptions, ctl_run, serve_run};
 use std::alloc::Global;
-use std::io::{Eprint, Write};
+use std::io::{Eprint, Read, Write};
 use std::net::{Net, OpenListener, TcpListener, TcpStream};
 use std::random::RandomSource;
 use std::rt::Files;
-use std::sync::Wait;
+use std::sync::atomic::{AtomicBool, Ordering};
+use std::sync::{Arc, Wait};
 use std::test::Fail;
-use std::thread;
 use std::thread::{JoinHandle, Threads};
 use std::time::{Clock, Duration};
+use std::{io, thread};
 
 /// How often a test looks whether a service has begun, once a millisecond.
 const TURNS: u32 = 20_000;
 
+/// How often a service is started at most, each time at other ports, since somebody else may take a port before it does. A
+/// test whose service ends at once each time fails.
+pub const STARTS: u8 = 5;
+
+/// The exit status of a service that can't listen at one of its ports. It writes nothing.
+const CANNOT_LISTEN: u8 = 1;
+
 /// A service on a thread of its own.
 #[derive(Drop)]
 pub struct Running {
-    /// Node n is at this port and n more.
-    pub pop_port: u16,
+    /// Node n is at the first of these and n more.
+    ports: Ports,
     pub ctl_port: u16,
     thread: JoinHandle<(u8, Vec<u8>)>,
 }
@@ -54,24 +62,44 @@ const PORTS: u16 = 5;
 /// The first of the ports that tests use. The system takes none of them for the ends of clients.
 const FIRST_PORT: u16 = 10_000;
 
-/// Whether nobody listens at these ports.
-fn are_free<R: Net<Listener = TcpListener, Stream = TcpStream>>(rt: &R, first: u16) -> bool {
-    for more in 0..PORTS {
-        if TcpListener::bind(rt, local(first.saturating_add(more))).is_err() {
-            return false;
-        }
-    }
-    true
+/// Five ports, one behind another. Nobody listened at the last four when they were looked for. The first is kept as long as
+/// this is, so that no other test takes any of them.
+#[derive(Drop)]
+pub struct Ports {
+    pub first: u16,
+    kept: TcpListener,
 }
 
-/// Five ports that nobody listens at, one behind another: gives the first.
-pub fn free_ports<R: Net<Listener = TcpListener, Stream = TcpStream>>(rt: &R) -> Result<u16, Fail> {
+impl Ports {
+    /// The port of the operator, behind those of three nodes.
+    fn ctl(&self) -> u16 {
+        self.first.saturating_add(4)
+    }
+}
+
+/// The ports from this one on, if nobody listens at them.
+fn ports_from<R: Net<Listener = TcpListener, Stream = TcpStream>>(
+    rt: &R,
+    first: u16,
+) -> Option<Ports> {
+    let kept = TcpListener::bind(rt, local(first)).ok()?;
+    for more in 1..PORTS {
+        if TcpListener::bind(rt, local(first.saturating_add(more))).is_err() {
+            return None;
+        }
+    }
+    Some(Ports { first, kept })
+}
+
+/// Five ports that nobody listens at.
+pub fn free_ports<R: Net<Listener = TcpListener, Stream = TcpStream>>(
+    rt: &R,
+) -> Result<Ports, Fail> {
     for _ in 0..100u8 {
         let any = TcpListener::bind(rt, local(0))?;
         let place = any.local_addr()?.port() % 4_000;
-        let first = FIRST_PORT + place * PORTS;
-        if are_free(rt, first) {
-            return Ok(first);
+        if let Some(ports) = ports_from(rt, FIRST_PORT + place * PORTS) {
+            return Ok(ports);
         }
     }
     Err(Fail::from("no free ports"))
@@ -84,7 +112,7 @@ pub fn file<R: Net<Listener = TcpListener, Stream = TcpStream> + Files>(
     name: &str,
     bytes: &[u8],
 ) -> Result<String, Fail> {
-    let port = free_ports(rt)?;
+    let port = free_ports(rt)?.first;
     let path = format!(in alloc; "/tmp/maildropd-{name}-{port}")?;
     std::fs::write(rt, path.as_str(), bytes)?;
     Ok(path)
@@ -98,57 +126,34 @@ pub fn remove<R: Files>(rt: &R, path: &str) {
 /// A service that is to be started: the path of its accounts, and its ports.
 #[derive(Drop)]
 pub struct Plan {
-    pub accounts: String,
-    pub pop_port: u16,
-    pub ctl_port: u16,
+    accounts: String,
+    pop_port: u16,
+    ctl_port: u16,
+    has_ended: Arc<AtomicBool>,
 }
 
-/// A service of three nodes with these accounts.
+/// What a test keeps of a service that is being started.
+#[derive(Drop)]
+pub struct Site {
+    ports: Ports,
+    has_ended: Arc<AtomicBool>,
+}
+
+/// A service of three nodes with these accounts, as its thread has it and as the test.
 pub fn planned<R: Net<Listener = TcpListener, Stream = TcpStream> + Files>(
     rt: &R,
     alloc: Global,
     accounts: &str,
-) -> Result<Plan, Fail> {
-    let accounts = file(rt, alloc, "accounts", accounts.as_bytes())?;
-    let pop_port = free_ports(rt)?;
-    Ok(Plan {
-        accounts,
-        pop_port,
-        ctl_port: pop_port.saturating_add(4),
-    })
-}
-
-/// Starts a service of three nodes with these accounts, and waits until it takes requests.
-macro_rules! start {
-    ($rt:ident, $alloc:ident, $accounts:expr) => {{
-        let plan = crate::running::planned(&$rt, $alloc, $accounts)?;
-        let (pop_port, ctl_port) = (plan.pop_port, plan.ctl_port);
-        let thread = std::thread::spawn(&$rt, move || crate::running::run($rt, $alloc, &plan))
-            .map_err(|_| "no thread")?;
-        crate::running::await_start(&$rt, pop_port, ctl_port, thread)?
-    }};
-}
-
-pub(crate) use start;
-
-/// Waits until a service takes requests.
-pub fn await_start<R: Net<Listener = TcpListener, Stream = TcpStream> + Clock>(
-    rt: &R,
-    pop_port: u16,
-    ctl_port: u16,
-    thread: JoinHandle<(u8, Vec<u8>)>,
-) -> Result<Running, Fail> {
-    for _ in 0..TURNS {
-        if rt.connect(local(ctl_port)).is_ok() {
-            break;
-        }
-        thread::sleep(rt, Duration::from_millis(1));
-    }
-    Ok(Running {
-        pop_port,
-        ctl_port,
-        thread,
-    })
+) -> Result<(Plan, Site), Fail> {
+    let ports = free_ports(rt)?;
+    let has_ended = Arc::new(alloc, AtomicBool::new(false))?;
+    let plan = Plan {
+        accounts: file(rt, alloc, "accounts", accounts.as_bytes())?,
+        pop_port: ports.first,
+        ctl_port: ports.ctl(),
+        has_ended: Arc::try_clone(&has_ended)?,
+    };
+    Ok((plan, Site { ports, has_ended }))
 }
 
 /// Runs a service. Gives its exit status and what it wrote.
@@ -169,8 +174,90 @@ pub fn run<
     let options = options(plan.accounts.as_str(), plan.pop_port, plan.ctl_port);
     let status = serve_run(rt, alloc, &mut written, &options);
     remove(&rt, plan.accounts.as_str());
+    plan.has_ended.store(true, Ordering::SeqCst);
     (status, written)
 }
+
+/// What `status` is answered at a port.
+fn told_at<R: Net<Stream = TcpStream>>(rt: &R, alloc: Global, port: u16) -> io::Result<Vec<u8>> {
+    let mut stream = rt.connect(local(port))?;
+    stream.set_read_timeout(Some(Duration::from_secs(PATIENCE)))?;
+    stream.write_all(b"status\n")?;
+    let mut told = Vec::new(alloc);
+    stream.read_to_end(&mut told)?;
+    Ok(told)
+}
+
+/// Whether a service takes requests at this port.
+fn takes_requests<R: Net<Stream = TcpStream>>(rt: &R, alloc: Global, port: u16) -> bool {
+    match told_at(rt, alloc, port) {
+        Ok(told) => told.as_slice().starts_with(b"node 1 up "),
+        Err(_) => false,
+    }
+}
+
+/// Waits until a service takes requests or has ended. Gives whether it takes them.
+fn begins<R: Net<Stream = TcpStream> + Clock>(
+    rt: &R,
+    alloc: Global,
+    ctl_port: u16,
+    has_ended: &AtomicBool,
+) -> Result<bool, Fail> {
+    for _ in 0..TURNS {
+        if takes_requests(rt, alloc, ctl_port) {
+            return Ok(true);
+        }
+        if has_ended.load(Ordering::SeqCst) {
+            return Ok(false);
+        }
+        thread::sleep(rt, Duration::from_millis(1));
+    }
+    Err(Fail::from("the service does not begin"))
+}
+
+/// The service of this thread, once it takes requests. Gives none where it ends at once, as where somebody else has taken
+/// one of its ports.
+pub fn begun<R: Net<Stream = TcpStream> + Threads + Clock>(
+    rt: &R,
+    alloc: Global,
+    site: Site,
+    thread: JoinHandle<(u8, Vec<u8>)>,
+) -> Result<Option<Running>, Fail> {
+    let Site { ports, has_ended } = site;
+    let ctl_port = ports.ctl();
+    let service = Running {
+        ports,
+        ctl_port,
+        thread,
+    };
+    if begins(rt, alloc, ctl_port, &has_ended)? {
+        return Ok(Some(service));
+    }
+    match service.end(rt) {
+        (CANNOT_LISTEN, written) if written.is_empty() => Ok(None),
+        _ => Err(Fail::from("the service ends at once")),
+    }
+}
+
+/// Starts a service of three nodes with these accounts, and waits until it takes requests. A macro, since a test alone may
+/// give a thread all that a service asks of the system.
+macro_rules! start {
+    ($rt:ident, $alloc:ident, $accounts:expr) => {{
+        let mut service = None;
+        for _ in 0..crate::running::STARTS {
+            let (plan, site) = crate::running::planned(&$rt, $alloc, $accounts)?;
+            let thread = std::thread::spawn(&$rt, move || crate::running::run($rt, $alloc, &plan))
+                .map_err(|_| "no thread")?;
+            service = crate::running::begun(&$rt, $alloc, site, thread)?;
+            if service.is_some() {
+                break;
+            }
+        }
+        service.ok_or("the service ends at once, again and again")?
+    }};
+}
+
+pub(crate) use start;
 
 /// Calls `maildropd ctl` with these words.
 pub fn ctl<R: Net<Listener = TcpListener, Stream = TcpStream> + Files + Eprint>(
@@ -194,7 +281,7 @@ impl Told {
 impl Running {
     /// The port of a node.
     pub fn node(&self, number: u16) -> u16 {
-        self.pop_port.saturating_add(number)
+        self.ports.first.saturating_add(number)
     }
 
     /// Calls `maildropd ctl` with these words.

@@ -1,6 +1,6 @@
 //! What POP3 clients are told at nodes that agree: of mail that is delivered, of locks that are broken, where nodes stop.
 
-use crate::plays::Row::{Asks, Comes, Ctl, Ends, Goes, Operator, Says, Shows};
+use crate::plays::Row::{Asks, Comes, Ctl, Ends, Goes, Operator, Refused, Says, Shows};
 use crate::plays::{STOP, Scene, play};
 use crate::running::start;
 use std::test::*;
@@ -313,7 +313,63 @@ fn all_nodes_stop(rt: HostRuntime) -> Result<(), Fail> {
     play(&rt, alloc, service, &NOBODY)
 }
 
-/// A session that is open when the service is stopped goes on to its end.
+/// Two of three nodes stop, and then the service. Operators who wait for what nobody can agree on are told that their node
+/// has stopped, once the last session has ended.
+const UNDECIDED: Scene = Scene {
+    accounts: ACCOUNTS,
+    mailbox: "",
+    rows: &[
+        Comes(1),
+        Ctl("crash 2", 0, "crashed\n"),
+        Ctl("crash 3", 0, "crashed\n"),
+        Operator,
+        Says(1, "break 1 bob\n", ""),
+        Operator,
+        Says(2, "deliver 1 bob 5\nFrom ", ""),
+        Shows("\nnode 2 down\nnode 3 down\n"),
+        STOP,
+        Says(0, "STAT\r\n", "-ERR not in this state\r\n"),
+        Says(0, QUIT, BYE),
+        Ends(0),
+        Says(1, "", "down\n"),
+        Ends(1),
+        Says(2, "", "down\n"),
+        Ends(2),
+    ],
+};
+
+#[test]
+fn operators_who_wait_are_told_of_the_end(rt: HostRuntime) -> Result<(), Fail> {
+    let alloc = rt.alloc();
+    let service = start!(rt, alloc, UNDECIDED.accounts);
+    play(&rt, alloc, service, &UNDECIDED)
+}
+
+/// The leader stops, and then the service. The time of the nodes goes on until the last session has ended, so another node
+/// comes to lead, which a session needs at its end.
+const LED_ANEW: Scene = Scene {
+    accounts: ACCOUNTS,
+    mailbox: MAILBOX,
+    rows: &[
+        Ctl("deliver 2 alice FILE", 0, "op alice 2/1 stored 1\nend\n"),
+        Comes(2),
+        Says(0, ALICE, ONE),
+        Ctl("crash 1", 0, "crashed\n"),
+        STOP,
+        Says(0, "DELE 1\r\n", "+OK message 1 deleted\r\n"),
+        Says(0, QUIT, BYE),
+        Ends(0),
+    ],
+};
+
+#[test]
+fn another_node_leads_after_the_stop(rt: HostRuntime) -> Result<(), Fail> {
+    let alloc = rt.alloc();
+    let service = start!(rt, alloc, LED_ANEW.accounts);
+    play(&rt, alloc, service, &LED_ANEW)
+}
+
+/// A session that is open when the service is stopped goes on to its end. Nobody else is taken any more.
 const STILL_OPEN: Scene = Scene {
     accounts: ACCOUNTS,
     mailbox: MAILBOX,
@@ -322,6 +378,10 @@ const STILL_OPEN: Scene = Scene {
         Comes(1),
         Says(0, ALICE, ONE),
         STOP,
+        Refused(1),
+        Refused(2),
+        Refused(3),
+        Ctl("status", 1, ""),
         Says(
             0,
             "STAT\r\nDELE 1\r\n",

@@ -159,7 +159,8 @@ fn status_of<R: Net<Listener = TcpListener, Stream = TcpStream> + Files + Eprint
 
 #[test]
 fn words_are_refused(rt: HostRuntime) -> Result<(), Fail> {
-    let nobody = u64::from(free_ports(&rt)?);
+    let ports = free_ports(&rt)?;
+    let nobody = u64::from(ports.first.saturating_add(1));
     for (words, status) in WORDS {
         assert_eq!(rt;
             status_of(&rt, rt.alloc(), nobody, words)?,
@@ -192,10 +193,10 @@ fn status_with<
         + Eprint,
 >(rt: R, alloc: Global, bytes: &[u8]) -> Result<u8, Fail> {
     let path = file(&rt, alloc, "accounts", bytes)?;
-    let port = free_ports(&rt)?;
+    let ports = free_ports(&rt)?;
     let mut out = Vec::new(alloc);
     // The last node's port, so that a good file comes to nothing either.
-    let options = options(path.as_str(), port, port.saturating_add(3));
+    let options = options(path.as_str(), ports.first, ports.first.saturating_add(3));
     let status = serve_run(rt, alloc, &mut out, &options);
     remove(&rt, path.as_str());
     if !out.is_empty() {
@@ -230,10 +231,10 @@ fn accounts_are_read(rt: HostRuntime) -> Result<(), Fail> {
 fn a_port_is_in_use(rt: HostRuntime) -> Result<(), Fail> {
     let alloc = rt.alloc();
     let mut out = Vec::new(alloc);
-    let port = free_ports(&rt)?;
+    let ports = free_ports(&rt)?;
     let path = file(&rt, alloc, "good", b"alice pass s3\n")?;
-    let options = options(path.as_str(), port, port.saturating_add(4));
-    let taken = TcpListener::bind(&rt, local(port.saturating_add(2)))?;
+    let options = options(path.as_str(), ports.first, ports.first.saturating_add(4));
+    let taken = TcpListener::bind(&rt, local(ports.first.saturating_add(2)))?;
     assert_eq!(rt; serve_run(rt, alloc, &mut out, &options), 1);
     drop(taken);
     remove(&rt, path.as_str());
