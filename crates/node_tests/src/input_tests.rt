@@ -10,7 +10,7 @@ use samples::{
 };
 use std::test::Fail;
 
-/// A message between nodes. Its command is the Take for alice that is submitted first.
+/// A message between nodes. Where it has a command, that is the Take for alice which is submitted first.
 #[derive(Clone, Copy, Debug)]
 enum Told {
     /// The Take is proposed for slot 2.

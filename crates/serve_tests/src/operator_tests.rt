@@ -50,7 +50,7 @@ const REQUESTS: Scene = Scene {
         ),
         // What a POP3 client is told answers no operator.
         Misled(1, 1),
-        // Four slots were decided: one for each `break` above that names node 1 and a user.
+        // Four slots were decided: one for each `break` above that is answered `done` or `no such user`.
         Shows("node 1 up active slot 5\nnode 2 up passive slot "),
         STOP,
     ],

@@ -21,7 +21,8 @@ const TURNS: u32 = 20_000;
 /// test whose service ends at once each time fails.
 pub const STARTS: u8 = 5;
 
-/// The exit status of a service that can't listen at one of its ports. It writes nothing.
+/// The exit status of a service that can't listen at one of its ports, which writes nothing then. Other faults at a start
+/// end it so too.
 const CANNOT_LISTEN: u8 = 1;
 
 /// A service on a thread of its own.

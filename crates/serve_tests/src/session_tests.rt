@@ -314,7 +314,7 @@ fn all_nodes_stop(rt: HostRuntime) -> Result<(), Fail> {
 }
 
 /// Two of three nodes stop, and then the service. Operators who wait for what nobody can agree on are told that their node
-/// has stopped, once the last session has ended.
+/// has stopped.
 const UNDECIDED: Scene = Scene {
     accounts: ACCOUNTS,
     mailbox: "",

@@ -29,11 +29,11 @@ abbrev pub fault_in : Result (List accounts.Account) AccountsError → Option Fa
 fault_in (Ok accounts) = None
 fault_in (Err error) = Some (fault_of error)
 
--- a port of the nodes, which lie above `pop_port`
+-- a port of the nodes, which lie above `pop_port`, or the last port there is where that has none above it
 abbrev pub IsNodePort : Settings → ℕ → Type 0
 IsNodePort settings port = (min (settings.pop_port + 1) last_port ≤ port) × (port ≤ settings.pop_port + settings.cluster)
 
--- why a service has no ports: at one of them it can't listen, which is told, or there is no memory
+-- what may be told where a service has no ports: one of its ports, or want of memory
 abbrev pub IsPortFault : Settings → Fault → Type 0
 IsPortFault settings (Listen port) = (port ≡ settings.ctl_port) ⊎ IsNodePort settings port
 IsPortFault settings Memory = Unit {0}

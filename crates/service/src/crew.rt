@@ -50,6 +50,7 @@ impl<H: Host> Worker<H> {
     /// Serves a connection to its end, and closes it: a client that still sends what nobody reads is not to wait for ever.
     fn serve<R: Wait>(&mut self, rt: &R, stream: Arc<TcpStream>) {
         self.host.serve(&stream);
+        // First, so that its end reaches the client before the reset that a close with unread bytes sends.
         let _closed = stream.shutdown(Shutdown::Both);
         if let Some(held) = &self.held {
             *held.lock(rt) = None;
@@ -192,7 +193,7 @@ impl Crew {
         Some(Post { thread, held })
     }
 
-    /// Joins all threads. Connections that are to be cut hear nothing more.
+    /// Joins all threads. Connections that are to be cut are shut for reading first.
     pub(crate) fn end<R: Threads + Wait>(self, rt: &R) {
         let Crew {
             posts,
@@ -219,14 +220,14 @@ fn hold(alloc: Global, stream: &Arc<TcpStream>) -> Result<(Held, Held), Memory> 
     Ok((held, theirs))
 }
 
-/// Lets a connection hear nothing more, unless it has been served.
+/// Shuts a connection for reading, unless it has been served. What comes without a pause may still be heard.
 fn cut_one<R: Wait>(rt: &R, held: &Held) {
     if let Some(stream) = &*held.lock(rt) {
         let _closed = stream.shutdown(Shutdown::Read);
     }
 }
 
-/// Lets the connections that are to be cut hear nothing more.
+/// Shuts the connections for reading that are to be cut.
 fn cut<R: Wait>(rt: &R, posts: &[Option<Post>]) {
     for post in posts {
         if let Some(post) = post {

@@ -17,6 +17,7 @@ rank P2b = 4
 rank Decision = 5
 rank Ask = 6
 
+-- they are one kind: each has a place of its own
 abbrev pub same_kind : MessageKind → MessageKind → Bool
 same_kind kind other = rank kind == rank other
 
@@ -38,6 +39,6 @@ module _ {A : Type 0} where
     pub within : place ≤ length sent
     pub each : (k : ℕ) (s : Sent A) → k < place → slice_get sent k ≡ Some s → is_next route s ≡ false
 
-  -- each of these does so for its route
+  -- before the place of each mark all messages of its route have arrived
   pub record AreMarks (sent : List (Sent A)) (marks : List Mark) : Type 0 where
     pub each : (k : ℕ) (mark : Mark) → slice_get marks k ≡ Some mark → HaveArrived mark.route mark.place sent

@@ -13,7 +13,8 @@ use std::alloc::Global;
 use std::marker::Model;
 use world::{Config, Event, Refused, World};
 
-/// A service, with how far the messages have arrived that were looked for, so that none of them is looked at again.
+/// A service, with how far the messages have arrived that were looked for, so that a search for one of a route goes on
+/// from where the last one ended.
 #[derive(Drop)]
 pub(crate) struct Service {
     world: World,
