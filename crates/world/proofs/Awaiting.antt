@@ -46,7 +46,7 @@ module _ {A : Type 0} where
   more_submits name [] more = omega arith
   more_submits name (i ∷ is) more = let rest = more_submits name is more in omega (arith, rest)
 
-  happen_logs : (w : Network A) (events : List (NodeEvent A)) (n : ℕ) (log : NodeLog A) → log_of n w.logs ≡ Some log → Logs (happen w events) n log
+  pub happen_logs : (w : Network A) (events : List (NodeEvent A)) (n : ℕ) (log : NodeLog A) → log_of n w.logs ≡ Some log → Logs (happen w events) n log
   happen_logs w [] n log at = ([], at ∙ ap (λ is. Some (record { opening = log.opening; inputs = is })) (sym (nothing_more log.inputs)))
     where
       nothing_more : (is : List (Input A)) → is ++ [] ≡ is

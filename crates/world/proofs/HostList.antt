@@ -58,6 +58,13 @@ module _ {A : Type 0} where
   pub no_log : (hosts : List (Host A)) (place n : ℕ) → place + 1 ≡ n → slice_get hosts place ≡ None → log_of n (logs_of hosts) ≡ None
   no_log hosts place n e none = log_at_place hosts place n e ∙ ap (option_map (λ (h : Host A). h.log)) none
 
+  pub none_at : (hosts : List (Host A)) (place : ℕ) → slice_get hosts place ≡ None → slice_get (logs_of hosts) place ≡ None
+  none_at hosts place none = got_log hosts place ∙ ap (option_map (λ (h : Host A). h.log)) none
+
+  pub node_at : (logs : List (NodeLog A)) (place n : ℕ) → place + 1 ≡ n → log_of n logs ≡ slice_get logs place
+  node_at logs place zero e = let no : place + 1 ≢ 0 = omega arith in absurd (no e)
+  node_at logs place (suc n) e = let same : n ≡ place = omega arith in ap (slice_get logs) same
+
   logs_set : (hosts : List (Host A)) (place : ℕ) (h : Host A) → logs_of (set hosts place h) ≡ set (logs_of hosts) place h.log
   logs_set [] place h = refl
   logs_set (x ∷ hosts) zero h = refl
@@ -68,7 +75,7 @@ module _ {A : Type 0} where
   set_same (x ∷ logs) zero log e = let same : x ≡ log = cc in ap (λ l. l ∷ logs) (sym same)
   set_same (x ∷ logs) (suc k) log e = ap (λ ls. x ∷ ls) (set_same logs k log e)
 
-  logged_at : (hosts : List (Host A)) (place : ℕ) (h : Host A) → slice_get hosts place ≡ Some h → slice_get (logs_of hosts) place ≡ Some h.log
+  pub logged_at : (hosts : List (Host A)) (place : ℕ) (h : Host A) → slice_get hosts place ≡ Some h → slice_get (logs_of hosts) place ≡ Some h.log
   logged_at hosts place h found = got_log hosts place ∙ ap (option_map (λ (h : Host A). h.log)) found
 
   abbrev pub the_network : List (NodeLog A) → List (Sent A) → Network A

@@ -441,7 +441,7 @@ module _ {A : Type 0} where
       let next : m + 1 ≡ suc m = omega arith in
       ap (new_hosts first 1) next ∙ host_last first 1 m (m + 1) same
 
-  begun_logs : (first : Opening A) (n m : ℕ) → logs_of (new_hosts first n m) ≡ new_logs first n m
+  pub begun_logs : (first : Opening A) (n m : ℕ) → logs_of (new_hosts first n m) ≡ new_logs first n m
   begun_logs first n zero = refl
   begun_logs first n (suc m) = ap (λ logs. record { opening = record first { me = n }; inputs = [] } ∷ logs) (begun_logs first (suc n) m)
 

@@ -34,7 +34,10 @@ pub mod Later
 pub mod Arrivals
 pub mod Blocks
 pub mod Searching
+pub mod News
+pub mod Watching
 pub mod Noting
+pub mod Hearing
 pub mod Nexts
 pub mod Settled
 pub mod WholeRuns
@@ -50,3 +53,4 @@ pub mod Refusing
 pub mod GivenOperations
 pub mod Awaiting
 pub mod Keeping
+pub mod CatchingUp

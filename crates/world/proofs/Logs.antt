@@ -50,7 +50,7 @@ module _ {A : Type 0} where
   log_other logs n log x e m ne = log_set logs n log x e m ∙ rw (ne_eqb m n ne) refl
 
   -- each new log is a node's of its number, and empty
-  new_log : (first : Opening A) (n m j : ℕ) (log : NodeLog A) → slice_get (new_logs first n m) j ≡ Some log → record { opening = record first { me = n + j }; inputs = [] } ≡ log
+  pub new_log : (first : Opening A) (n m j : ℕ) (log : NodeLog A) → slice_get (new_logs first n m) j ≡ Some log → record { opening = record first { me = n + j }; inputs = [] } ≡ log
   new_log first n zero j log e = absurd (cc)
   new_log first n (suc m) zero log e =
       let here : record { opening = record first { me = n }; inputs = [] } ≡ log = cc in

@@ -1,17 +1,22 @@
 -- Which sessions may await an answer, as connections change.
 use Rattle.std.proofs.Common.{◌≡◌, ℕ, zero, suc, ◌+◌, ◌<◌, ◌≤◌, List, [], ◌∷◌, Bool, true, false, Option, Some, None, refl, sym, ap, ◌∙◌, subst, inl, inr, ⊎_elim, arith, cond, eqb, length}
-use Rattle.std.specs.Prelude.{◌⊎◌, Result, Ok, Err, OnOk, OnErr, IfNone, slice_get, is_some, nat_lt}
-use Rattle.std.specs.Map.{set_value}
+use Rattle.std.specs.Prelude.{◌⊎◌, Result, Ok, Err, OnOk, OnErr, IfNone, slice_get, is_some, nat_lt, ◌==◌}
+use Rattle.std.specs.List.{position, position_or_len}
+use Rattle.std.specs.Map.{keys_of, set_value}
+use Rattle.std.proofs.lemmas.Option.{slice_get_past}
 use Rattle.std.proofs.lemmas.Bool.{eqb-true, eq-eqb, ltb-true, ltb-false}
 use Rattle.indexmap.specs.IndexMap.{insert_entry}
 use Rattle.maildrop.specs.CommandId.{CommandId}
+use Rattle.node.specs.Nodes.{answered}
+use Rattle.node.specs.declared.log.NodeLog.{NodeLog}
 use Rattle.world.specs.Clients.{standing_as, stranded}
 use Rattle.world.specs.Connections.{service_of, client_in, awaited_by}
 use Rattle.world.specs.Hosts.{Hosts, network_of}
 use Rattle.world.specs.Messages.{log_of, is_up}
 use Rattle.world.specs.Scheduling.{has_its_answer, NoneAnswered}
-use Rattle.world.specs.Waiting.{Waiting, NoneMay, NoneMayFrom, AreNoted, NoneWaits, place_of, KeepsOthers}
-use Rattle.world.specs.Worlds.{is_answered}
+use Rattle.world.proofs.Logs.{some_same}
+use Rattle.world.specs.Waiting.{Waiting, MayHave, IsWatched, WatchesBut, NoneMay, IsBehind, IsUnheard, IsUpToDate, nowhere, only_at, place_of, KeepsOthers}
+use Rattle.world.specs.Worlds.{answer_at, is_answered}
 use Rattle.world.specs.declared.connection.Connection.{Connection}
 use Rattle.world.specs.declared.connection.Standing.{Standing}
 use Rattle.world.specs.declared.connection.Standing.TheVariants.{Hears, Waits, Shut, Stranded, Over}
@@ -20,7 +25,7 @@ pub if_none : {X P : Type 0} (o : Option X) → P → IfNone o P
 if_none None p = p
 if_none (Some x) p = tt
 
-one_place : (k place : ℕ) → (k ≡ place) ⊎ (k ≡ place → ⊥)
+pub one_place : (k place : ℕ) → (k ≡ place) ⊎ (k ≡ place → ⊥)
 one_place k place =
     go (eqb k place) refl
   where
@@ -39,6 +44,23 @@ below_or k from =
     go : (t : Bool) → nat_lt k from ≡ t → (k < from) ⊎ (from ≤ k)
     go true q = inl (ltb-true k from q)
     go false q = inr (ltb-false k from q)
+
+-- where a list has what passes
+at_position : {X : Type 0} (test : X → Bool) (xs : List X) (k : ℕ) → position test xs ≡ Some k → position_or_len test xs ≡ k
+at_position test xs k e =
+    go (nat_lt (position_or_len test xs) (length xs)) e
+  where
+    go : (t : Bool) → cond t (Some (position_or_len test xs)) None ≡ Some k → position_or_len test xs ≡ k
+    go true q = some_same (position_or_len test xs) k q
+    go false q = absurd (cc q)
+
+no_position : {X : Type 0} (test : X → Bool) (xs : List X) → position test xs ≡ None → length xs ≤ position_or_len test xs
+no_position test xs e =
+    go (nat_lt (position_or_len test xs) (length xs)) refl e
+  where
+    go : (t : Bool) → nat_lt (position_or_len test xs) (length xs) ≡ t → cond t (Some (position_or_len test xs)) None ≡ None → length xs ≤ position_or_len test xs
+    go true q e = absurd (cc e)
+    go false q e = ltb-false (position_or_len test xs) (length xs) q
 
 module _ {A : Type 0} where
   -- What changes of one session leaves of the others
@@ -89,24 +111,6 @@ module _ {A : Type 0} where
   greeted_others P Q (Ok u) session es later done failed = subst (λ xs. KeepsOthers session es xs) (sym done.3) (insert_others session es done.0)
   greeted_others P Q (Err error) session es later done failed = same_others session es later failed
 
-  -- What the index says
-
-  pub nobody_noted : (es : List (ℕ × Connection A)) (w : Waiting) → es ≡ [] → AreNoted es w
-  nobody_noted es w nobody =
-      record {
-        each = λ k e at. absurd (let no : None ≡ Some e = ap (λ xs. slice_get xs k) (sym nobody) ∙ at in cc);
-      }
-
-  pub none_waits : (es : List (ℕ × Connection A)) (w : Waiting) (from to : ℕ) → AreNoted es w → NoneMay w from to → NoneWaits es from to
-  none_waits es w from to noted none = record { each = λ k e low high at. not_some (awaited_by e.1.standing) (λ waits. none.each k low high (noted.each k e at waits)) }
-
-  pub none_waits_on : (es : List (ℕ × Connection A)) (w : Waiting) (from : ℕ) → AreNoted es w → NoneMayFrom w from → NoneWaits es from (length es)
-  none_waits_on es w from noted none = record { each = λ k e low high at. not_some (awaited_by e.1.standing) (λ waits. none.each k low (noted.each k e at waits)) }
-
-  -- as far as the sessions go
-  pub none_waits_short : (es : List (ℕ × Connection A)) (from to : ℕ) → length es ≤ to → NoneWaits es from to → NoneWaits es from (length es)
-  none_waits_short es from to past none = record { each = λ k e low high at. none.each k e low (omega (arith, high, past)) at }
-
   -- What comes next
 
   idle_unanswered : (hosts : Hosts A) (es : List (ℕ × Connection A)) (c : Connection A) → awaited_by c.standing ≡ None → has_its_answer hosts es c ≡ false
@@ -130,14 +134,53 @@ module _ {A : Type 0} where
       go Over e true = refl
       go Over e false = refl
 
+  -- a session that awaits an answer which isn't there, where its node is up
+  waits_unanswered : (hosts : Hosts A) (es : List (ℕ × Connection A)) (c : Connection A) (id : CommandId) → awaited_by c.standing ≡ Some id
+      → ((log : NodeLog A) → log_of c.node (network_of hosts).logs ≡ Some log → is_up (Some log) ≡ true → is_some (answered log id) ≡ true → ⊥) → has_its_answer hosts es c ≡ false
+  waits_unanswered hosts es c id waits none =
+      go c.standing waits (log_of c.node (network_of hosts).logs) refl
+    where
+      its : Standing → Bool → Bool
+      its standing up =
+          let client = client_in (record c { standing = standing }) in
+          let seen = cond up client (standing_as client (stranded client.standing)) in
+          is_answered (service_of hosts es) seen seen.standing
+
+      absent : (log : NodeLog A) → log_of c.node (network_of hosts).logs ≡ Some log → is_up (Some log) ≡ true → (t : Bool) → is_some (answered log id) ≡ t → t ≡ false
+      absent log at up true q = absurd (none log at up q)
+      absent log at up false q = refl
+
+      here : (o : Option (NodeLog A)) → log_of c.node (network_of hosts).logs ≡ o → (t : Bool) → is_up o ≡ t → its (Waits id) t ≡ false
+      here None at true up = absurd (cc up)
+      here (Some log) at true up = ap (λ x. is_some (answer_at x id)) at ∙ ap (λ t. is_some (cond t (answered log id) None)) up ∙ absent log at up (is_some (answered log id)) refl
+      here o at false up = refl
+
+      go : (standing : Standing) → awaited_by standing ≡ Some id → (o : Option (NodeLog A)) → log_of c.node (network_of hosts).logs ≡ o → its standing (is_up (log_of c.node (network_of hosts).logs)) ≡ false
+      go Hears e o at = absurd (cc e)
+      go (Waits other) e o at =
+          let same : other ≡ id = cc e in
+          ap (λ i. its (Waits i) (is_up (log_of c.node (network_of hosts).logs))) same ∙ here (log_of c.node (network_of hosts).logs) refl (is_up (log_of c.node (network_of hosts).logs)) refl
+      go (Shut lock) e o at = absurd (cc e)
+      go Stranded e o at = absurd (cc e)
+      go Over e o at = absurd (cc e)
+
   module _ (hosts : Hosts A) (es : List (ℕ × Connection A)) where
-    pub unanswered_on : (from to : ℕ) → NoneAnswered hosts es from → NoneWaits es from to → NoneAnswered hosts es to
-    unanswered_on from to before none =
+    -- whose answer may not be there
+    absent_unanswered : (w : Waiting) (place : ℕ) (e : ℕ × Connection A) → IsUpToDate hosts es w → slice_get es place ≡ Some e → (MayHave w place → ⊥) → has_its_answer hosts es e.1 ≡ false
+    absent_unanswered w place e current at absent =
+        go (awaited_by e.1.standing) refl
+      where
+        go : (o : Option CommandId) → awaited_by e.1.standing ≡ o → has_its_answer hosts es e.1 ≡ false
+        go None q = idle_unanswered hosts es e.1 q
+        go (Some id) q = waits_unanswered hosts es e.1 id q (λ log there up some. absent (current.there place e id log at q there up some))
+
+    pub unanswered_on : (w : Waiting) (from to : ℕ) → IsUpToDate hosts es w → NoneAnswered hosts es from → NoneMay w from to → NoneAnswered hosts es to
+    unanswered_on w from to current before none =
         record {
           each = λ k e lt at.
               ⊎_elim
               (λ (low : k < from). before.each k e low at)
-              (λ (high : from ≤ k). idle_unanswered hosts es e.1 (none.each k e high lt at))
+              (λ (high : from ≤ k). absent_unanswered w k e current at (none.each k high lt))
               (below_or k from);
         }
 
@@ -150,3 +193,66 @@ module _ {A : Type 0} where
               (λ (apart : k ≡ place → ⊥). before.each k e (omega (arith, lt, apart)) at)
               (one_place k place);
         }
+
+  -- What is noted of a session
+
+  pub still_unheard : (hosts : Hosts A) (w later : Waiting) (id : CommandId) → later.heard ≡ w.heard → IsUnheard hosts w id → IsUnheard hosts later id
+  still_unheard hosts w later id same u =
+      record { node = u.node; its = u.its; log = u.log; at = u.at; up = u.up; count = u.count; heard = ap (λ hs. slice_get hs u.node) same ∙ u.heard; among = u.among }
+
+  -- an answer isn't there that isn't found
+  pub not_there : {P : Type 0} (logs : List (NodeLog A)) (node : ℕ) (id other : CommandId) (log : NodeLog A) → id ≡ other → false ≡ is_some (answer_at (log_of node logs) id)
+      → log_of node logs ≡ Some log → is_up (Some log) ≡ true → is_some (answered log other) ≡ true → P
+  not_there logs node id other log same none at up some =
+      absurd (let no : false ≡ true = none ∙ ap (λ o. is_some (answer_at o id)) at ∙ ap (λ t. is_some (cond t (answered log id) None)) up ∙ ap (λ i. is_some (answered log i)) same ∙ some in cc)
+
+  length_keys : (es : List (ℕ × Connection A)) → length (keys_of es) ≡ length es
+  length_keys [] = refl
+  length_keys (e ∷ es) = let rest = length_keys es in omega (arith, rest)
+
+  module _ (hosts : Hosts A) (es : List (ℕ × Connection A)) (session : ℕ) (w : Waiting) (behind : IsBehind (λ place. place_of session es ≡ place) hosts es w) where
+    -- a session that isn't there
+    pub nobody_noted : position (λ s. session == s) (keys_of es) ≡ None → IsBehind nowhere hosts es w
+    nobody_noted none =
+        record {
+          nodes = behind.nodes;
+          watched = λ place e id at no. behind.watched place e id at (apart place e at);
+          there = λ place e id log at no. behind.there place e id log at (apart place e at);
+        }
+      where
+        apart : (place : ℕ) (e : ℕ × Connection A) → slice_get es place ≡ Some e → place_of session es ≡ place → ⊥
+        apart place e at same =
+            let past = no_position (λ s. session == s) (keys_of es) none in
+            let count = length_keys es in
+            let beyond : length es ≤ place = omega (arith, past, count, same) in
+            absurd (cc (sym (slice_get_past es place beyond) ∙ at))
+
+    pub its_noted : (place : ℕ) (c : Connection A) (later : Waiting) → position (λ s. session == s) (keys_of es) ≡ Some place → (s : ℕ) → slice_get es place ≡ Some (s, c) → WatchesBut (only_at place) w later
+        → ((id : CommandId) → awaited_by c.standing ≡ Some id → IsWatched later place id)
+        → ((id : CommandId) (log : NodeLog A) → awaited_by c.standing ≡ Some id → log_of c.node (network_of hosts).logs ≡ Some log → is_up (Some log) ≡ true → is_some (answered log id) ≡ true → MayHave later place)
+        → IsBehind nowhere hosts es later
+    its_noted place c later found s here others own there =
+        record {
+          nodes = ap length others.heard ∙ behind.nodes;
+          watched = λ k e id at no waits.
+              ⊎_elim
+              (λ (same : k ≡ place). subst (λ j. IsWatched later j id) (sym same) (own id (ap (λ (x : ℕ × Connection A). awaited_by x.1.standing) (sym (its k e at same)) ∙ waits)))
+              (λ (apart : k ≡ place → ⊥). others.watched k id apart (behind.watched k e id at (other k apart) waits))
+              (one_place k place);
+          there = λ k e id log at no waits log_at up some.
+              ⊎_elim
+              (λ (same : k ≡ place).
+              let one : e ≡ (s, c) = its k e at same in
+              inl (subst (λ j. MayHave later j) (sym same)
+              (there id log (ap (λ (x : ℕ × Connection A). awaited_by x.1.standing) (sym one) ∙ waits) (ap (λ (x : ℕ × Connection A). log_of x.1.node (network_of hosts).logs) (sym one) ∙ log_at) up some)))
+              (λ (apart : k ≡ place → ⊥).
+              ⊎_elim (λ (may : MayHave w k). inl (others.may k apart may)) (λ (unheard : IsUnheard hosts w id). inr (still_unheard hosts w later id others.heard unheard))
+              (behind.there k e id log at (other k apart) waits log_at up some))
+              (one_place k place);
+        }
+      where
+        its : (k : ℕ) (e : ℕ × Connection A) → slice_get es k ≡ Some e → k ≡ place → e ≡ (s, c)
+        its k e at same = some_same e (s, c) (sym at ∙ ap (slice_get es) same ∙ here)
+
+        other : (k : ℕ) → (k ≡ place → ⊥) → place_of session es ≡ k → ⊥
+        other k apart same = apart (sym same ∙ at_position (λ x. session == x) (keys_of es) place found)

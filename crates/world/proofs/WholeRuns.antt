@@ -129,7 +129,7 @@ module _ {A : Type 0} where
   happens_count w (Campaigns n) = takes_count w n Campaign
   happens_count w (Crashes n) = takes_count w n Crash
 
-  happen_count : (w : Network A) (es : List (NodeEvent A)) → length (happen w es).logs ≡ length w.logs
+  pub happen_count : (w : Network A) (es : List (NodeEvent A)) → length (happen w es).logs ≡ length w.logs
   happen_count w [] = refl
   happen_count w (e ∷ es) = happen_count (happens w e) es ∙ happens_count w e
 

@@ -38,6 +38,14 @@ module _ {A : Type 0} where
   collected_by connections (event.Collect session) = awaited_in (connection_of session connections)
   collected_by connections event = None
 
+  -- the session that an event is about, if it is about one
+  abbrev pub session_of : Event A → Option ℕ
+  session_of (event.Connect session node stamp) = Some session
+  session_of (event.Line session line) = Some session
+  session_of (event.Hangup session) = Some session
+  session_of (event.Collect session) = Some session
+  session_of event = None
+
   -- the node of the command's ticket has given that ticket to the command's user
   pub record IsGiven (w : Service A) (id : CommandId) : Type 0 where
     pub log : NodeLog A

@@ -4,10 +4,11 @@ ghost use Rattle.std.specs.Map.{lookup};
 ghost use Rattle.world.specs.Connections.{service_of, AreFit, AreUntaken};
 ghost use Rattle.world.specs.Hosts.{network_of, HasAnswerAt};
 ghost use Rattle.world.specs.Interrupted.{IsInterrupted};
-ghost use Rattle.world.specs.Kept.{collected_by};
+ghost use Rattle.world.specs.Kept.{collected_by, session_of};
 ghost use Rattle.world.specs.Refusals.{refusal_of};
 ghost use Rattle.world.specs.Services.{occurs, next_id};
 ghost use Rattle.world.specs.Messages.{log_of, takes};
+ghost use Rattle.world.specs.Waiting.{KeepsOthersOf};
 ghost use Rattle.world.specs.Worlds.{operation_of};
 ghost use Rattle.node.specs.declared.log.NodeLog.{NodeLog};
 ghost use Rattle.node.specs.declared.input.Input.TheVariants.{Crash};
@@ -38,6 +39,8 @@ pub(crate) fn act<A: Allocator + Copy>(
     ensures service { OnOk result (service_of hosts.new connections.new.entries ≡ occurs config.now (service_of hosts.old connections.old.entries) event) }
     ensures err { OnErr result (IsInterrupted config.now event (service_of hosts.old connections.old.entries) (service_of hosts.new connections.new.entries)) }
     ensures fit { AreFit connections.new.entries }
+    ensures sessions { KeepsOthersOf (session_of event) connections.old.entries connections.new.entries }
+    ensures waiting { connections.new.waiting ≡ connections.old.waiting }
     ensures operations { refusal_of (service_of hosts.old connections.old.entries) event ≡ None
         → OnOk result (operations.new.entries ≡ operations.old.entries ++ operation_of (service_of hosts.old connections.old.entries) event) }
     ensures unchanged { OnErr result (operations.new.entries ≡ operations.old.entries) }

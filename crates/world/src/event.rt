@@ -1,4 +1,6 @@
 //! What a service is given to do.
+ghost use Rattle.std.specs.Prelude.{◌≡◌};
+ghost use Rattle.world.specs.Kept.{session_of};
 
 use crate::session_id::SessionId;
 use apop::Stamp;
@@ -62,4 +64,19 @@ pub enum Event<A: Allocator = Global> {
     Campaign(NodeId),
     /// A node stops, for good.
     Crash(NodeId),
+}
+
+impl<A: Allocator> Event<A> {
+    /// The session that the event is about, if it is about one.
+    pub(crate) fn session(&self) -> Option<SessionId>
+        ensures { result ≡ session_of self.now }
+    {
+        match self {
+            Event::Connect { session, .. }
+            | Event::Line { session, .. }
+            | Event::Hangup { session }
+            | Event::Collect { session } => Some(*session),
+            _ => None,
+        }
+    }
 }

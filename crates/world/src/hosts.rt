@@ -211,6 +211,14 @@ impl<A: Allocator + Copy> Hosts<A> {
         self.nodes.performed(node)
     }
 
+    /// As `performed`, of the node at this place, counted from 0.
+    pub(crate) fn performed_at(&self, place: usize) -> Option<&[(Slot, SharedCommand<A>)]>
+        ensures value { IfSome result (λ performed. performed_in (slice_get (network_of self.now).logs place) ≡ Some performed.now) }
+        ensures up { is_up (slice_get (network_of self.now).logs place) ≡ true → is_some result ≡ true }
+    {
+        self.nodes.performed_at(place)
+    }
+
     /// The ticket that a node gave last to the user, if it has given one. None where there is no such node, or it has
     /// stopped for want of memory.
     pub(crate) fn last_ticket(&self, node: NodeId, user: Name) -> Option<Ticket>

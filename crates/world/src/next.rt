@@ -5,6 +5,7 @@ ghost use Rattle.world.specs.Connections.{service_of, connection_of, awaited_by,
 ghost use Rattle.world.specs.Hosts.{HasAnswerAt};
 ghost use Rattle.world.specs.Refusals.{step_refusal};
 ghost use Rattle.world.specs.Scheduling.{has_its_answer};
+ghost use Rattle.world.specs.Waiting.{IsUpToDate};
 ghost use Rattle.world.specs.Worlds as spec;
 ghost use Rattle.world.specs.declared.config.Config.{Config};
 ghost use Rattle.world.specs.declared.connection.Connection.{Connection};
@@ -45,9 +46,11 @@ fn is_ready<A: Allocator + Copy>(hosts: &Hosts<A>, connection: &Connection<A>) -
     }
 }
 
-/// The first session of those that connected whose answer is there takes it. Only sessions that await one are looked at.
+/// The first session of those that connected whose answer is there takes it. Only sessions are looked at whose answer may be
+/// there.
 fn next_answer<A: Allocator + Copy>(hosts: &Hosts<A>, connections: &Sessions<A>) -> Option<Event<A>>
-    requires { AreUntaken hosts.now connections.now.entries }
+    requires untaken { AreUntaken hosts.now connections.now.entries }
+    requires current { IsUpToDate hosts.now connections.now.entries connections.now.waiting }
     ensures value { result ≡ spec.next_answer (service_of hosts.now connections.now.entries) }
     ensures possible { (cfg : Config A) → IfSome result (λ event. step_refusal cfg (service_of hosts.now connections.now.entries) event ≡ None) }
 {
@@ -68,7 +71,8 @@ pub(crate) fn next_oldest<A: Allocator + Copy>(
     connections: &Sessions<A>,
     from: usize,
 ) -> Option<Event<A>>
-    requires { AreUntaken hosts.now connections.now.entries }
+    requires untaken { AreUntaken hosts.now connections.now.entries }
+    requires current { IsUpToDate hosts.now connections.now.entries connections.now.waiting }
     ensures value { result ≡ spec.next_oldest (service_of hosts.now connections.now.entries) from }
     ensures possible { (cfg : Config A) → IfSome result (λ event. step_refusal cfg (service_of hosts.now connections.now.entries) event ≡ None) }
 {
@@ -86,7 +90,8 @@ pub(crate) fn next_newest<A: Allocator + Copy>(
     from: usize,
     copies: u64,
 ) -> Option<Event<A>>
-    requires { AreUntaken hosts.now connections.now.entries }
+    requires untaken { AreUntaken hosts.now connections.now.entries }
+    requires current { IsUpToDate hosts.now connections.now.entries connections.now.waiting }
     ensures value { result ≡ spec.next_newest (service_of hosts.now connections.now.entries) from copies }
     ensures possible { (cfg : Config A) → IfSome result (λ event. step_refusal cfg (service_of hosts.now connections.now.entries) event ≡ None) }
 {

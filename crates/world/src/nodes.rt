@@ -33,7 +33,7 @@ impl<A: Allocator + Copy> Model for Nodes<A> {
 }
 
 /// Where a node stands among the nodes.
-fn place_of(node: NodeId) -> usize
+pub(crate) fn place_of(node: NodeId) -> usize
     ensures { result + 1 ≡ node }
 {
     usize::from(node.get()) - 1
@@ -152,7 +152,15 @@ impl<A: Allocator + Copy> Nodes<A> {
         ensures value { IfSome result (λ performed. performed_in (log_of node (network_of self.now).logs) ≡ Some performed.now) }
         ensures up { is_up (log_of node (network_of self.now).logs) ≡ true → is_some result ≡ true }
     {
-        match self.hosts.get(place_of(node)) {
+        self.performed_at(place_of(node))
+    }
+
+    /// As `performed`, of the node at this place, counted from 0.
+    pub(crate) fn performed_at(&self, place: usize) -> Option<&[(Slot, SharedCommand<A>)]>
+        ensures value { IfSome result (λ performed. performed_in (slice_get (network_of self.now).logs place) ≡ Some performed.now) }
+        ensures up { is_up (slice_get (network_of self.now).logs place) ≡ true → is_some result ≡ true }
+    {
+        match self.hosts.get(place) {
             Some(host) => host.performed(),
             None => None,
         }

@@ -1,5 +1,5 @@
-//! The sessions of a service, with an index of those that await an answer.
-ghost use Rattle.std.specs.Prelude.{◌≡◌, ◌^◌, ◌<◌, ◌≤◌, ◌↔◌, [], ℕ, Some, false, length, option_copied, option_map, slice_get, IfNone, IfSome, IsSome, OnErr, OnOk};
+//! The sessions of a service, with an index of those whose answers may be there.
+ghost use Rattle.std.specs.Prelude.{◌≡◌, ◌^◌, ◌<◌, ◌≤◌, ◌↔◌, [], ℕ, Some, false, length, replicate, option_copied, option_map, slice_get, IfNone, IfOk, IfSome, IsSome, OnErr, OnOk};
 ghost use Rattle.std.specs.Map.Iter.{deref_pair};
 ghost use Rattle.std.specs.Ordering.{is_eq};
 ghost use Rattle.maildrop.specs.CommandId.{CommandId, compare_ids};
@@ -7,7 +7,7 @@ ghost use Rattle.world.specs.Connections.{service_of, AreFit, AreUntaken, connec
 ghost use Rattle.world.specs.Hosts.{HasAnswerAt};
 ghost use Rattle.world.specs.Interrupted.{IsInterrupted};
 ghost use Rattle.world.specs.Services.{occurs};
-ghost use Rattle.world.specs.Waiting.{AreNoted, AreNotedBut, NoneWaits};
+ghost use Rattle.world.specs.Waiting.{IsBehind, IsHeard, IsUpToDate, KeepsOthers, NoneMay, is_of, nowhere, place_of};
 ghost use Rattle.world.specs.declared.config.Config.{Config};
 ghost use Rattle.world.specs.declared.connection.Connection.{Connection};
 ghost use Rattle.world.specs.declared.event.Event.TheVariants as event;
@@ -24,7 +24,8 @@ use pop3_wire::Line;
 use std::alloc::{Allocator, Global};
 use std::marker::Model;
 
-/// The sessions in the order in which they connected, with an index of those that await an answer.
+/// The sessions in the order in which they connected, with an index of those whose answers may be there. An event leaves
+/// the index as it was; whoever has one happen brings it up to date.
 #[derive(Drop)]
 pub(crate) struct Sessions<A: Allocator + Copy = Global> {
     connections: Connections<A>,
@@ -32,43 +33,23 @@ pub(crate) struct Sessions<A: Allocator + Copy = Global> {
 }
 
 impl<A: Allocator + Copy> Model for Sessions<A> {
-    ghost use Rattle.world.specs.Waiting.{Sessions, AreNoted};
+    ghost use Rattle.world.specs.Waiting.{Sessions};
 
     ghost Value = { Sessions A };
 
-    ghost view = { λ s. record { entries = s.connections.entries } };
-
-    ghost invariant = { λ s. AreNoted s.connections.entries s.waiting };
-}
-
-/// Brings what the index says of a session up to date.
-fn note<A: Allocator + Copy>(
-    connections: &Connections<A>,
-    waiting: &mut Waiting<A>,
-    session: SessionId,
-)
-    requires { AreNotedBut session connections.now.entries waiting.old }
-    ensures { AreNoted connections.now.entries waiting.new }
-{
-    let Some((place, _, connection)) = connections.get_full(&session) else {
-        return;
-    };
-    if connection.awaited().is_some() {
-        waiting.add(place);
-    } else {
-        waiting.remove(place);
-    }
+    ghost view = { λ s. record { entries = s.connections.entries; waiting = s.waiting } };
 }
 
 impl<A: Allocator + Copy> Sessions<A> {
-    /// None. Takes no memory.
-    pub(crate) fn new(alloc: A) -> Self
-        ensures empty { result.entries ≡ [] }
+    /// None, of a service of so many nodes.
+    pub(crate) fn new(alloc: A, nodes: usize) -> Result<Self, Memory>
+        ensures empty { IfOk result (λ sessions. sessions.entries ≡ []) }
+        ensures heard { IfOk result (λ sessions. sessions.waiting.heard ≡ replicate nodes 0) }
     {
-        Sessions {
+        Ok(Sessions {
             connections: IndexMap::new(alloc),
-            waiting: Waiting::new(alloc),
-        }
+            waiting: Waiting::new(alloc, nodes)?,
+        })
     }
 
     /// How many there are.
@@ -95,10 +76,10 @@ impl<A: Allocator + Copy> Sessions<A> {
         self.connections.get_index(place)
     }
 
-    /// The first place from this one on of a session that may await an answer.
+    /// The first place from this one on of a session whose answer may be there.
     pub(crate) fn next_waiting(&self, from: usize) -> Option<usize>
-        ensures some { IfSome result (λ place. (from ≤ place) × (place < length self.now.entries) × NoneWaits self.now.entries from place) }
-        ensures none { IfNone result (NoneWaits self.now.entries from (length self.now.entries)) }
+        ensures some { IfSome result (λ place. (from ≤ place) × (place < length self.now.entries) × NoneMay self.now.waiting from place) }
+        ensures none { IfNone result (NoneMay self.now.waiting from (length self.now.entries)) }
     {
         let place = self.waiting.next(from)?;
         if place < self.connections.len() {
@@ -106,6 +87,62 @@ impl<A: Allocator + Copy> Sessions<A> {
         } else {
             None
         }
+    }
+
+    /// Brings what the index says of a session up to date.
+    fn note(&mut self, hosts: &Hosts<A>, session: SessionId)
+        requires untaken { AreUntaken hosts.now self.old.entries }
+        requires behind { IsBehind (λ place. place_of session self.old.entries ≡ place) hosts.now self.old.entries self.old.waiting }
+        ensures entries { self.new.entries ≡ self.old.entries }
+        ensures behind { IsBehind nowhere hosts.now self.new.entries self.new.waiting }
+        ensures heard { self.new.waiting.heard ≡ self.old.waiting.heard }
+    {
+        let Some((place, _, connection)) = self.connections.get_full(&session) else {
+            return;
+        };
+        match connection.awaited() {
+            Some(id) if hosts.has_answer(connection.node, id) => self.waiting.add(place),
+            Some(id) => self.waiting.watch(place, id),
+            None => self.waiting.remove(place),
+        }
+    }
+
+    /// Looks at what nodes have performed since that was looked at last.
+    fn hear(&mut self, hosts: &Hosts<A>)
+        requires { IsBehind nowhere hosts.now self.old.entries self.old.waiting }
+        ensures entries { self.new.entries ≡ self.old.entries }
+        ensures current { IsUpToDate hosts.now self.new.entries self.new.waiting }
+    {
+        for node in 0..self.waiting.nodes() {
+            self.hear_one(hosts, node);
+        }
+    }
+
+    /// Looks at what one node, counted from 0, has performed since that was looked at last.
+    fn hear_one(&mut self, hosts: &Hosts<A>, node: usize)
+        requires { IsBehind nowhere hosts.now self.old.entries self.old.waiting }
+        ensures entries { self.new.entries ≡ self.old.entries }
+        ensures behind { IsBehind nowhere hosts.now self.new.entries self.new.waiting }
+        ensures own { node < length self.old.waiting.heard → IsHeard hosts.now self.new.waiting node }
+        ensures others { (other : ℕ) → (other ≡ node → ⊥) → IsHeard hosts.now self.old.waiting other → IsHeard hosts.now self.new.waiting other }
+    {
+        if let Some(performed) = hosts.performed_at(node) {
+            self.waiting.hear(node, performed);
+        }
+    }
+
+    /// Brings the index up to date after an event: what it says of the session that the event is about, if it is about one,
+    /// and of those whose commands were performed.
+    pub(crate) fn catch_up(&mut self, hosts: &Hosts<A>, session: Option<SessionId>)
+        requires untaken { AreUntaken hosts.now self.old.entries }
+        requires behind { IsBehind (is_of session self.old.entries) hosts.now self.old.entries self.old.waiting }
+        ensures entries { self.new.entries ≡ self.old.entries }
+        ensures current { IsUpToDate hosts.now self.new.entries self.new.waiting }
+    {
+        if let Some(session) = session {
+            self.note(hosts, session);
+        }
+        self.hear(hosts);
     }
 
     /// A client connects, if its node is up and its session is new; else nothing happens. After `Memory` nothing has
@@ -122,10 +159,10 @@ impl<A: Allocator + Copy> Sessions<A> {
         ensures ok { (cfg : Config A) → OnOk result (service_of hosts.now self.new.entries ≡ occurs cfg (service_of hosts.now self.old.entries) (event.Connect session node stamp)) }
         ensures err { OnErr result (self.new.entries ≡ self.old.entries) }
         ensures fit { AreFit self.new.entries }
+        ensures sessions { KeepsOthers session self.old.entries self.new.entries }
+        ensures waiting { self.new.waiting ≡ self.old.waiting }
     {
-        let connected = connect(alloc, &mut self.connections, hosts, session, node, stamp);
-        note(&self.connections, &mut self.waiting, session);
-        connected
+        connect(alloc, &mut self.connections, hosts, session, node, stamp)
     }
 
     /// A client sends a line, if its session takes one and its node is up; else nothing happens.
@@ -141,11 +178,11 @@ impl<A: Allocator + Copy> Sessions<A> {
             → OnOk result (service_of hosts.new self.new.entries ≡ occurs cfg (service_of hosts.old self.old.entries) (event.Line session line)) }
         ensures err { (cfg : Config A) → OnErr result (IsInterrupted cfg (event.Line session line) (service_of hosts.old self.old.entries) (service_of hosts.new self.new.entries)) }
         ensures fit { AreFit self.new.entries }
+        ensures sessions { KeepsOthers session self.old.entries self.new.entries }
+        ensures waiting { self.new.waiting ≡ self.old.waiting }
         ensures answers { (n : ℕ) (id : CommandId) → HasAnswerAt n id hosts.old → HasAnswerAt n id hosts.new }
     {
-        let sent = send_line(&mut self.connections, hosts, accounts, session, line);
-        note(&self.connections, &mut self.waiting, session);
-        sent
+        send_line(&mut self.connections, hosts, accounts, session, line)
     }
 
     /// A session takes the answer that it awaits, if that is there and its node is up; else nothing happens.
@@ -159,13 +196,13 @@ impl<A: Allocator + Copy> Sessions<A> {
         ensures ok { (cfg : Config A) → OnOk result (service_of hosts.new self.new.entries ≡ occurs cfg (service_of hosts.old self.old.entries) (event.Collect session)) }
         ensures err { (cfg : Config A) → OnErr result (IsInterrupted cfg (event.Collect session) (service_of hosts.old self.old.entries) (service_of hosts.new self.new.entries)) }
         ensures fit { AreFit self.new.entries }
+        ensures sessions { KeepsOthers session self.old.entries self.new.entries }
+        ensures waiting { self.new.waiting ≡ self.old.waiting }
         ensures others { (n : ℕ) (other : CommandId)
             → ((c : Connection A) (id : CommandId) → connection_of session self.old.entries ≡ Some c → awaited_by c.standing ≡ Some id → is_eq (compare_ids id other) ≡ false)
             → HasAnswerAt n other hosts.old → HasAnswerAt n other hosts.new }
     {
-        let collected = collect_answer(&mut self.connections, hosts, session);
-        note(&self.connections, &mut self.waiting, session);
-        collected
+        collect_answer(&mut self.connections, hosts, session)
     }
 
     /// A client is gone: its session ends, if it awaits no answer and its node is up; else nothing happens.
@@ -174,10 +211,10 @@ impl<A: Allocator + Copy> Sessions<A> {
         ensures ok { (cfg : Config A) → OnOk result (service_of hosts.new self.new.entries ≡ occurs cfg (service_of hosts.old self.old.entries) (event.Hangup session)) }
         ensures err { (cfg : Config A) → OnErr result (IsInterrupted cfg (event.Hangup session) (service_of hosts.old self.old.entries) (service_of hosts.new self.new.entries)) }
         ensures fit { AreFit self.new.entries }
+        ensures sessions { KeepsOthers session self.old.entries self.new.entries }
+        ensures waiting { self.new.waiting ≡ self.old.waiting }
         ensures answers { (n : ℕ) (id : CommandId) → HasAnswerAt n id hosts.old → HasAnswerAt n id hosts.new }
     {
-        let ended = hang_up(&mut self.connections, hosts, session);
-        note(&self.connections, &mut self.waiting, session);
-        ended
+        hang_up(&mut self.connections, hosts, session)
     }
 }

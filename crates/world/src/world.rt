@@ -53,7 +53,9 @@ impl<A: Allocator + Copy> Model for World<A> {
 
     ghost view = { λ w. world_of w.config w.hosts w.connections.entries w.operations.entries };
 
-    ghost invariant = { λ w. IsKept w.config w.hosts w.connections.entries w.operations.entries };
+    ghost use Rattle.world.specs.Waiting.{IsUpToDate};
+
+    ghost invariant = { λ w. IsKept w.config w.hosts w.connections.entries w.operations.entries × IsUpToDate w.hosts w.connections.entries w.connections.waiting };
 }
 
 impl<A: Allocator + Copy> World<A> {
@@ -63,10 +65,11 @@ impl<A: Allocator + Copy> World<A> {
         ensures { IfOk result (λ world. world ≡ spec.new_world config) }
     {
         let hosts = begin(alloc, &config)?;
+        let nodes = hosts.len();
         Ok(World {
             config,
             hosts: Hosts::new(alloc, hosts),
-            connections: Sessions::new(alloc),
+            connections: Sessions::new(alloc, nodes)?,
             operations: IndexMap::new(alloc),
             alloc,
         })
@@ -88,14 +91,17 @@ impl<A: Allocator + Copy> World<A> {
         if let Some(reason) = refusal_of(&self.config, &self.hosts, &self.connections, &event) {
             return Err(reason);
         }
-        act(
+        let session = event.session();
+        let acted = act(
             self.alloc,
             &self.config,
             &mut self.hosts,
             &mut self.connections,
             &mut self.operations,
             event,
-        )?;
+        );
+        self.connections.catch_up(&self.hosts, session);
+        acted?;
         Ok(())
     }
 

@@ -9,7 +9,7 @@ returns-in-Some-clause-value g c =
     let some = c.in_ok-next.ensures.some in
     let hosts = c.args.hosts.now in
     let es = c.args.connections.now.entries in
-    sym (next_found hosts es c.in_ok-next.next c.in-Some.session found.0 (unanswered_on hosts es c.loop-place.place c.in_ok-next.next c.loop-place.invariant some.2) found.1 found.3)
+    sym (next_found hosts es c.in_ok-next.next c.in-Some.session found.0 (unanswered_on hosts es c.args.connections.now.waiting c.loop-place.place c.in_ok-next.next c.requires.current c.loop-place.invariant some.2) found.1 found.3)
 
 pub returns-in-Some-clause-possible : goal.returns-in-Some-clause-possible
 returns-in-Some-clause-possible g c cfg =
@@ -20,14 +20,14 @@ pub returns-in_err-next-clause-value : goal.returns-in_err-next-clause-value
 returns-in_err-next-clause-value g c =
     let hosts = c.args.hosts.now in
     let es = c.args.connections.now.entries in
-    c.from_residual.ensures ∙ sym (next_none hosts es (unanswered_on hosts es c.loop-place.place (length es) c.loop-place.invariant c.in_err-next.ensures.none))
+    c.from_residual.ensures ∙ sym (next_none hosts es (unanswered_on hosts es c.args.connections.now.waiting c.loop-place.place (length es) c.requires.current c.loop-place.invariant c.in_err-next.ensures.none))
 
 pub loop-place-preserved : goal.loop-place-preserved
 loop-place-preserved g c =
     let some = c.in_ok-next.ensures.some in
     let hosts = c.args.hosts.now in
     let es = c.args.connections.now.entries in
-    unanswered_past hosts es c.in_ok-next.next (unanswered_on hosts es c.loop-place.place c.in_ok-next.next c.loop-place.invariant some.2) c.in_default.ensures.none
+    unanswered_past hosts es c.in_ok-next.next (unanswered_on hosts es c.args.connections.now.waiting c.loop-place.place c.in_ok-next.next c.requires.current c.loop-place.invariant some.2) c.in_default.ensures.none
 
 pub returns-clause-value : goal.returns-clause-value
 returns-clause-value g c =

@@ -7,18 +7,18 @@ use Rattle.world.specs.Waiting.{Sessions}
 use Rattle.world.specs.declared.event.Event.TheVariants as event
 use Rattle.world.proofs.session_table.Sessions.collect_answer.Goals as goal
 
-pub collect_answer-collected-requires-clause-fit : goal.collect_answer-collected-requires-clause-fit
-collect_answer-collected-requires-clause-fit g c = subst (λ (s : Sessions g.row.A.Denot). AreFit s.entries) (sym c.self.view_is) c.requires.fit
+pub collect_answer-requires-clause-fit : goal.collect_answer-requires-clause-fit
+collect_answer-requires-clause-fit g c = subst (λ (s : Sessions g.row.A.Denot). AreFit s.entries) (sym c.self.view_is) c.requires.fit
 
-pub collect_answer-collected-requires-clause-untaken : goal.collect_answer-collected-requires-clause-untaken
-collect_answer-collected-requires-clause-untaken g c = subst (λ (s : Sessions g.row.A.Denot). AreUntaken c.args.hosts.now s.entries) (sym c.self.view_is) c.requires.untaken
+pub collect_answer-requires-clause-untaken : goal.collect_answer-requires-clause-untaken
+collect_answer-requires-clause-untaken g c = subst (λ (s : Sessions g.row.A.Denot). AreUntaken c.args.hosts.now s.entries) (sym c.self.view_is) c.requires.untaken
 
 pub returns-clause-ok : goal.returns-clause-ok
 returns-clause-ok g c cfg =
-    subst (λ (s : Sessions g.row.A.Denot). OnOk c.collect_answer-collected.result (service_of c.collect_answer-collected.new.hosts c.collect_answer-collected.new.connections.entries ≡ occurs cfg (service_of c.args.hosts.now s.entries) (event.Collect c.args.session))) c.self.view_is
-    (c.collect_answer-collected.ensures.ok cfg)
+    subst (λ (s : Sessions g.row.A.Denot). OnOk c.collect_answer.result (service_of c.collect_answer.new.hosts c.collect_answer.new.connections.entries ≡ occurs cfg (service_of c.args.hosts.now s.entries) (event.Collect c.args.session))) c.self.view_is
+    (c.collect_answer.ensures.ok cfg)
 
 pub returns-clause-err : goal.returns-clause-err
 returns-clause-err g c cfg =
-    subst (λ (s : Sessions g.row.A.Denot). OnErr c.collect_answer-collected.result (IsInterrupted cfg (event.Collect c.args.session) (service_of c.args.hosts.now s.entries) (service_of c.collect_answer-collected.new.hosts c.collect_answer-collected.new.connections.entries))) c.self.view_is
-    (c.collect_answer-collected.ensures.err cfg)
+    subst (λ (s : Sessions g.row.A.Denot). OnErr c.collect_answer.result (IsInterrupted cfg (event.Collect c.args.session) (service_of c.args.hosts.now s.entries) (service_of c.collect_answer.new.hosts c.collect_answer.new.connections.entries))) c.self.view_is
+    (c.collect_answer.ensures.err cfg)

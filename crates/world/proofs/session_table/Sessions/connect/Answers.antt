@@ -6,10 +6,10 @@ use Rattle.world.specs.Waiting.{Sessions}
 use Rattle.world.specs.declared.event.Event.TheVariants as event
 use Rattle.world.proofs.session_table.Sessions.connect.Goals as goal
 
-pub connect-connected-requires : goal.connect-connected-requires
-connect-connected-requires g c = record { fit = subst (λ (s : Sessions g.row.A.Denot). AreFit s.entries) (sym c.self.view_is) c.requires.fit }
+pub connect-requires : goal.connect-requires
+connect-requires g c = record { fit = subst (λ (s : Sessions g.row.A.Denot). AreFit s.entries) (sym c.self.view_is) c.requires.fit }
 
 pub returns-clause-ok : goal.returns-clause-ok
 returns-clause-ok g c cfg =
-    subst (λ (s : Sessions g.row.A.Denot). OnOk c.connect-connected.result (service_of c.args.hosts.now c.connect-connected.new.connections.entries ≡ occurs cfg (service_of c.args.hosts.now s.entries) (event.Connect c.args.session c.args.node c.args.stamp))) c.self.view_is
-    (c.connect-connected.ensures.ok cfg)
+    subst (λ (s : Sessions g.row.A.Denot). OnOk c.connect.result (service_of c.args.hosts.now c.connect.new.connections.entries ≡ occurs cfg (service_of c.args.hosts.now s.entries) (event.Connect c.args.session c.args.node c.args.stamp))) c.self.view_is
+    (c.connect.ensures.ok cfg)

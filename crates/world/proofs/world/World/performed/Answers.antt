@@ -8,7 +8,7 @@ pub returns-clause-decided : goal.returns-clause-decided
 returns-clause-decided g c =
     let w = c.self.inside in
     let v = c.args.self.now in
-    let nodes = kept_nodes w.config w.hosts w.connections.entries w.operations.entries v c.self.view_is c.self.invariant in
+    let nodes = kept_nodes w.config w.hosts w.connections.entries w.operations.entries v c.self.view_is c.self.invariant.0 in
     IfSome_then c.performed.result c.performed.ensures.value
     (λ commands h. performed_decided v.config v.service nodes c.args.node commands.now (ap (λ (x : World g.row.A.Denot). performed_by x.service c.args.node) (sym c.self.view_is) ∙ h))
 
@@ -16,7 +16,7 @@ pub returns-clause-submitted : goal.returns-clause-submitted
 returns-clause-submitted g c =
     let w = c.self.inside in
     let v = c.args.self.now in
-    let nodes = kept_nodes w.config w.hosts w.connections.entries w.operations.entries v c.self.view_is c.self.invariant in
+    let nodes = kept_nodes w.config w.hosts w.connections.entries w.operations.entries v c.self.view_is c.self.invariant.0 in
     IfSome_then c.performed.result c.performed.ensures.value
     (λ commands h. front_submitted v.config v.service nodes commands.now
     (performed_decided v.config v.service nodes c.args.node commands.now (ap (λ (x : World g.row.A.Denot). performed_by x.service c.args.node) (sym c.self.view_is) ∙ h)))

@@ -9,7 +9,7 @@ returns-in-Some-clause-value g c =
 pub returns-in-Some-clause-projected : goal.returns-in-Some-clause-projected
 returns-in-Some-clause-projected g c x at =
     let w = c.self.inside in
-    kept_projected w.config w.hosts w.connections.entries w.operations.entries c.args.self.now c.self.view_is c.self.invariant c.args.session x at
+    kept_projected w.config w.hosts w.connections.entries w.operations.entries c.args.self.now c.self.view_is c.self.invariant.0 c.args.session x at
 
 pub returns-in-None-clause-value : goal.returns-in-None-clause-value
 returns-in-None-clause-value g c =
@@ -18,4 +18,4 @@ returns-in-None-clause-value g c =
 pub returns-in-None-clause-projected : goal.returns-in-None-clause-projected
 returns-in-None-clause-projected g c x at =
     let w = c.self.inside in
-    kept_projected w.config w.hosts w.connections.entries w.operations.entries c.args.self.now c.self.view_is c.self.invariant c.args.session x at
+    kept_projected w.config w.hosts w.connections.entries w.operations.entries c.args.self.now c.self.view_is c.self.invariant.0 c.args.session x at

@@ -5,16 +5,16 @@ pub returns-clause-agreement : goal.returns-clause-agreement
 returns-clause-agreement g c =
     let w = c.self.inside in
     let v = c.args.self.now in
-    chooses_one v.config v.service (kept_nodes w.config w.hosts w.connections.entries w.operations.entries v c.self.view_is c.self.invariant)
+    chooses_one v.config v.service (kept_nodes w.config w.hosts w.connections.entries w.operations.entries v c.self.view_is c.self.invariant.0)
 
 pub returns-clause-learning : goal.returns-clause-learning
 returns-clause-learning g c =
     let w = c.self.inside in
     let v = c.args.self.now in
-    tells_chosen v.config v.service (kept_nodes w.config w.hosts w.connections.entries w.operations.entries v c.self.view_is c.self.invariant)
+    tells_chosen v.config v.service (kept_nodes w.config w.hosts w.connections.entries w.operations.entries v c.self.view_is c.self.invariant.0)
 
 pub returns-clause-validity : goal.returns-clause-validity
 returns-clause-validity g c =
     let w = c.self.inside in
     let v = c.args.self.now in
-    chooses_submitted v.config v.service (kept_nodes w.config w.hosts w.connections.entries w.operations.entries v c.self.view_is c.self.invariant)
+    chooses_submitted v.config v.service (kept_nodes w.config w.hosts w.connections.entries w.operations.entries v c.self.view_is c.self.invariant.0)

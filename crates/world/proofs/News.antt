@@ -1,0 +1,125 @@
+-- What a longer log brings: more commands that its node has performed, and answers to these alone.
+use Rattle.std.proofs.Common.{◌≡◌, ℕ, List, [], ◌∷◌, ◌++◌, Bool, true, false, cond, eqb, Option, Some, None, refl, sym, ap, ◌∙◌, subst, inl, inr, ⊎_elim, append_assoc}
+use Rattle.std.specs.Prelude.{◌⊎◌, ◌||◌, is_some}
+use Rattle.std.specs.List.{list_any}
+use Rattle.std.proofs.lemmas.List.{append-nil}
+use Rattle.std.proofs.lemmas.List.Folds.{list_any-append}
+use Rattle.std.specs.Ordering.{is_eq}
+use Rattle.ballot.specs.declared.message.Message.{Message}
+use Rattle.ballot.specs.declared.message.Message.TheVariants.{Propose, P1a, P1b, P2a, P2b, Decision, Ask}
+use Rattle.maildrop.specs.CommandId.{CommandId, compare_ids}
+use Rattle.maildrop.specs.Same.{identity_of}
+use Rattle.maildrop.specs.declared.command.Command.{Command}
+use Rattle.maildrop.specs.declared.outcome.Outcome.{Outcome}
+use Rattle.replica.specs.Replicas.{has_identity, held}
+use Rattle.replica.specs.Calls.{answered_with, awaited_for, answer_among}
+use Rattle.replica.proofs.Answered.{has_answer}
+use Rattle.replica.specs.Replicas as replica
+use Rattle.replica.proofs.History.{decided_performs, proposes_alike, requests_add_none}
+use Rattle.node.specs.Nodes.{lengthened, answer_of}
+use Rattle.node.specs.Replay.{NodeState, mail_rules, stays, hears, acts, is_crash, takes, takes_all, replayed, command_for}
+use Rattle.node.specs.declared.input.Input.{Input}
+use Rattle.node.specs.declared.input.Input.TheVariants.{Submit, Arrive, Tick, Campaign, Crash}
+use Rattle.node.specs.declared.log.Opening.{Opening}
+use Rattle.node.specs.declared.log.NodeLog.{NodeLog}
+use Rattle.node.proofs.Orders.{ids_total}
+use Rattle.node.proofs.Alike.{first}
+use Rattle.node.proofs.Answering.{Holds, takes_holds, log_holds, replayed_more}
+
+module _ {A : Type 0} where
+  -- the node has performed more, and has got answers to these commands alone
+  pub record Brings (n later : NodeState A) : Type 0 where
+    pub more : List (ℕ × Command A)
+    pub performed : later.replica.performed ≡ n.replica.performed ++ more
+    pub answers : (id : CommandId) → is_some (answer_of id later.replica.awaited) ≡ true → (is_some (answer_of id n.replica.awaited) ≡ true) ⊎ (has_identity mail_rules id more ≡ true)
+
+  brings_nothing : (n later : NodeState A) → later.replica ≡ n.replica → Brings n later
+  brings_nothing n later same =
+      record {
+        more = [];
+        performed = ap (λ r. r.performed) same ∙ sym (append-nil n.replica.performed);
+        answers = λ id some. inl (sym (ap (λ r. is_some (answer_of id r.awaited)) same) ∙ some);
+      }
+
+  brings_both : (a b c : NodeState A) → Brings a b → Brings b c → Brings a c
+  brings_both a b c p q =
+      record {
+        more = p.more ++ q.more;
+        performed = q.performed ∙ (ap (λ ps. ps ++ q.more) p.performed ∙ append_assoc a.replica.performed p.more q.more);
+        answers = λ id some.
+            ⊎_elim
+            (λ (x : is_some (answer_of id b.replica.awaited) ≡ true).
+            ⊎_elim
+            (λ (y : is_some (answer_of id a.replica.awaited) ≡ true). inl y)
+            (λ (y : has_identity mail_rules id p.more ≡ true). inr (list_any-append (λ (e : ℕ × Command A). is_eq (compare_ids (identity_of e.1) id)) p.more q.more ∙ ap (λ t. t || has_identity mail_rules id q.more) y))
+            (p.answers id x))
+            (λ (x : has_identity mail_rules id q.more ≡ true).
+            inr (list_any-append (λ (e : ℕ × Command A). is_eq (compare_ids (identity_of e.1) id)) p.more q.more ∙ either_true (has_identity mail_rules id p.more) (has_identity mail_rules id q.more) x))
+            (q.answers id some);
+      }
+    where
+      either_true : (t u : Bool) → u ≡ true → (t || u) ≡ true
+      either_true true u e = refl
+      either_true false u e = e
+
+  decision_brings : (o : Opening A) (before : List (Input A)) (n : NodeState A) (from s : ℕ) (c : Command A) → Holds o before n → Brings n (hears n from (Decision s c)).node
+  decision_brings o before n from s c h =
+      let performs = decided_performs A mail_rules ids_total (first o) s c n.replica h.answers in
+      record {
+        more = performs.more;
+        performed = performs.performed;
+        answers = λ id some.
+            go id performs.more (awaited_for mail_rules id n.replica) (answer_among mail_rules id n.replica.machine performs.more) refl
+            (sym (ap (λ w. is_some (held w)) (performs.answers id)) ∙ some);
+      }
+    where
+      go : (id : CommandId) (more : List (ℕ × Command A)) (w : Option (Option (Outcome A))) (a : Option (Outcome A)) → answer_among mail_rules id n.replica.machine more ≡ a
+          → is_some (held (answered_with a w)) ≡ true → (is_some (held w) ≡ true) ⊎ (has_identity mail_rules id more ≡ true)
+      go id more None a e some = absurd (cc some)
+      go id more (Some (Some x)) a e some = inl refl
+      go id more (Some None) None e some = absurd (cc some)
+      go id more (Some None) (Some x) e some = inr (has_answer mail_rules id n.replica.machine more x e)
+
+  hears_brings : (o : Opening A) (before : List (Input A)) (n : NodeState A) (from : ℕ) (m : Message (Command A) A) → Holds o before n → Brings n (hears n from m).node
+  hears_brings o before n from (Decision s c) h = decision_brings o before n from s c h
+  hears_brings o before n from (Propose s c) h = brings_nothing n _ refl
+  hears_brings o before n from (P1a b) h = brings_nothing n _ refl
+  hears_brings o before n from (P1b p) h = brings_nothing n _ refl
+  hears_brings o before n from (P2a p) h = brings_nothing n _ refl
+  hears_brings o before n from (P2b v) h = brings_nothing n _ refl
+  hears_brings o before n from (Ask s) h = brings_nothing n n refl
+
+  acts_brings : (o : Opening A) (before : List (Input A)) (n : NodeState A) (i : Input A) → Holds o before n → Brings n (acts o.me before n i).node
+  acts_brings o before n (Submit user op) h =
+      let c : Command A = command_for o.me user op before in
+      record {
+        more = [];
+        performed = (proposes_alike A mail_rules (replica.with_request c (replica.awaiting mail_rules c n.replica))).performed ∙ sym (append-nil n.replica.performed);
+        answers = λ id some. inl (sym (ap is_some (requests_add_none A mail_rules ids_total (first o) c n.replica h.answers id)) ∙ some);
+      }
+  acts_brings o before n (Arrive x) h =
+      go (eqb x.to o.me)
+    where
+      go : (t : Bool) → Brings n (cond t (hears n x.from x.message) (stays n)).node
+      go true = hears_brings o before n x.from x.message h
+      go false = brings_nothing n n refl
+  acts_brings o before n Tick h = brings_nothing n n refl
+  acts_brings o before n Campaign h = brings_nothing n _ refl
+  acts_brings o before n Crash h = brings_nothing n n refl
+
+  takes_brings : (o : Opening A) (before : List (Input A)) (n : NodeState A) (i : Input A) → Holds o before n → Brings n (takes o.me before n i).node
+  takes_brings o before n i h =
+      go (list_any is_crash before)
+    where
+      go : (t : Bool) → Brings n (cond t (stays n) (acts o.me before n i)).node
+      go true = brings_nothing n n refl
+      go false = acts_brings o before n i h
+
+  all_bring : (o : Opening A) (before : List (Input A)) (n : NodeState A) (is : List (Input A)) → Holds o before n → Brings n (takes_all o.me before n is)
+  all_bring o before n [] h = brings_nothing n n refl
+  all_bring o before n (i ∷ is) h =
+      let next : NodeState A = (takes o.me before n i).node in
+      brings_both n next (takes_all o.me (before ++ i ∷ []) next is) (takes_brings o before n i h) (all_bring o (before ++ i ∷ []) next is (takes_holds o before n i h))
+
+  pub longer_brings : (log : NodeLog A) (more : List (Input A)) → Brings (replayed log) (replayed (lengthened log more))
+  longer_brings log more = subst (Brings (replayed log)) (sym (replayed_more log more)) (all_bring log.opening log.inputs (replayed log) more (log_holds log))
