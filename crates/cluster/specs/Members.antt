@@ -19,6 +19,7 @@ use Rattle.session.specs.Desks.{Given}
 use Rattle.cluster.specs.Fits.{may_answer}
 use Rattle.cluster.specs.declared.setup.Setup.{Setup}
 use Rattle.cluster.specs.declared.status.Status.{Status}
+use Rattle.cluster.specs.declared.waiters.Groups.{Groups}
 
 -- a node under its lock: its log, why it has stopped, what is awaited of it, and the commands whose answers nobody awaits
 pub record MemberValue : Type 0 where
@@ -29,6 +30,10 @@ pub record MemberValue : Type 0 where
 
 abbrev pub member_of : NodeValue Global → MemberValue
 member_of node = record { log = node.log; stopped = node.stopped; awaited = node.awaited; told = [] }
+
+-- all groups of those who wait for a node's answers, a bit for each
+abbrev pub AreAll : Groups → Type 0
+AreAll groups = groups.0 ≡ 18446744073709551615
 
 -- a node that has stopped for this reason awaits nothing
 abbrev pub stopped_for : Stopped → NodeLog Global → List CommandId → MemberValue

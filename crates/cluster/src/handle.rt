@@ -1,6 +1,6 @@
 //! What the threads that step one node share.
 ghost use Rattle.std.specs.Prelude.{◌≡◌, IfOk, IfSome};
-ghost use Rattle.cluster.specs.Members.{IsAnswered, IsLogOf, IsStatusOf};
+ghost use Rattle.cluster.specs.Members.{IsAnswered, IsLogOf, IsStatusOf, AreAll};
 
 use crate::hub::Inbox;
 use crate::link::Link;
@@ -279,7 +279,9 @@ fn hear_own<D: Deployment>(member: &mut Member<D>, sends: &mut Outbox) {
 
 /// Those for whom a node's last steps may have brought what they wait for, behind so many performed commands: an answer, or
 /// the end of the node.
-fn woken_by<D: Deployment>(member: &Member<D>, performed: usize) -> Groups {
+fn woken_by<D: Deployment>(member: &Member<D>, performed: usize) -> Groups
+    ensures stopped { IfSome member.now.stopped (λ _. AreAll result) }
+{
     if member.is_up() {
         member.answered(performed)
     } else {
