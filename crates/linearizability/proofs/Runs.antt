@@ -1,0 +1,86 @@
+-- Each run of a service is linearizable, in the order that its nodes decide.
+use Rattle.std.proofs.Common.{◌≡◌, ℕ, List, [], ◌∷◌, ◌++◌, Some, sym, subst}
+use Rattle.std.specs.Prelude.{fold}
+use Rattle.std.proofs.lemmas.List.Sums.{fold-append}
+use Rattle.maildrop.specs.CommandId.{CommandId}
+use Rattle.maildrop.specs.declared.command.Command.{Command}
+use Rattle.maildrop.specs.declared.outcome.Outcome.{Outcome}
+use Rattle.node.specs.Outcomes.{IsOutcomeOf}
+use Rattle.node.specs.Submits.{IsSubmitted}
+use Rattle.node.specs.declared.log.Opening.{Opening}
+use Rattle.session.specs.Prefix.{IsPrefix}
+use Rattle.world.specs.Chosen.{chosen}
+use Rattle.world.specs.Decided.{without_gap}
+use Rattle.world.specs.Decisions.{WereSubmitted}
+use Rattle.world.specs.Messages.{envelopes, log_of}
+use Rattle.world.specs.Projection.{decided}
+use Rattle.world.specs.Services.{Service, Happening, opening_of, new_service, happens, run_of}
+use Rattle.world.specs.declared.config.Config.{Config}
+use Rattle.world.proofs.Decisions.{decided_submitted}
+use Rattle.world.proofs.Outcomes.{answer_own}
+use Rattle.world.proofs.Prefixes.{all_of, prefix_on}
+use Rattle.world.proofs.ServiceRuns.{AreOfRun, next_of_run, decided_grows}
+use Rattle.world.proofs.Serving.{every_service}
+use Rattle.linearizability.specs.Linearized.{IsAnswered, IsNew, StandsIn, Precedes, IsLinearized}
+use Rattle.linearizability.proofs.Repeats.{each_once, stands_between, stands_as}
+
+module _ {A : Type 0} where
+  -- whatever happens, what was decided stays in front
+  decided_stays : (cfg : Config A) (w : Service A) → AreOfRun cfg w → (happenings : List (Happening A)) →
+      IsPrefix (decided cfg w) (decided cfg (fold (happens cfg) w happenings))
+  decided_stays cfg w run [] = all_of (decided cfg w)
+  decided_stays cfg w run (h ∷ hs) =
+      let next = happens cfg w h in
+      prefix_on (decided cfg w) (decided cfg next) (decided cfg (fold (happens cfg) next hs))
+      (decided_grows cfg w h run) (decided_stays cfg next (next_of_run cfg w h run) hs)
+
+  run_grows : (cfg : Config A) (early late : List (Happening A)) →
+      IsPrefix (decided cfg (run_of cfg early)) (decided cfg (run_of cfg (early ++ late)))
+  run_grows cfg early late =
+      subst (λ w. IsPrefix (decided cfg (run_of cfg early)) (decided cfg w))
+      (sym (fold-append (happens cfg) (new_service cfg) early late))
+      (decided_stays cfg (run_of cfg early) (every_service cfg early).nodes late)
+
+  answer_outcome : (cfg : Config A) (w : Service A) → AreOfRun cfg w → (id : CommandId) (answer : Outcome A) →
+      IsAnswered w id answer → IsOutcomeOf (opening_of cfg) (decided cfg w) id answer
+  answer_outcome cfg w run id answer is =
+      let first = opening_of cfg in
+      subst (λ n. IsOutcomeOf first (decided cfg (record { network = n; clients = [] })) id answer) (sym run.1)
+      (answer_own first run.0 is.node is.log id answer (subst (λ n. log_of is.node n.logs ≡ Some is.log) run.1 is.its_log) is.got)
+
+  pub linearized : (cfg : Config A) (happenings : List (Happening A)) → IsLinearized cfg (run_of cfg happenings)
+  linearized cfg happenings =
+      let w = run_of cfg happenings in
+      let run = (every_service cfg happenings).nodes in
+      record {
+        once = each_once [] (without_gap (chosen cfg.cluster (envelopes w.network)));
+        submitted = decided_submitted cfg w run;
+        answers = answer_outcome cfg w run;
+      }
+
+  -- what has an outcome stands in the order
+  outcome_stands : (first : Opening A) (order : List (ℕ × Command A)) (id : CommandId) (answer : Outcome A) →
+      IsOutcomeOf first order id answer → StandsIn id order
+  outcome_stands first order id answer h =
+      subst (λ all. StandsIn id all) (sym h.order) (stands_between h.before h.after (h.slot, h.command) id h.its)
+
+  -- what wasn't submitted doesn't stand in it
+  new_absent : (w : Service A) (order : List (ℕ × Command A)) → WereSubmitted w order → (id : CommandId) →
+      IsNew w id → StandsIn id order → ⊥
+  new_absent w order submitted id new h =
+      let x = stands_as order id h in
+      let was = submitted x.0 x.1 x.2 in
+      new was.0 x.1.op (subst (λ i. log_of i.ticket.node w.network.logs ≡ Some was.0) x.3 was.1)
+      (subst (λ i. IsSubmitted was.0 i x.1.op) x.3 was.2)
+
+  pub answered_first : (cfg : Config A) (early late : List (Happening A)) (id other : CommandId) (answer : Outcome A) →
+      IsAnswered (run_of cfg early) id answer → IsNew (run_of cfg early) other → Precedes id other (decided cfg (run_of cfg (early ++ late)))
+  answered_first cfg early late id other answer is new =
+      let w = run_of cfg early in
+      let now = linearized cfg early in
+      record {
+        front = decided cfg w;
+        begins = run_grows cfg early late;
+        has = outcome_stands (opening_of cfg) (decided cfg w) id answer (now.answers id answer is);
+        lacks = new_absent w (decided cfg w) now.submitted other new;
+      }

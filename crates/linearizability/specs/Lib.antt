@@ -1,0 +1,2 @@
+pub mod Linearized
+pub mod Examples
