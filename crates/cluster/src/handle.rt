@@ -120,18 +120,9 @@ impl<D: Deployment, L: Link> NodeHandle<D, L> {
     fn step_locked<R: Wait>(&self, rt: &R, input: Input) -> Stepped
         ensures { IfSome result.ticket (λ ticket. ticket.node ≡ self.now) }
     {
-        let mut sends = self.new_outbox();
-        let mut guard = self.shared.member.lock(rt);
-        match &mut *guard {
-            Some(member) if member.me() == self.me => {
-                let performed = member.performed();
-                let ticket = step_one(member, input, &mut sends);
-                Stepped {
-                    ticket,
-                    sends,
-                    wakes: woken_by(member, performed),
-                }
-            }
+        let sends = self.new_outbox();
+        match &mut *self.shared.member.lock(rt) {
+            Some(member) if member.me() == self.me => step_all(member, input, sends),
             _ => Stepped {
                 ticket: None,
                 sends,
@@ -171,18 +162,8 @@ impl<D: Deployment, L: Link> NodeHandle<D, L> {
         let Some(member) = &mut *guard else {
             return (false, Groups::NONE);
         };
-        member.forget_first();
-        let performed = member.performed();
-        let mut next = first;
-        for _ in 1..BATCH {
-            let _none = step_one(member, Input::Arrive(next), sends);
-            match inbox.try_recv(rt) {
-                Ok(envelope) => next = envelope,
-                Err(_) => return (member.is_up(), woken_by(member, performed)),
-            }
-        }
-        let _none = step_one(member, Input::Arrive(next), sends);
-        (member.is_up(), woken_by(member, performed))
+        let wakes = hear_all(member, rt, first, inbox, sends);
+        (member.is_up(), wakes)
     }
 
     /// Nobody awaits the answer to this command, which is let go once it is there.
@@ -244,6 +225,59 @@ impl<D: Deployment, L: Link> NodeHandle<D, L> {
             _ => None,
         }
     }
+}
+
+/// All that one input brings under the lock. Where the node has stopped by then, all who wait for it are to be woken, also
+/// where the step was refused.
+fn step_all<D: Deployment>(member: &mut Member<D>, input: Input, sends: Outbox) -> Stepped
+    ensures ticket { IfSome result.ticket (λ ticket. ticket.node ≡ member.old.log.opening.me) }
+    ensures wakes { IfSome member.new.stopped (λ _. AreAll result.wakes) }
+{
+    let mut sends = sends;
+    let performed = member.performed();
+    let ticket = step_one(member, input, &mut sends);
+    let wakes = woken_by(member, performed);
+    Stepped {
+        ticket,
+        sends,
+        wakes,
+    }
+}
+
+/// All that an envelope and those in the inbox behind it bring under the lock. Gives who is to be woken: where the node has
+/// stopped by then, all who wait for it.
+fn hear_all<D: Deployment, R: Wait>(
+    member: &mut Member<D>,
+    rt: &R,
+    first: Envelope<SharedCommand>,
+    inbox: &Inbox,
+    sends: &mut Outbox,
+) -> Groups
+    ensures { IfSome member.new.stopped (λ _. AreAll result) }
+{
+    member.forget_first();
+    let performed = member.performed();
+    hear_batch(member, rt, first, inbox, sends);
+    woken_by(member, performed)
+}
+
+/// Hears an envelope, and those that are in the inbox behind it, up to a batch of them.
+fn hear_batch<D: Deployment, R: Wait>(
+    member: &mut Member<D>,
+    rt: &R,
+    first: Envelope<SharedCommand>,
+    inbox: &Inbox,
+    sends: &mut Outbox,
+) {
+    let mut next = first;
+    for _ in 1..BATCH {
+        let _none = step_one(member, Input::Arrive(next), sends);
+        match inbox.try_recv(rt) {
+            Ok(envelope) => next = envelope,
+            Err(_) => return,
+        }
+    }
+    let _none = step_one(member, Input::Arrive(next), sends);
 }
 
 /// One step of a node, and then one for each envelope that it hears of its own. Gives the ticket of the command that the

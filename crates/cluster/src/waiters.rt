@@ -8,8 +8,9 @@ use std::sync::{Condvar, MutexGuard, Wait};
 /// How many groups the waiters of a node stand in: one for each bit of a `Groups`.
 const GROUPS: usize = 64;
 
-/// What the bytes of a name are weighed by, so that like names fall into different groups.
-const WEIGHT: usize = 31;
+/// What the bytes of a name are weighed by. No two of its first 16 powers leave the same remainder by `GROUPS`, so that names which
+/// differ in their digits fall into all groups.
+const WEIGHT: usize = 37;
 
 /// Groups of waiters, a bit for each.
 #[derive(Clone, Copy, Debug, PartialEq, Eq)]

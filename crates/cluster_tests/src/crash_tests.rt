@@ -19,6 +19,10 @@ use std::time::Clock;
 /// A client that removes a message.
 const LINES: &[u8] = b"USER alice\r\nPASS s3\r\nDELE 1\r\nQUIT\r\n";
 
+/// How many turns the crash comes behind the question, so that the session has come to sleep by then. Where it hasn't, it finds
+/// a node that has stopped: the test passes all the same, and doesn't see a crash that wakes nobody.
+const TURNS_TO_SLEEP: u32 = 50;
+
 type Nodes<D, R> = Cluster<D, R, InboxLink<R>>;
 
 type DeskOf<D, R> = NodeDesk<D, R, InboxLink<R>>;
@@ -32,6 +36,9 @@ fn crash_once_waiting<D: Deployment, R: Wait + Clock>(rt: &R, desk: &DeskOf<D, R
         if !status.is_some_and(|status| status.up && !status.waiting) {
             break;
         }
+        wait_a_turn(rt);
+    }
+    for _ in 0..TURNS_TO_SLEEP {
         wait_a_turn(rt);
     }
     let was_up = desk.crash();

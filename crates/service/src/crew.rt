@@ -1,6 +1,6 @@
 //! The threads of a port's connections.
 
-use crate::host::Host;
+use crate::handler::Handler;
 use crate::idle::{Idle, Seat};
 use ballot::Memory;
 use std::alloc::Global;
@@ -37,7 +37,7 @@ pub(crate) struct Crew {
 
 /// What a thread serves connections by.
 #[derive(Drop)]
-struct Worker<H: Host> {
+struct Worker<H: Handler> {
     host: H,
     seat: Seat,
     /// What its post has of the connection, where that is to be cut at the end.
@@ -46,7 +46,7 @@ struct Worker<H: Host> {
     place: usize,
 }
 
-impl<H: Host> Worker<H> {
+impl<H: Handler> Worker<H> {
     /// Serves a connection to its end, and closes it: a client that still sends what nobody reads is not to wait for ever.
     fn serve<R: Wait>(&mut self, rt: &R, stream: Arc<TcpStream>) {
         self.host.serve(&stream);
@@ -126,13 +126,10 @@ impl Crew {
 
     /// Has a connection served by a thread that waits for one, or by a new one. Where there is none, the connection is
     /// closed without a word.
-    pub(crate) fn take<R: Threads + Wait + Copy + Send + 'static, H: Host + Send + Drop + 'static>(
-        &mut self,
-        rt: R,
-        alloc: Global,
-        stream: TcpStream,
-        host: &H,
-    ) {
+    pub(crate) fn take<
+        R: Threads + Wait + Copy + Send + 'static,
+        H: Handler + Send + Drop + 'static,
+    >(&mut self, rt: R, alloc: Global, stream: TcpStream, host: &H) {
         let Ok(stream) = Arc::new(alloc, stream) else {
             return;
         };
@@ -142,7 +139,7 @@ impl Crew {
     }
 
     /// Serves a connection on a new thread.
-    fn add<R: Threads + Wait + Copy + Send + 'static, H: Host + Send + Drop + 'static>(
+    fn add<R: Threads + Wait + Copy + Send + 'static, H: Handler + Send + Drop + 'static>(
         &mut self,
         rt: R,
         alloc: Global,
@@ -165,7 +162,7 @@ impl Crew {
     }
 
     /// Starts the thread of a place. Nothing where no thread or no memory is to be had.
-    fn start<R: Threads + Wait + Copy + Send + 'static, H: Host + Send + Drop + 'static>(
+    fn start<R: Threads + Wait + Copy + Send + 'static, H: Handler + Send + Drop + 'static>(
         &self,
         rt: R,
         alloc: Global,

@@ -4,17 +4,21 @@ ghost use Rattle.service.specs.Answers as spec;
 ghost use Rattle.service.specs.Options.{is_between, last_port};
 
 use crate::fault::Fault;
+use crate::file::read_file;
 use crate::operator::say;
 use crate::system::local;
 use script::{Instruction, Request, WordsFault, instruction_of, put_request};
 use std::alloc::Global;
-use std::io;
-use std::io::{BufRead, BufReader, Eprint, Read, Write};
+use std::io::{BufRead, BufReader, Eprint, Write};
 use std::net::{Net, Shutdown, TcpListener, TcpStream};
 use std::rt::Files;
+use std::time::Duration;
 
 /// The exit status where what was asked wasn't done.
 const REFUSED: u8 = 3;
+
+/// How long the service may leave a request unanswered that no node has to decide. Then it is told as a fault of reading.
+const LONGEST_PAUSE_SECONDS: u64 = 60;
 
 /// What is sent to the operator's port: a line, and what stands behind it.
 #[derive(Drop)]
@@ -81,6 +85,14 @@ fn ends_answer(instruction: &Instruction<'_>, line: &[u8]) -> bool
     }
 }
 
+/// Whether the answer to an instruction may have to wait until the nodes have decided.
+fn awaits_nodes(instruction: &Instruction<'_>) -> bool {
+    match instruction {
+        Instruction::Deliver { .. } => true,
+        Instruction::Ask(request) => matches!(request, Request::Break { .. }),
+    }
+}
+
 /// How an answer to an instruction ends whose last line this is, without its line feed.
 fn ending_by(instruction: &Instruction<'_>, line: &[u8]) -> Ending
     ensures { result ≡ spec.ending_by instruction.now line.now }
@@ -91,23 +103,6 @@ fn ending_by(instruction: &Instruction<'_>, line: &[u8]) -> Ending
         Ending::Done
     } else {
         Ending::Broken
-    }
-}
-
-/// The bytes of a file.
-fn read_file<R: Files>(rt: &R, alloc: Global, path: &[u8]) -> Result<Vec<u8>, Fault> {
-    let Ok(path) = std::str::from_utf8(path) else {
-        return Err(Fault::Read);
-    };
-    let mut bytes = Vec::new(alloc);
-    let read = match std::fs::open(rt, path) {
-        Ok(mut file) => file.read_to_end(&mut bytes),
-        Err(error) => Err(error),
-    };
-    match read {
-        Ok(_) => Ok(bytes),
-        Err(error) if error.kind() == io::ErrorKind::OutOfMemory => Err(Fault::Memory),
-        Err(_) => Err(Fault::Read),
     }
 }
 
@@ -132,7 +127,10 @@ fn message_for<R: Files>(
             file,
             key,
         } => {
-            let body = read_file(rt, alloc, file.get())?;
+            let Ok(path) = std::str::from_utf8(file.get()) else {
+                return Err(Fault::Read);
+            };
+            let body = read_file(rt, alloc, path)?;
             let request = Request::Deliver {
                 node: *node,
                 user: *user,
@@ -196,6 +194,9 @@ fn ask<R: Net<Listener = TcpListener, Stream = TcpStream> + Files, W: Write>(
     let Ok(stream) = rt.connect(local(port)) else {
         return Err(Fault::Reach(port));
     };
+    if !awaits_nodes(instruction) {
+        let _reads = stream.set_read_timeout(Some(Duration::from_secs(LONGEST_PAUSE_SECONDS)));
+    }
     send(&stream, &message);
     print_answer(alloc, &stream, writer, instruction)?.status()
 }

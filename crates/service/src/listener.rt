@@ -5,7 +5,7 @@ use crate::arrivals::Arrivals;
 use crate::board::Board;
 use crate::crew::{Crew, Ended};
 use crate::fault::Fault;
-use crate::host::Host;
+use crate::handler::Handler;
 use crate::idle::Idle;
 use crate::system::{System, local};
 use std::alloc::Global;
@@ -42,7 +42,7 @@ impl Port {
     }
 
     /// Takes connections on a thread of its own, until the service stops and those that were taken have ended.
-    pub(crate) fn start<R: System, H: Host + Send + Drop + 'static>(
+    pub(crate) fn start<R: System, H: Handler + Send + Drop + 'static>(
         self,
         rt: R,
         alloc: Global,
@@ -62,7 +62,7 @@ impl Port {
 }
 
 /// Takes connections until the service stops. The port is closed then, and the connections go on to their ends.
-fn take_all<R: System, H: Host + Send + Drop + 'static>(
+fn take_all<R: System, H: Handler + Send + Drop + 'static>(
     rt: R,
     alloc: Global,
     port: Port,

@@ -7,30 +7,30 @@ use std::sync::Wait;
 
 impl<D: Deployment, R: Wait + Copy, L: Link> ServedNode for NodeDesk<D, R, L> {
     fn me(&self) -> NodeId {
-        self.me()
+        NodeDesk::me(self)
     }
 
     fn share(&self) -> Result<Self, Memory> {
-        self.share()
+        NodeDesk::share(self)
     }
 
     fn crash(&self) -> bool {
-        self.crash()
+        NodeDesk::crash(self)
     }
 
     fn tick(&self) {
-        self.tick();
+        NodeDesk::tick(self);
     }
 
     fn campaign(&self) {
-        self.campaign();
+        NodeDesk::campaign(self);
     }
 
     fn has_unheard(&self) -> bool {
-        self.has_unheard()
+        NodeDesk::has_unheard(self)
     }
 
     fn status(&self) -> Option<Status> {
-        self.status()
+        NodeDesk::status(self)
     }
 }

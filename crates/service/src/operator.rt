@@ -6,7 +6,7 @@ ghost use Rattle.script.specs.Requests.{longest_request};
 use crate::board::Board;
 use crate::delivery::{deliver, texts_in};
 use crate::fault::Fault;
-use crate::host::Host;
+use crate::handler::Handler;
 use crate::served_node::ServedNode;
 use ballot::{Memory, NodeId};
 use gathering::Gathering;
@@ -22,14 +22,14 @@ use std::time::{Clock, Duration};
 /// How many bytes of a mailbox file are read at a time, and how many bytes of an answer are gathered at most.
 const PIECE: usize = 4096;
 
-/// How long an answer may wait for an operator who doesn't read it. Then the connection is closed, so that it holds up no
-/// end of the service.
-const LONGEST_WRITE_SECONDS: u64 = 60;
+/// How long an operator may leave what is asked of him undone: to send the next of his request, or to read the next of his answer.
+/// Then the connection is closed, so that it holds up no end of the service, and no other operator's place.
+const LONGEST_PAUSE_SECONDS: u64 = 60;
 
 /// Answers operators: one request a connection.
 #[derive(Drop)]
-pub(crate) struct OperatorHost<R, N: ServedNode> {
-    /// The system: random bytes, and waits.
+pub(crate) struct OperatorHandler<R, N: ServedNode> {
+    /// The system: waits, the clock and the ports that are woken at the end.
     pub rt: R,
     /// Where its memory comes from.
     pub alloc: Global,
@@ -105,7 +105,7 @@ fn break_lock<D: Desk<Op, Outcome>, W: Write>(
     }
 }
 
-impl<R: Net + Wait + Clock + Copy, N: ServedNode + Desk<Op, Outcome> + Drop> OperatorHost<R, N> {
+impl<R: Net + Wait + Clock + Copy, N: ServedNode + Desk<Op, Outcome> + Drop> OperatorHandler<R, N> {
     fn node(&self, number: NodeId) -> Option<&N> {
         self.nodes.iter().find(|node| node.me() == number)
     }
@@ -214,12 +214,14 @@ impl<R: Net + Wait + Clock + Copy, N: ServedNode + Desk<Op, Outcome> + Drop> Ope
     }
 }
 
-impl<R: Net + Wait + Clock + Copy, N: ServedNode + Desk<Op, Outcome> + Drop> Host
-    for OperatorHost<R, N> {
+impl<R: Net + Wait + Clock + Copy, N: ServedNode + Desk<Op, Outcome> + Drop> Handler
+    for OperatorHandler<R, N> {
     fn serve(&mut self, stream: &TcpStream) {
         // An outcome is told as soon as it is there.
         let _slower = stream.set_nodelay(true);
-        let _waits = stream.set_write_timeout(Some(Duration::from_secs(LONGEST_WRITE_SECONDS)));
+        let pause = Some(Duration::from_secs(LONGEST_PAUSE_SECONDS));
+        let _reads = stream.set_read_timeout(pause);
+        let _writes = stream.set_write_timeout(pause);
         let _closed = self.respond(stream);
     }
 
@@ -227,7 +229,7 @@ impl<R: Net + Wait + Clock + Copy, N: ServedNode + Desk<Op, Outcome> + Drop> Hos
         let nodes = Arc::try_clone(&self.nodes)?;
         let board = Arc::try_clone(&self.board)?;
         let ports = Arc::try_clone(&self.ports)?;
-        Ok(OperatorHost {
+        Ok(OperatorHandler {
             rt: self.rt,
             alloc: self.alloc,
             nodes,

@@ -4,18 +4,13 @@ ghost use Rattle.service.specs.Options as spec;
 
 use crate::fault::Fault;
 use apop::stamp;
-use ballot::{Cluster, Items};
+use ballot::{Cluster, Items, LAST_NODE};
 use maildrop::Limits;
+use node::WIDEST_WINDOW;
 use std::alloc::Global;
-
-/// The widest window.
-const WIDEST_WINDOW: u64 = 1_000;
 
 /// The highest number of milliseconds that may be asked for between two ticks.
 const LONGEST_TICK_MS: u64 = 1_000_000;
-
-/// The most nodes.
-const MOST_NODES: u64 = 9;
 
 /// The highest port.
 const LAST_PORT: u64 = 65_535;
@@ -77,7 +72,7 @@ fn is_between(low: u64, high: u64, number: u64) -> bool
 fn are_in_range(options: &ServeOptions<'_>) -> bool
     ensures { result ≡ spec.are_in_range options.now }
 {
-    is_between(1, MOST_NODES, options.nodes)
+    is_between(1, LAST_NODE as u64, options.nodes)
         && is_between(1, WIDEST_WINDOW, options.window)
         && is_between(1, LONGEST_TICK_MS, options.tick_ms)
         && is_between(1, LAST_PORT, options.ctl_port)

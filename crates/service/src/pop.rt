@@ -1,7 +1,7 @@
 //! POP3 connections.
 
 use crate::board::Board;
-use crate::host::Host;
+use crate::handler::Handler;
 use crate::served_node::ServedNode;
 use ballot::Memory;
 use gathering::Gathering;
@@ -17,7 +17,7 @@ const GATHERED: usize = 4_096;
 
 /// Serves POP3 sessions (RFC 1939) at a node.
 #[derive(Drop)]
-pub(crate) struct PopHost<R, N: ServedNode> {
+pub(crate) struct PopHandler<R, N: ServedNode> {
     /// The system: random bytes, and waits.
     pub rt: R,
     /// Where its memory comes from.
@@ -28,8 +28,8 @@ pub(crate) struct PopHost<R, N: ServedNode> {
     pub board: Arc<Board>,
 }
 
-impl<R: RandomSource + Wait + Copy, N: ServedNode + Desk<Op, Outcome> + Drop> Host
-    for PopHost<R, N> {
+impl<R: RandomSource + Wait + Copy, N: ServedNode + Desk<Op, Outcome> + Drop> Handler
+    for PopHandler<R, N> {
     fn serve(&mut self, stream: &TcpStream) {
         // A reply is never held back to be joined with the next.
         let _slower = stream.set_nodelay(true);
@@ -53,7 +53,7 @@ impl<R: RandomSource + Wait + Copy, N: ServedNode + Desk<Op, Outcome> + Drop> Ho
     fn share(&self) -> Result<Self, Memory> {
         let node = self.node.share()?;
         let board = Arc::try_clone(&self.board)?;
-        Ok(PopHost {
+        Ok(PopHandler {
             rt: self.rt,
             alloc: self.alloc,
             node,

@@ -13,6 +13,7 @@ ghost use Rattle.maildrop.specs.Name.{are_different};
 
 use crate::board::Board;
 use crate::fault::Fault;
+use crate::file::read_file;
 use crate::operator::say;
 use crate::options::{ServeOptions, Settings, settings_of};
 use crate::serving;
@@ -24,8 +25,7 @@ use ballot::{Items, NodeId};
 use cluster::{Cluster, Deployment, InboxLink, NodeDesk, Setup, StartError};
 use node::NodeLog;
 use std::alloc::Global;
-use std::io;
-use std::io::{Eprint, Read, Write};
+use std::io::{Eprint, Write};
 use std::marker::Brand;
 use std::net::{Net, TcpListener, TcpStream};
 use std::random::RandomSource;
@@ -62,16 +62,8 @@ fn accounts_in(alloc: Global, bytes: &[u8]) -> Result<Accounts, Fault>
 
 /// The accounts of the file of this path.
 fn accounts_of<R: Files>(rt: &R, alloc: Global, path: &str) -> Result<Accounts, Fault> {
-    let mut bytes = Vec::new(alloc);
-    let read = match std::fs::open(rt, path) {
-        Ok(mut file) => file.read_to_end(&mut bytes),
-        Err(error) => Err(error),
-    };
-    match read {
-        Ok(_) => accounts_in(alloc, bytes.as_slice()),
-        Err(error) if error.kind() == io::ErrorKind::OutOfMemory => Err(Fault::Memory),
-        Err(_) => Err(Fault::Read),
-    }
+    let bytes = read_file(rt, alloc, path)?;
+    accounts_in(alloc, bytes.as_slice())
 }
 
 /// What the nodes begin with.

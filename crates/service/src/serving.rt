@@ -5,9 +5,9 @@ ghost use Rattle.service.specs.Faults.{IsPortFault};
 use crate::board::Board;
 use crate::fault::Fault;
 use crate::listener::Port;
-use crate::operator::OperatorHost;
+use crate::operator::OperatorHandler;
 use crate::options::Settings;
-use crate::pop::PopHost;
+use crate::pop::PopHandler;
 use crate::served_node::ServedNode;
 use crate::system::System;
 use crate::ticker;
@@ -107,13 +107,13 @@ fn start_sessions<R: System, N: ServedNode + Desk<Op, Outcome> + Send + Sync + D
     threads.ticker.push_reserved(ticker);
     for (node, port) in nodes.iter().zip(ports) {
         threads.sessions.reserve(1)?;
-        let host = PopHost {
+        let handler = PopHandler {
             rt,
             alloc,
             node: node.share()?,
             board: Arc::try_clone(board)?,
         };
-        let listener = port.start(rt, alloc, host, Arc::try_clone(board)?)?;
+        let listener = port.start(rt, alloc, handler, Arc::try_clone(board)?)?;
         threads.sessions.push_reserved(listener);
     }
     Ok(())
@@ -130,14 +130,14 @@ fn start_operators<R: System, N: ServedNode + Desk<Op, Outcome> + Send + Sync + 
     threads: &mut ServiceThreads,
 ) -> Result<(), Fault> {
     threads.operators.reserve(1)?;
-    let host = OperatorHost {
+    let handler = OperatorHandler {
         rt,
         alloc,
         nodes,
         board: Arc::try_clone(board)?,
         ports: Arc::try_clone(numbers)?,
     };
-    let listener = port.start(rt, alloc, host, Arc::try_clone(board)?)?;
+    let listener = port.start(rt, alloc, handler, Arc::try_clone(board)?)?;
     threads.operators.push_reserved(listener);
     Ok(())
 }

@@ -4,7 +4,7 @@ use ballot::Memory;
 use std::net::TcpStream;
 
 /// What is done with the connections of a port.
-pub(crate) trait Host {
+pub(crate) trait Handler {
     /// Serves a connection to its end.
     fn serve(&mut self, stream: &TcpStream);
 
