@@ -86,7 +86,9 @@ pub fn audit<A: Allocator + Copy>(
     let Placing {
         placements,
         replays,
-        ..
+        sent,
     } = placing;
+    // No judgment looks at it, and it is large.
+    drop(sent);
     judge(alloc, logs, transcripts, &findings, &placements, replays)
 }

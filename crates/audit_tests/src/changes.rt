@@ -41,6 +41,12 @@ pub enum Change {
     NoWindow,
     /// The log at this place ends with the arrival of a message that no node sent.
     Unsent(usize),
+    /// There are no logs.
+    NoLogs,
+    /// There are no transcripts.
+    NoSessions,
+    /// The second log is that of another node 1.
+    OneNumber,
 }
 
 fn is_p2a(input: &Input) -> bool {
@@ -174,6 +180,18 @@ pub fn make_change(run: &mut Run, change: Change) -> Result<(), Fail> {
             Ok(())
         }
         Change::Unsent(place) => add_unsent(run.logs.get_mut(place).ok_or("no log")?),
+        Change::NoLogs => {
+            run.logs.clear();
+            Ok(())
+        }
+        Change::NoSessions => {
+            run.transcripts.clear();
+            Ok(())
+        }
+        Change::OneNumber => {
+            run.logs.get_mut(1).ok_or("no log")?.opening.me = node(1)?;
+            Ok(())
+        }
         Change::Twice => name_twice(run),
         Change::AsOne => as_one(run),
         Change::Blank => {

@@ -95,3 +95,14 @@ fn what_was_told_otherwise_is_wrong(rt: HostRuntime) -> Result<(), Fail> {
     ];
     check_rows(rt.alloc(), rows.as_slice())
 }
+
+#[test]
+fn what_no_service_leaves_is_told(rt: HostRuntime) -> Result<(), Fail> {
+    let first = node(1)?;
+    let rows = [
+        (ALONE, Change::NoLogs, Some(WrongAnswer(0))),
+        (ALONE, Change::NoSessions, Some(NoOrder(first))),
+        (APART, Change::OneNumber, Some(NoOrder(first))),
+    ];
+    check_rows(rt.alloc(), rows.as_slice())
+}
