@@ -32,9 +32,10 @@ fn requested(alloc: Global) -> Result<OfficeReplica, Fail> {
     Ok(replica)
 }
 
-/// The Take is decided for a slot. Gives how many commands are performed then, and the next slot.
+/// The Take is decided for a slot, and nothing is sent. Gives how many commands are performed then, and the next slot.
 fn decide(alloc: Global, replica: &mut OfficeReplica, place: u64) -> Result<(usize, u64), Fail> {
-    let _ = replica.decision(slot(place)?, first_take(alloc)?)?;
+    let sends = replica.decision(slot(place)?, first_take(alloc)?)?;
+    check(sends.len() == 0, "something is sent")?;
     Ok((replica.performed().len(), replica.slot_out()))
 }
 
