@@ -12,7 +12,7 @@ mod wire;
 fn main() {
     let arguments: Vec<String> = std::env::args().skip(1).collect();
     match arguments.as_slice() {
-        [word, pairs] if word == "nodes" => nodes::measure(pairs),
+        [word, pairs, starts] if word == "nodes" => nodes::measure(pairs, starts),
         [word, sessions, audits] if word == "audits" => audits::measure(sessions, audits),
         [word] if word == "audits" => audits::tell(),
         [reader, ..] => mailbox::measure(reader),
