@@ -5,6 +5,7 @@ use crate::running::{Running, file, remove, start};
 use std::alloc::Global;
 use std::io::Eprint;
 use std::net::{Net, TcpListener, TcpStream};
+use std::random::RandomSource;
 use std::rt::Files;
 use std::test::*;
 use std::thread;
@@ -61,11 +62,9 @@ const STORED: &[u8] =
     b"op alice 1/1 too large\nop alice 1/2 stored 1\nop alice 1/3 full\nop alice 1/4 stored 2\nend\n";
 
 /// Whether alice, who has no mail yet, gets a large message as her first.
-fn is_large_stored<R: Net<Listener = TcpListener, Stream = TcpStream> + Files + Eprint>(
-    rt: &R,
-    alloc: Global,
-    service: &Running,
-) -> Result<bool, Fail> {
+fn is_large_stored<
+    R: Net<Listener = TcpListener, Stream = TcpStream> + RandomSource + Files + Eprint,
+>(rt: &R, alloc: Global, service: &Running) -> Result<bool, Fail> {
     let path = file(rt, alloc, "large", large_mailbox(alloc)?.as_slice())?;
     let told = service.ctl(rt, alloc, &["deliver", "1", "alice", path.as_str()]);
     remove(rt, path.as_str());

@@ -5,6 +5,7 @@ use crate::running::{Running, ctl, file, remove};
 use std::alloc::Global;
 use std::io::{Eprint, Read};
 use std::net::{Net, Shutdown, TcpListener, TcpStream};
+use std::random::RandomSource;
 use std::rt::Files;
 use std::test::Fail;
 use std::thread::Threads;
@@ -221,12 +222,9 @@ impl Stage {
 }
 
 /// Plays a scene at a service that has just begun, and that is to end with `audit ok`.
-pub fn play<R: Net<Listener = TcpListener, Stream = TcpStream> + Threads + Files + Eprint>(
-    rt: &R,
-    alloc: Global,
-    service: Running,
-    scene: &Scene,
-) -> Result<(), Fail> {
+pub fn play<
+    R: Net<Listener = TcpListener, Stream = TcpStream> + Threads + RandomSource + Files + Eprint,
+>(rt: &R, alloc: Global, service: Running, scene: &Scene) -> Result<(), Fail> {
     let mut stage = Stage {
         alloc,
         service,

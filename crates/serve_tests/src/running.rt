@@ -106,15 +106,18 @@ pub fn free_ports<R: Net<Listener = TcpListener, Stream = TcpStream>>(
     Err(Fail::from("no free ports"))
 }
 
-/// A file of these bytes in the system's folder for such files. Gives its path.
-pub fn file<R: Net<Listener = TcpListener, Stream = TcpStream> + Files>(
+/// A file of these bytes in the system's folder for such files, under a name with random digits, so that no two tests share one.
+/// Gives its path.
+pub fn file<R: RandomSource + Files>(
     rt: &R,
     alloc: Global,
     name: &str,
     bytes: &[u8],
 ) -> Result<String, Fail> {
-    let port = free_ports(rt)?.first;
-    let path = format!(in alloc; "/tmp/maildropd-{name}-{port}")?;
+    let mut random = [0u8; 8];
+    rt.fill_bytes(&mut random)?;
+    let digits = u64::from_be_bytes(random);
+    let path = format!(in alloc; "/tmp/maildropd-{name}-{digits:016x}")?;
     std::fs::write(rt, path.as_str(), bytes)?;
     Ok(path)
 }
@@ -141,7 +144,7 @@ pub struct Site {
 }
 
 /// A service of three nodes with these accounts, as its thread has it and as the test.
-pub fn planned<R: Net<Listener = TcpListener, Stream = TcpStream> + Files>(
+pub fn planned<R: Net<Listener = TcpListener, Stream = TcpStream> + RandomSource + Files>(
     rt: &R,
     alloc: Global,
     accounts: &str,
