@@ -1,5 +1,5 @@
 -- Each run of a service is linearizable, in the order that its nodes decide.
-use Rattle.std.proofs.Common.{◌≡◌, ℕ, List, [], ◌∷◌, ◌++◌, Some, sym, subst}
+use Rattle.std.proofs.Common.{◌≡◌, ℕ, List, [], ◌∷◌, ◌++◌, Some, refl, sym, ap, ◌∙◌, subst}
 use Rattle.std.specs.Prelude.{fold}
 use Rattle.std.proofs.lemmas.List.Sums.{fold-append}
 use Rattle.maildrop.specs.CommandId.{CommandId}
@@ -9,18 +9,20 @@ use Rattle.node.specs.Outcomes.{IsOutcomeOf}
 use Rattle.node.specs.Submits.{IsSubmitted}
 use Rattle.node.specs.declared.log.Opening.{Opening}
 use Rattle.session.specs.Prefix.{IsPrefix}
-use Rattle.world.specs.Chosen.{chosen}
+use Rattle.world.specs.Chosen.{chosen, IsChosen}
 use Rattle.world.specs.Decided.{without_gap}
 use Rattle.world.specs.Decisions.{WereSubmitted}
-use Rattle.world.specs.Messages.{envelopes, log_of}
+use Rattle.world.specs.Messages.{NodeEvent, Network, new_network, happen, network_of, envelopes, log_of}
+use Rattle.world.specs.Messages as network
 use Rattle.world.specs.Projection.{decided}
 use Rattle.world.specs.Services.{Service, Happening, opening_of, new_service, happens, run_of}
 use Rattle.world.specs.declared.config.Config.{Config}
 use Rattle.world.proofs.Decisions.{decided_submitted}
 use Rattle.world.proofs.Outcomes.{answer_own}
 use Rattle.world.proofs.Prefixes.{all_of, prefix_on}
-use Rattle.world.proofs.ServiceRuns.{AreOfRun, next_of_run, decided_grows}
+use Rattle.world.proofs.ServiceRuns.{AreOfRun, happens_follows, next_of_run, decided_grows}
 use Rattle.world.proofs.Serving.{every_service}
+use Rattle.world.proofs.Theorems.{stays_chosen}
 use Rattle.linearizability.specs.Linearized.{IsAnswered, IsNew, StandsIn, Precedes, IsLinearized}
 use Rattle.linearizability.proofs.Repeats.{each_once, stands_between, stands_as}
 
@@ -34,12 +36,44 @@ module _ {A : Type 0} where
       prefix_on (decided cfg w) (decided cfg next) (decided cfg (fold (happens cfg) next hs))
       (decided_grows cfg w h run) (decided_stays cfg next (next_of_run cfg w h run) hs)
 
-  run_grows : (cfg : Config A) (early late : List (Happening A)) →
+  pub run_grows : (cfg : Config A) (early late : List (Happening A)) →
       IsPrefix (decided cfg (run_of cfg early)) (decided cfg (run_of cfg (early ++ late)))
   run_grows cfg early late =
       subst (λ w. IsPrefix (decided cfg (run_of cfg early)) (decided cfg w))
       (sym (fold-append (happens cfg) (new_service cfg) early late))
       (decided_stays cfg (run_of cfg early) (every_service cfg early).nodes late)
+
+  happen_then : (n : Network A) (early late : List (NodeEvent A)) → happen n (early ++ late) ≡ happen (happen n early) late
+  happen_then n [] late = refl
+  happen_then n (e ∷ early) late = happen_then (network.happens n e) early late
+
+  -- behind one event more the nodes have taken part in a longer run
+  goes_on : (cfg : Config A) (w : Service A) (run : AreOfRun cfg w) (h : Happening A) →
+      (more : List (NodeEvent A)) × ((happens cfg w h).network ≡ network_of (opening_of cfg) (run.0 ++ more))
+  goes_on cfg w run h =
+      let next = happens_follows w cfg h in
+      (next.0, next.1 ∙ ap (λ n. happen n next.0) run.1 ∙ sym (happen_then (new_network (opening_of cfg)) run.0 next.0))
+
+  chosen_then : (cfg : Config A) (w : Service A) → AreOfRun cfg w → (h : Happening A) (slot : ℕ) (c : Command A) →
+      IsChosen cfg.cluster (envelopes w.network) slot c → IsChosen cfg.cluster (envelopes (happens cfg w h).network) slot c
+  chosen_then cfg w run h slot c is =
+      let longer = goes_on cfg w run h in
+      subst (λ n. IsChosen cfg.cluster (envelopes n) slot c) (sym longer.1)
+      (stays_chosen (opening_of cfg) run.0 longer.0 slot c
+      (subst (λ n. IsChosen cfg.cluster (envelopes n) slot c) run.1 is))
+
+  chosen_on : (cfg : Config A) (w : Service A) → AreOfRun cfg w → (happenings : List (Happening A)) (slot : ℕ) (c : Command A) →
+      IsChosen cfg.cluster (envelopes w.network) slot c → IsChosen cfg.cluster (envelopes (fold (happens cfg) w happenings).network) slot c
+  chosen_on cfg w run [] slot c is = is
+  chosen_on cfg w run (h ∷ hs) slot c is = chosen_on cfg (happens cfg w h) (next_of_run cfg w h run) hs slot c (chosen_then cfg w run h slot c is)
+
+  pub run_chosen : (cfg : Config A) (early late : List (Happening A)) (slot : ℕ) (c : Command A) →
+      IsChosen cfg.cluster (envelopes (run_of cfg early).network) slot c →
+      IsChosen cfg.cluster (envelopes (run_of cfg (early ++ late)).network) slot c
+  run_chosen cfg early late slot c is =
+      subst (λ w. IsChosen cfg.cluster (envelopes w.network) slot c)
+      (sym (fold-append (happens cfg) (new_service cfg) early late))
+      (chosen_on cfg (run_of cfg early) (every_service cfg early).nodes late slot c is)
 
   answer_outcome : (cfg : Config A) (w : Service A) → AreOfRun cfg w → (id : CommandId) (answer : Outcome A) →
       IsAnswered w id answer → IsOutcomeOf (opening_of cfg) (decided cfg w) id answer

@@ -8,9 +8,13 @@
 //! stands before it.
 #![tactic(auto)]
 
-ghost use Rattle.std.specs.Prelude.{List, ◌++◌};
+ghost use Rattle.std.specs.Prelude.{ℕ, List, ◌++◌};
 ghost use Rattle.maildrop.specs.CommandId.{CommandId};
+ghost use Rattle.maildrop.specs.declared.command.Command.{Command};
 ghost use Rattle.maildrop.specs.declared.outcome.Outcome.{Outcome};
+ghost use Rattle.session.specs.Prefix.{IsPrefix};
+ghost use Rattle.world.specs.Chosen.{IsChosen};
+ghost use Rattle.world.specs.Messages.{envelopes};
 ghost use Rattle.world.specs.Projection.{decided};
 ghost use Rattle.world.specs.Services.{Happening, run_of};
 ghost use Rattle.world.specs.declared.config.Config.{Config};
@@ -30,4 +34,13 @@ pub fn answered_commands_come_first<A: Allocator>()
     ensures { (config : Config A) (early late : List (Happening A)) (id other : CommandId) (answer : Outcome A) →
         IsAnswered (run_of config early) id answer → IsNew (run_of config early) other
         → Precedes id other (decided config (run_of config (early ++ late))) }
+{}
+
+/// Whatever happens later, a command that is chosen in a slot stays chosen there, and the decided order only grows.
+pub fn what_is_decided_stays<A: Allocator>()
+    ensures chosen { (config : Config A) (early late : List (Happening A)) (slot : ℕ) (c : Command A) →
+        IsChosen config.cluster (envelopes (run_of config early).network) slot c
+        → IsChosen config.cluster (envelopes (run_of config (early ++ late)).network) slot c }
+    ensures order { (config : Config A) (early late : List (Happening A)) →
+        IsPrefix (decided config (run_of config early)) (decided config (run_of config (early ++ late))) }
 {}
