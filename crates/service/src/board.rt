@@ -9,7 +9,6 @@ use session::Transcript;
 use std::alloc::Global;
 use std::net::Net;
 use std::random::RandomSource;
-use std::sync::atomic::{AtomicU64, Ordering};
 use std::sync::{Condvar, Mutex, Wait};
 use std::time::{Clock, Duration};
 use std::{io, thread};
@@ -57,7 +56,8 @@ pub(crate) struct Board {
     host: Items<u8>,
     stage: Mutex<Stage>,
     ends: Condvar,
-    connections: AtomicU64,
+    /// How many sessions were greeted.
+    sessions: Mutex<u64>,
     kept: Mutex<Kept>,
 }
 
@@ -73,7 +73,7 @@ impl Board {
             host,
             stage: Mutex::new(Stage::Serving),
             ends: Condvar::new(),
-            connections: AtomicU64::new(0),
+            sessions: Mutex::new(0),
             kept: Mutex::new(kept),
         }
     }
@@ -85,14 +85,21 @@ impl Board {
 
     /// The timestamp of a new session's greeting: 16 random hexadecimal digits, a dot and the number of the session,
     /// counted from 1, before the service's host. Nothing where the system gives no random bytes.
-    pub(crate) fn new_stamp<R: RandomSource>(&self, rt: &R, alloc: Global) -> Option<Stamp> {
-        let before = self.connections.fetch_add(1, Ordering::SeqCst);
-        let number = before.wrapping_add(1);
+    pub(crate) fn new_stamp<R: RandomSource + Wait>(&self, rt: &R, alloc: Global) -> Option<Stamp> {
+        let number = self.next_number(rt);
         let mut bytes = [0u8; 8];
         rt.fill_bytes(&mut bytes).ok()?;
         let digits = u64::from_be_bytes(bytes);
         let nonce = format!(in alloc; "{digits:016x}.{number}").ok()?;
         stamp(nonce.as_bytes(), self.host.get())
+    }
+
+    /// The number of a new session.
+    fn next_number<R: Wait>(&self, rt: &R) -> u64 {
+        let mut sessions = self.sessions.lock(rt);
+        let number = sessions.wrapping_add(1);
+        *sessions = number;
+        number
     }
 
     /// Keeps what a session left.
