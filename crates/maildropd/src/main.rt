@@ -28,7 +28,7 @@ const VERSION: &str = "0.1.0";
 
 fn command<'a>(alloc: Global) -> Result<Command<'a>, Error> {
     let maildropd = Command::new(alloc, "maildropd")
-        .about("A POP3 server (RFC 1939) in which every function is proved")
+        .about("A POP3 server (RFC 1939), each function of which is proved to meet its contract")
         .version(VERSION)
         .subcommand_required(true)
         .subcommand(lone(alloc)?)?
