@@ -1,5 +1,5 @@
-// A POP3 server without a maildrop: it answers the bytes that the service would, to whoever asks. It is what the service is
-// measured beside. At its port it serves all connections from one epoll loop, at the next one from a thread for each.
+// A POP3 server without a maildrop: it answers whoever asks as the service would, but for the number of messages, which is
+// its own. It is what the service is measured beside. At its port it serves all connections from one epoll loop, at the next one from a thread for each.
 // Arguments: its port, the octets of a message, and how many messages there are.
 #define _GNU_SOURCE
 #include <arpa/inet.h>
