@@ -15,65 +15,57 @@ use Rattle.world.specs.Decisions.{WereSubmitted}
 use Rattle.world.specs.Messages.{NodeEvent, Network, new_network, happen, network_of, envelopes, log_of}
 use Rattle.world.specs.Messages as network
 use Rattle.world.specs.Projection.{decided}
+use Rattle.world.specs.Runs.{order_of}
 use Rattle.world.specs.Services.{Service, Happening, opening_of, new_service, happens, run_of}
 use Rattle.world.specs.declared.config.Config.{Config}
 use Rattle.world.proofs.Decisions.{decided_submitted}
 use Rattle.world.proofs.Outcomes.{answer_own}
 use Rattle.world.proofs.Prefixes.{all_of, prefix_on}
-use Rattle.world.proofs.ServiceRuns.{AreOfRun, happens_follows, next_of_run, decided_grows}
+use Rattle.world.proofs.ServiceRuns.{AreOfRun, Follows, happens_follows}
 use Rattle.world.proofs.Serving.{every_service}
-use Rattle.world.proofs.Theorems.{stays_chosen}
+use Rattle.world.proofs.Theorems.{stays_chosen, order_prefix}
 use Rattle.linearizability.specs.Linearized.{IsAnswered, IsNew, StandsIn, Precedes, IsLinearized}
 use Rattle.linearizability.proofs.Repeats.{each_once, stands_between, stands_as}
 
 module _ {A : Type 0} where
-  -- whatever happens, what was decided stays in front
-  decided_stays : (cfg : Config A) (w : Service A) → AreOfRun cfg w → (happenings : List (Happening A)) →
-      IsPrefix (decided cfg w) (decided cfg (fold (happens cfg) w happenings))
-  decided_stays cfg w run [] = all_of (decided cfg w)
-  decided_stays cfg w run (h ∷ hs) =
-      let next = happens cfg w h in
-      prefix_on (decided cfg w) (decided cfg next) (decided cfg (fold (happens cfg) next hs))
-      (decided_grows cfg w h run) (decided_stays cfg next (next_of_run cfg w h run) hs)
-
-  pub run_grows : (cfg : Config A) (early late : List (Happening A)) →
-      IsPrefix (decided cfg (run_of cfg early)) (decided cfg (run_of cfg (early ++ late)))
-  run_grows cfg early late =
-      subst (λ w. IsPrefix (decided cfg (run_of cfg early)) (decided cfg w))
-      (sym (fold-append (happens cfg) (new_service cfg) early late))
-      (decided_stays cfg (run_of cfg early) (every_service cfg early).nodes late)
-
   happen_then : (n : Network A) (early late : List (NodeEvent A)) → happen n (early ++ late) ≡ happen (happen n early) late
   happen_then n [] late = refl
   happen_then n (e ∷ early) late = happen_then (network.happens n e) early late
 
-  -- behind one event more the nodes have taken part in a longer run
-  goes_on : (cfg : Config A) (w : Service A) (run : AreOfRun cfg w) (h : Happening A) →
-      (more : List (NodeEvent A)) × ((happens cfg w h).network ≡ network_of (opening_of cfg) (run.0 ++ more))
-  goes_on cfg w run h =
-      let next = happens_follows w cfg h in
-      (next.0, next.1 ∙ ap (λ n. happen n next.0) run.1 ∙ sym (happen_then (new_network (opening_of cfg)) run.0 next.0))
+  -- the nodes of a service take part in a run of nodes, whatever happens
+  goes_on : (cfg : Config A) (w : Service A) (happenings : List (Happening A)) → Follows w (fold (happens cfg) w happenings)
+  goes_on cfg w [] = ([], refl)
+  goes_on cfg w (h ∷ hs) =
+      let first = happens_follows w cfg h in
+      let then = goes_on cfg (happens cfg w h) hs in
+      (first.0 ++ then.0, then.1 ∙ ap (λ n. happen n then.0) first.1 ∙ sym (happen_then w.network first.0 then.0))
 
-  chosen_then : (cfg : Config A) (w : Service A) → AreOfRun cfg w → (h : Happening A) (slot : ℕ) (c : Command A) →
-      IsChosen cfg.cluster (envelopes w.network) slot c → IsChosen cfg.cluster (envelopes (happens cfg w h).network) slot c
-  chosen_then cfg w run h slot c is =
-      let longer = goes_on cfg w run h in
-      subst (λ n. IsChosen cfg.cluster (envelopes n) slot c) (sym longer.1)
-      (stays_chosen (opening_of cfg) run.0 longer.0 slot c
-      (subst (λ n. IsChosen cfg.cluster (envelopes n) slot c) run.1 is))
-
-  chosen_on : (cfg : Config A) (w : Service A) → AreOfRun cfg w → (happenings : List (Happening A)) (slot : ℕ) (c : Command A) →
-      IsChosen cfg.cluster (envelopes w.network) slot c → IsChosen cfg.cluster (envelopes (fold (happens cfg) w happenings).network) slot c
-  chosen_on cfg w run [] slot c is = is
-  chosen_on cfg w run (h ∷ hs) slot c is = chosen_on cfg (happens cfg w h) (next_of_run cfg w h run) hs slot c (chosen_then cfg w run h slot c is)
+  -- what holds of the nodes of a run, and of those of every longer one once it does, holds of a longer run of the service
+  stays : (P : Network A → Type 0) (cfg : Config A) →
+      ((first more : List (NodeEvent A)) → P (network_of (opening_of cfg) first) → P (network_of (opening_of cfg) (first ++ more))) →
+      (early late : List (Happening A)) → P (run_of cfg early).network → P (run_of cfg (early ++ late)).network
+  stays P cfg keeps early late h =
+      let w = run_of cfg early in
+      let run = (every_service cfg early).nodes in
+      let longer = goes_on cfg w late in
+      subst (λ (x : Service A). P x.network) (sym (fold-append (happens cfg) (new_service cfg) early late))
+      (subst P (sym (longer.1 ∙ ap (λ n. happen n longer.0) run.1 ∙ sym (happen_then (new_network (opening_of cfg)) run.0 longer.0)))
+      (keeps run.0 longer.0 (subst P run.1 h)))
 
   pub run_chosen : (cfg : Config A) (early late : List (Happening A)) (slot : ℕ) (c : Command A) →
       IsChosen cfg.cluster (envelopes (run_of cfg early).network) slot c →
       IsChosen cfg.cluster (envelopes (run_of cfg (early ++ late)).network) slot c
-  run_chosen cfg early late slot c is =
-      subst (λ w. IsChosen cfg.cluster (envelopes w.network) slot c)
-      (sym (fold-append (happens cfg) (new_service cfg) early late))
-      (chosen_on cfg (run_of cfg early) (every_service cfg early).nodes late slot c is)
+  run_chosen cfg early late slot c =
+      stays (λ n. IsChosen cfg.cluster (envelopes n) slot c) cfg (λ first more. stays_chosen (opening_of cfg) first more slot c) early late
+
+  pub run_grows : (cfg : Config A) (early late : List (Happening A)) →
+      IsPrefix (decided cfg (run_of cfg early)) (decided cfg (run_of cfg (early ++ late)))
+  run_grows cfg early late =
+      let order = decided cfg (run_of cfg early) in
+      stays (λ n. IsPrefix order (decided cfg (record { network = n; clients = [] }))) cfg
+      (λ first more h.
+      prefix_on order (order_of (opening_of cfg) first) (order_of (opening_of cfg) (first ++ more)) h (order_prefix (opening_of cfg) first more))
+      early late (all_of order)
 
   answer_outcome : (cfg : Config A) (w : Service A) → AreOfRun cfg w → (id : CommandId) (answer : Outcome A) →
       IsAnswered w id answer → IsOutcomeOf (opening_of cfg) (decided cfg w) id answer
