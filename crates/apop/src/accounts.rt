@@ -49,8 +49,8 @@ impl<A: Allocator + Copy> Accounts<A> {
         }
     }
 
-    /// Whether an account has this name. Takes no memory.
-    pub(crate) fn has(&self, name: &Name) -> bool
+    /// Whether an account has this name, by one look-up. Takes no memory.
+    pub fn has(&self, name: &Name) -> bool
         ensures { result ≡ has_account self.now name.now }
     {
         self.credentials.contains_key(name)

@@ -11,11 +11,9 @@ use Rattle.maildrop.specs.declared.outcome.Outcome.{Outcome}
 use Rattle.node.specs.declared.log.NodeLog.{NodeLog}
 use Rattle.pop3_wire.specs.declared.line.Line.{Line}
 use Rattle.session.specs.Prefix.{IsPrefix}
-use Rattle.session.specs.Serve.{told, IsWrittenBy}
-use Rattle.session.specs.declared.transcript.End.{End}
-use Rattle.session.specs.declared.transcript.End.TheVariants as end
+use Rattle.session.specs.Serve.{told}
 use Rattle.session.specs.declared.transcript.Transcript.{Transcript}
-use Rattle.session.proofs.Runs.{prefix_behind}
+use Rattle.session.proofs.AsAlone.{front_written}
 use Rattle.world.specs.Clients.{Client, client_of}
 use Rattle.world.specs.Messages.{log_of}
 use Rattle.world.specs.Projection.{own_commands, alone_bytes}
@@ -25,7 +23,7 @@ use Rattle.world.specs.Worlds.{World as Whole, new_world, stepped}
 use Rattle.world.specs.declared.config.Config.{Config}
 use Rattle.world.specs.declared.event.Event as run
 use Rattle.world.proofs.Logs.{new_log_of}
-use Rattle.world.proofs.Prefixes.{all_of, prefix_on, concat_append}
+use Rattle.world.proofs.Prefixes.{all_of, prefix_on}
 use Rattle.world.proofs.Projected.{every_projected}
 use Rattle.audit.specs.Case.{next, after_next, state_at}
 use Rattle.audit.specs.Order.{Awaited, Ends, NothingAwaited, SessionEnds, IsLegalOrder, opening}
@@ -48,23 +46,6 @@ take_push : {X : Type 0} (xs : List X) (k : ℕ) (x : X) → slice_get xs k ≡ 
 take_push [] k x e = absurd (cc)
 take_push (y ∷ ys) zero x e = let same : y ≡ x = cc in ap (λ z. z ∷ []) same
 take_push (y ∷ ys) (suc k) x e = ap (λ zs. y ∷ zs) (take_push ys k x e)
-
--- what is written is a front of the replies, whatever the end is
-all_written : (replies : List (List ℕ)) (written : List ℕ) → written ≡ concat replies → IsPrefix written (concat replies)
-all_written replies written all = ([], append-nil written ∙ all)
-
-concat_last : (front : List (List ℕ)) (last : List ℕ) → concat (front ++ last ∷ []) ≡ concat front ++ last
-concat_last front last = concat_append front (last ∷ []) ∙ ap (λ bytes. concat front ++ bytes) (append-nil last)
-
-front_written : (ended : End) (replies : List (List ℕ)) (written : List ℕ) → IsWrittenBy ended replies written → IsPrefix written (concat replies)
-front_written end.Closed replies written all = all_written replies written all
-front_written end.HungUp replies written all = all_written replies written all
-front_written end.ReadFault replies written all = all_written replies written all
-front_written end.WriteFault replies written less =
-    rw (less.said, less.in_order, concat_last less.front less.last) (prefix_behind (concat less.front) less.sent less.last less.cut)
-front_written end.DeskStopped replies written all = all_written replies written all
-front_written end.Memory replies written h =
-    ⊎_elim (λ all. all_written replies written all) (λ less. rw (less.said, less.in_order, concat_last less.front less.last) (less.last, refl)) h
 
 module _ {A : Type 0} (cfg : Config A) (stamps : ℕ → Stamp) (logs : List (NodeLog A)) (transcripts : List (Transcript A)) (fit : AreFit logs transcripts) (service : AreOfService cfg stamps logs transcripts) where
   abbrev real : RealCase A

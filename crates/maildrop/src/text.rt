@@ -114,11 +114,21 @@ fn are_lines<A: Allocator>(lines: &[Items<u8, A>]) -> bool
     lines.iter().all(|line| is_line(line.get()))
 }
 
+/// The octets of these lines, each with its CR and LF, as far as a number can tell them.
+fn octets_in<A: Allocator>(lines: &[Items<u8, A>]) -> usize {
+    let mut octets = 0usize;
+    for line in lines {
+        octets = octets.saturating_add(line.len()).saturating_add(2);
+    }
+    octets
+}
+
 fn text_of<A: Allocator + Copy>(alloc: A, lines: &[Items<u8, A>]) -> Result<Text<A>, Memory>
     requires { All IsLine lines.now }
     ensures { IfOk result (λ text. text ≡ lines.now) }
 {
     let mut text = TextBuilder::new(alloc);
+    text.reserve(octets_in(lines));
     for line in lines {
         text.push_line(line.get())?;
     }

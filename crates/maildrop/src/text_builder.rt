@@ -68,6 +68,14 @@ impl<A: Allocator> TextBuilder<A> {
         }
     }
 
+    /// Asks for room for lines of so many octets in all, each with its CR and LF, so that they need no request of their
+    /// own. Where there is none, room is asked for again as the lines come.
+    pub fn reserve(&mut self, octets: usize)
+        ensures { self.new ≡ self.old }
+    {
+        let _ = self.block.reserve(octets);
+    }
+
     /// Adds a line at the end. After `Memory` the text is as it was.
     pub fn push_line(&mut self, line: &[u8]) -> Result<(), Memory>
         requires { IsLine line.now }

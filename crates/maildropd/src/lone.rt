@@ -2,10 +2,14 @@
 
 use crate::arguments::{bytes_of, option};
 use clap::{ArgMatches, Command, Error};
-use server::{Fault, LoneOptions, lone_run_gathered};
+use server::{Fault, LoneOptions, lone_run};
 use std::alloc::Global;
+use std::io::BufWriter;
 use std::rt::Files;
 use std::{fs, io};
+
+/// How many bytes of replies are gathered at most before they are written.
+const GATHERED: usize = 65_536;
 
 /// What `--help` shows below the options.
 const EXAMPLE: &str = "Example, which serves a mailbox file at port 1100:
@@ -61,6 +65,12 @@ pub(crate) fn lone<'a>(alloc: Global) -> Result<Command<'a>, Error> {
     Ok(lone)
 }
 
+/// Tells a fault on standard error. Gives its status.
+fn tell<R: Eprint>(rt: &R, fault: Fault) -> u8 {
+    let _ = eprintln!(rt; "maildropd: {fault}");
+    fault.status()
+}
+
 /// Runs `lone`, with the mailbox file's bytes, if there is one.
 fn run_with<R: AllocGlobal + Input + Print + Eprint>(
     rt: &R,
@@ -75,7 +85,10 @@ fn run_with<R: AllocGlobal + Input + Print + Eprint>(
         host: bytes_of(matches, "host"),
         mbox,
     };
-    lone_run_gathered(rt, rt.reader(), io::writer(rt), &options)
+    match BufWriter::with_capacity(rt.alloc(), GATHERED, io::writer(rt)) {
+        Ok(mut writer) => lone_run(rt, &mut rt.reader(), &mut writer, &options),
+        Err(_) => tell(rt, Fault::Memory),
+    }
 }
 
 pub(crate) fn run_lone<R: AllocGlobal + Files + Input + Print + Eprint>(
@@ -93,8 +106,7 @@ pub(crate) fn run_lone<R: AllocGlobal + Files + Input + Print + Eprint>(
             } else {
                 Fault::Read
             };
-            let _ = eprintln!(rt; "maildropd: {fault}");
-            fault.status()
+            tell(rt, fault)
         }
     }
 }

@@ -28,12 +28,14 @@ impl<A: Allocator> Model for OpenText<A> {
 }
 
 impl<A: Allocator + Copy> OpenText<A> {
-    /// A text without lines. Takes no memory.
-    pub(crate) fn new(alloc: A) -> Self
+    /// A text without lines, for which room for so many octets is asked for.
+    pub(crate) fn new(alloc: A, octets: usize) -> Self
         ensures { result ≡ [] }
     {
+        let mut lines = TextBuilder::new(alloc);
+        lines.reserve(octets);
         OpenText {
-            lines: TextBuilder::new(alloc),
+            lines,
             holds_empty: false,
         }
     }

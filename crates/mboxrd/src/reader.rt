@@ -19,6 +19,9 @@ use std::marker::Model;
 /// What the first line of a mailbox starts with.
 const FROM: &[u8] = b"From ";
 
+/// For how many octets of a message room is asked for at most before they are seen.
+const MOST_ROOM: usize = 65_536;
+
 /// Reads a mailbox that comes in pieces, however it is cut. It keeps the texts so far and the line that has not ended;
 /// a line that stands whole in a piece is copied once, into its text. After an error every call answers the same one.
 #[derive(Drop)]
@@ -66,18 +69,20 @@ fn is_begun<A: Allocator>(text: &Option<OpenText<A>>, line: &[u8]) -> bool
     text.is_some() || line.is_empty() || begins_message(line)
 }
 
-/// Adds a line that has ended, without its line end, to the texts and the open one.
+/// Adds a line that has ended, without its line end, to the texts and the open one. So many bytes of its piece stand
+/// behind it, which may all be of a message that it begins.
 fn end_line<A: Allocator + Copy>(
     texts: &mut Vec<Text<A>, A>,
     text: &mut Option<OpenText<A>>,
     line: &[u8],
+    behind: usize,
 ) -> Result<(), Memory>
     requires { IsLine line.now }
     ensures texts { OnOk result (texts.new.items ≡ spec.texts_with texts.old.items text.old line.now) }
     ensures text { OnOk result (text.new ≡ spec.text_with text.old line.now) }
 {
     if begins_message(line) {
-        let next = OpenText::new(*texts.allocator());
+        let next = OpenText::new(*texts.allocator(), behind.min(MOST_ROOM));
         if let Some(ended) = text.replace(next) {
             texts.push(ended.finish()?)?;
         }
@@ -89,12 +94,14 @@ fn end_line<A: Allocator + Copy>(
     }
 }
 
-/// Adds the open line, which ends with these bytes, to the texts and the open one.
+/// Adds the open line, which ends with these bytes, to the texts and the open one. So many bytes of its piece stand
+/// behind it.
 fn end_open_line<A: Allocator + Copy>(
     texts: &mut Vec<Text<A>, A>,
     text: &mut Option<OpenText<A>>,
     line: &mut Vec<u8, A>,
     end: &[u8],
+    behind: usize,
 ) -> Result<(), Memory>
     requires open { IsLine line.old.items }
     requires end { IsLine end.now }
@@ -104,10 +111,10 @@ fn end_open_line<A: Allocator + Copy>(
     ensures err { OnErr result (IsLine line.new.items) }
 {
     if line.is_empty() {
-        return end_line(texts, text, without_carriage_return(end));
+        return end_line(texts, text, without_carriage_return(end), behind);
     }
     line.extend_from_slice(end)?;
-    end_line(texts, text, without_carriage_return(line))?;
+    end_line(texts, text, without_carriage_return(line), behind)?;
     line.clear();
     Ok(())
 }
@@ -127,8 +134,9 @@ fn take_in<A: Allocator + Copy>(
 {
     let mut rest = piece;
     while let Some(end) = memchr(b'\n', rest) {
-        end_open_line(texts, text, line, &rest[..end])?;
-        rest = &rest[end + 1..];
+        let (ended, behind) = (&rest[..end], &rest[end + 1..]);
+        end_open_line(texts, text, line, ended, behind.len())?;
+        rest = behind;
     }
     line.extend_from_slice(rest)?;
     Ok(())
@@ -209,7 +217,7 @@ fn texts_of<A: Allocator + Copy>(
     let mut texts = texts;
     let mut text = text;
     if !line.is_empty() {
-        end_line(&mut texts, &mut text, line)?;
+        end_line(&mut texts, &mut text, line, 0)?;
     }
     if let Some(text) = text {
         texts.push(text.finish()?)?;

@@ -1,5 +1,5 @@
-//! Plays a case by `lone_run`, by `lone_run_gathered` or by `sim_run`: with a client that awaits each reply, with one that
-//! doesn't, in pieces, and with faults of its reader and writer.
+//! Plays a case by `lone_run`, over a plain writer or one that gathers, or by `sim_run`: with a client that awaits each
+//! reply, with one that doesn't, in pieces, and with faults of its reader and writer.
 
 use crate::case::Case;
 use crate::client::{Hasty, Patient};

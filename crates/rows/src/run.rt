@@ -3,11 +3,14 @@
 use crate::case::Case;
 use crate::console::Console;
 use crate::output::Output;
-use server::{lone_run, lone_run_gathered};
+use server::{Fault, lone_run};
 use simulator::sim_run;
 use std::alloc::{AllocError, Global};
 use std::cell::RefCell;
-use std::io::Read;
+use std::io::{BufWriter, Read};
+
+/// How many bytes of replies are gathered at most, as by the program.
+const GATHERED: usize = 65_536;
 
 /// How a writer takes bytes.
 #[derive(Clone, Copy)]
@@ -72,7 +75,10 @@ pub fn run_case<'a, R: Read>(
     let status = if case.is_script {
         sim_run(&rt, reader, &mut output)
     } else if taking.gathers {
-        lone_run_gathered(&rt, reader, &mut output, &case.settings.options())
+        match BufWriter::with_capacity(alloc, GATHERED, &mut output) {
+            Ok(mut writer) => lone_run(&rt, reader, &mut writer, &case.settings.options()),
+            Err(_) => Fault::Memory.status(),
+        }
     } else {
         lone_run(&rt, reader, &mut output, &case.settings.options())
     };

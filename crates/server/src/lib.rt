@@ -9,6 +9,6 @@ mod mail;
 mod options;
 
 pub use fault::Fault;
-pub use lone::{lone_run, lone_run_gathered};
+pub use lone::lone_run;
 pub use lone_desk::LoneDesk;
 pub use options::{LONE_IDS, LONE_MESSAGES, LONE_OCTETS, LoneOptions};

@@ -12,14 +12,10 @@ use crate::lone_desk::LoneDesk;
 use crate::mail::{deliver, texts_of};
 use crate::options::{LONE_IDS, LONE_MESSAGES, LONE_OCTETS, LoneOptions};
 use apop::{Accounts, Method, Stamp, stamp};
-use gathering::Gathering;
 use maildrop::{Limits, Name};
 use session::{End, OpenGate, serve};
 use std::alloc::Global;
 use std::io::{Read, Write};
-
-/// How many bytes of replies `lone` gathers at most.
-const GATHERED: usize = 65_536;
 
 /// The account that the options name, with the user's name.
 fn account_of(alloc: Global, options: &LoneOptions<'_>) -> Result<(Name, Accounts), Fault>
@@ -123,9 +119,10 @@ fn run<R: Read, W: Write>(
 }
 
 /// Serves one POP3 session (RFC 1939) over the maildrop of one user, which holds the messages of the mailbox file, from
-/// a reader to a writer, and answers each line as it comes. Gives the exit status: 0 at the end of the session or of the
-/// input, 1 after a fault of memory, reading or writing, 2 for options that are none, 3 where the maildrop refuses a
-/// message of the file. A fault is told on standard error; after 2 and 3 nothing was written.
+/// a reader to a writer, and answers each line as it comes. The writer is flushed before more is read and at the end, so
+/// one that gathers what it takes sends the replies to lines that came together in one piece. Gives the exit status: 0 at
+/// the end of the session or of the input, 1 after a fault of memory, reading or writing, 2 for options that are none, 3
+/// where the maildrop refuses a message of the file. A fault is told on standard error; after 2 and 3 nothing was written.
 pub fn lone_run<H: AllocGlobal + Eprint, R: Read, W: Write>(
     rt: &H,
     reader: &mut R,
@@ -148,31 +145,4 @@ pub fn lone_run<H: AllocGlobal + Eprint, R: Read, W: Write>(
             fault.status()
         }
     }
-}
-
-/// Does as `lone_run`, but gathers the replies until more is read, so that those to lines that came together go out
-/// together. That they can't be written is told as a fault of writing, also where that is seen only at the end.
-pub fn lone_run_gathered<H: AllocGlobal + Eprint, R: Read + Drop, W: Write + Drop>(
-    rt: &H,
-    reader: R,
-    writer: W,
-    options: &LoneOptions<'_>,
-) -> u8
-    ensures status { (result ≡ 1) ⊎ IsStatusOf Global options.now result }
-    ensures refused { (¬ spec.IsAccount options.now) → result ≡ 2 }
-{
-    let gathering = Gathering::new(rt.alloc(), writer, GATHERED);
-    let status = lone_run(
-        rt,
-        &mut gathering.heard(reader),
-        &mut gathering.said(),
-        options,
-    );
-    // After another fault that one is told, and nothing else.
-    if gathering.flush().is_err() && status == 0 {
-        let fault = Fault::Write;
-        let _ = eprintln!(rt; "maildropd: {fault}");
-        return fault.status();
-    }
-    status
 }

@@ -9,12 +9,11 @@ use crate::fault::Fault;
 use crate::handler::Handler;
 use crate::served_node::ServedNode;
 use ballot::{Memory, NodeId};
-use gathering::Gathering;
 use maildrop::{Name, Op, Outcome};
 use script::{KeyPrefix, LONGEST_REQUEST, Request, parse_request};
 use session::Desk;
 use std::alloc::Global;
-use std::io::{BufReader, Read, Write};
+use std::io::{BufReader, BufWriter, Read, Write};
 use std::net::{Net, TcpStream};
 use std::sync::{Arc, Wait};
 use std::time::{Clock, Duration};
@@ -190,22 +189,31 @@ impl<R: Net + Wait + Clock + Copy, N: ServedNode + Desk<Op, Outcome> + Drop> Ope
         }
     }
 
-    /// Hears a request, and answers it. After want of memory what was not written yet is not said.
-    fn respond(&self, stream: &TcpStream) -> Result<(), Fault> {
-        let operator = Gathering::new(self.alloc, stream, PIECE);
-        let mut writer = operator.said();
-        let Ok(mut reader) = BufReader::with_capacity(self.alloc, PIECE, operator.heard(stream))
-        else {
-            return Err(Fault::Memory);
-        };
+    /// Hears a request, and answers it. What was gathered of the answer when a fault came may be unsaid.
+    fn answer<S: Read, W: Write>(&self, reader: &mut S, writer: &mut W) -> Result<(), Fault> {
         let mut line = [0u8; LONGEST_REQUEST];
-        let request = match read_line(&mut reader, &mut line) {
+        let request = match read_line(reader, &mut line) {
             Some(len) => parse_request(&line[..len]),
             None => None,
         };
         match request {
-            Some(request) => self.perform(&request, &mut reader, &mut writer)?,
-            None => say(&mut writer, b"bad request\n")?,
+            Some(request) => self.perform(&request, reader, writer),
+            None => say(writer, b"bad request\n"),
+        }
+    }
+
+    /// Hears a request, and answers it. After a fault what was not written yet is not said.
+    fn respond(&self, stream: &TcpStream) -> Result<(), Fault> {
+        let Ok(mut reader) = BufReader::with_capacity(self.alloc, PIECE, stream) else {
+            return Err(Fault::Memory);
+        };
+        let Ok(mut writer) = BufWriter::with_capacity(self.alloc, PIECE, stream) else {
+            return Err(Fault::Memory);
+        };
+        if let Err(fault) = self.answer(&mut reader, &mut writer) {
+            let (_stream, unsaid) = writer.into_parts();
+            drop(unsaid);
+            return Err(fault);
         }
         match writer.flush() {
             Ok(()) => Ok(()),

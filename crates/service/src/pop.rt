@@ -4,10 +4,10 @@ use crate::board::Board;
 use crate::handler::Handler;
 use crate::served_node::ServedNode;
 use ballot::Memory;
-use gathering::Gathering;
 use maildrop::{Op, Outcome};
 use session::{Desk, OpenGate, serve};
 use std::alloc::Global;
+use std::io::BufWriter;
 use std::net::TcpStream;
 use std::random::RandomSource;
 use std::sync::{Arc, Wait};
@@ -36,17 +36,19 @@ impl<R: RandomSource + Wait + Copy, N: ServedNode + Desk<Op, Outcome> + Drop> Ha
         let Some(stamp) = self.board.new_stamp(&self.rt, self.alloc) else {
             return;
         };
-        let client = Gathering::new(self.alloc, stream, GATHERED);
+        let Ok(mut writer) = BufWriter::with_capacity(self.alloc, GATHERED, stream) else {
+            return;
+        };
+        let mut reader = stream;
         let transcript = serve(
             self.alloc,
-            &mut client.heard(stream),
-            &mut client.said(),
+            &mut reader,
+            &mut writer,
             self.board.accounts(),
             stamp,
             &mut self.node,
             &mut OpenGate,
         );
-        let _unheard = client.flush();
         self.board.keep(&self.rt, transcript);
     }
 

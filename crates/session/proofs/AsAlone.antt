@@ -32,11 +32,12 @@ all_written : (replies : List (List ℕ)) (written : List ℕ) → written ≡ c
 all_written replies written all = ([], append-nil written ∙ all)
 
 -- what is written is a front of the replies, whatever the end is
-front_written : (ended : End) (replies : List (List ℕ)) (written : List ℕ) → IsWrittenBy ended replies written → IsPrefix written (concat replies)
+pub front_written : (ended : End) (replies : List (List ℕ)) (written : List ℕ) → IsWrittenBy ended replies written → IsPrefix written (concat replies)
 front_written end.Closed replies written all = all_written replies written all
 front_written end.HungUp replies written all = all_written replies written all
 front_written end.ReadFault replies written all = all_written replies written all
-front_written end.WriteFault replies written less =
+front_written end.WriteFault replies written (inr all) = all_written replies written all
+front_written end.WriteFault replies written (inl less) =
     rw (less.said, less.in_order, concat-append less.front (less.last ∷ []), concat_one less.last) (prefix_behind (concat less.front) less.sent less.last less.cut)
 front_written end.DeskStopped replies written all = all_written replies written all
 front_written end.Memory replies written (inl all) = all_written replies written all

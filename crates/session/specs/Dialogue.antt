@@ -39,6 +39,10 @@ end_of stop.WriteFault = end.WriteFault
 end_of stop.DeskStopped = end.DeskStopped
 end_of stop.Memory = end.Memory
 
+-- The end of a session once what was said last is passed on, or isn't: of one that had closed that is a write fault.
+abbrev pub IsLastEnd : End → End → Type 0
+IsLastEnd ended last = (last ≡ ended) ⊎ ((ended ≡ end.Closed) × (last ≡ end.WriteFault))
+
 -- where the session and the desk are, with what is kept, and the room for entries that is left
 pub record Place (A D : Type 0) : Type 0 where
   pub stamp : Stamp

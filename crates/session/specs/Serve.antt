@@ -99,12 +99,13 @@ pub record IsCutInLast (replies : List (List ℕ)) (written : List ℕ) : Type 0
   pub less : length sent < length last
 
 -- How much of its replies a session has written at each end: each of them; where a write failed, less than all of the
--- last; where there was no memory, each of them or all but the last. None stands behind one that isn't written whole.
+-- last, or each of them, where the writer took them and could not pass them on; where there was no memory, each of them or
+-- all but the last. None stands behind one that isn't written whole.
 abbrev pub IsWrittenBy : End → List (List ℕ) → List ℕ → Type 0
 IsWrittenBy end.Closed replies written = written ≡ concat replies
 IsWrittenBy end.HungUp replies written = written ≡ concat replies
 IsWrittenBy end.ReadFault replies written = written ≡ concat replies
-IsWrittenBy end.WriteFault replies written = IsCutInLast replies written
+IsWrittenBy end.WriteFault replies written = IsCutInLast replies written ⊎ (written ≡ concat replies)
 IsWrittenBy end.DeskStopped replies written = written ≡ concat replies
 IsWrittenBy end.Memory replies written = (written ≡ concat replies) ⊎ IsAllButLast replies written
 

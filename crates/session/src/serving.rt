@@ -1,9 +1,9 @@
 //! A session that is served: from a reader, over a desk, to a writer.
 ghost use Rattle.std.specs.Prelude.{◌≡◌, ◌<◌, ◌≤◌, ◌+◌, ◌*◌, ◌^◌, ℕ, List, [], ◌∷◌, ◌++◌, length, take, true, None, IfErr, OnOk, MatchOption, vec_len, vec_capacity};
-ghost use Rattle.std.specs.Io.KnownBytes.{Appends};
+ghost use Rattle.std.specs.Io.KnownBytes.{Appends, Keeps};
 ghost use Rattle.pop3_wire.specs.Reader.{lines_after, waiting};
 ghost use Rattle.pop3_wire.specs.Reply.{greeting as greeting_of};
-ghost use Rattle.session.specs.Dialogue.{place, end_of, IsRun, IsStop, IsPieceFront, IsPieceStop, IsListened, IsConversed, IsHungUp};
+ghost use Rattle.session.specs.Dialogue.{place, end_of, IsRun, IsStop, IsPieceFront, IsPieceStop, IsListened, IsConversed, IsHungUp, IsLastEnd};
 ghost use Rattle.session.specs.Gates.{IsGated, IsPassedFrom, IsStoppedFrom};
 ghost use Rattle.session.specs.Serve as spec;
 ghost use Rattle.session.specs.Serve.{IsTranscript, IsReadAndWritten};
@@ -152,6 +152,10 @@ fn listen<A: Allocator + Copy, R: Read, W: Write, D: Desk<Op<A>, Outcome<A>>, G:
     let mut lines = LineReader::new();
     let mut buffer = [0u8; PIECE];
     for _ in 0..MOST_READS {
+        // Whoever is to send more has first heard all that was said.
+        if writer.flush().is_err() {
+            return End::WriteFault;
+        }
         let count = match reader.read(&mut buffer) {
             Ok(0) => return End::HungUp,
             Ok(count) => count,
@@ -163,6 +167,29 @@ fn listen<A: Allocator + Copy, R: Read, W: Write, D: Desk<Op<A>, Outcome<A>>, G:
         }
     }
     End::ReadFault
+}
+
+/// Passes on what was said last. A session that had closed, and can't pass it on, has met a write fault; every other end
+/// stays.
+fn pass_on_last<W: Write>(writer: &mut W, end: End) -> End
+    ensures kept { Keeps (W.contents writer.old) (W.contents writer.new) }
+    ensures end { IsLastEnd end result }
+{
+    match end {
+        End::Closed => {
+            if writer.flush().is_err() {
+                End::WriteFault
+            } else {
+                End::Closed
+            }
+        }
+        // Nothing is written behind a write that failed.
+        End::WriteFault => end,
+        _ => {
+            let _unheard = writer.flush();
+            end
+        }
+    }
 }
 
 /// Says the greeting, and serves the client's lines.
@@ -189,7 +216,8 @@ fn converse<A: Allocator + Copy, R: Read, W: Write, D: Desk<Op<A>, Outcome<A>>, 
     if sent < greeting.len() {
         return End::WriteFault;
     }
-    listen(accounts, dialogue, reader, writer, desk, gate)
+    let end = listen(accounts, dialogue, reader, writer, desk, gate);
+    pass_on_last(writer, end)
 }
 
 /// Tells the desk the Free of a lock that the session still holds. There is room for its entry.
@@ -217,8 +245,9 @@ fn hang_up<A: Allocator + Copy, D: Desk<Op<A>, Outcome<A>>>(
 }
 
 /// Serves a session (RFC 1939) to its end: writes the greeting, hears the lines that are read, has the desk perform
-/// what they ask, and writes each reply before the next line is heard. A lock that the session holds at its end is
-/// given back, unless the desk has stopped. Gives all that went through it.
+/// what they ask, and writes each reply before the next line is heard. The writer is flushed before more is read and at
+/// the end, so replies to lines that come together may go out together; a flush that fails is a write fault. A lock that
+/// the session holds at its end is given back, unless the desk has stopped. Gives all that went through it.
 pub fn serve<A: Allocator + Copy, R: Read, W: Write, D: Desk<Op<A>, Outcome<A>>, G: Gate>(
     alloc: A,
     reader: &mut R,
