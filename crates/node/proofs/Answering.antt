@@ -11,7 +11,6 @@ use Rattle.replica.specs.Calls.{Requests, Decides, answered_with, awaited_for, A
 use Rattle.replica.proofs.History.{called_answers, answers_new, decided_performs, requests_add_none}
 use Rattle.replica.proofs.Requested.{requested_for}
 use Rattle.maildrop.specs.CommandId.{CommandId, compare_ids}
-use Rattle.maildrop.specs.Ticket.{Ticket}
 use Rattle.maildrop.specs.Same.{identity_of}
 use Rattle.maildrop.specs.Equality.{id_decides}
 use Rattle.maildrop.specs.declared.command.Command.{Command}
@@ -27,7 +26,7 @@ use Rattle.node.specs.declared.log.Opening.{Opening}
 use Rattle.node.specs.declared.log.NodeLog.{NodeLog}
 use Rattle.node.proofs.Orders.{ids_total}
 use Rattle.node.proofs.Alike.{first}
-use Rattle.node.proofs.Submitting.{submitted_later}
+use Rattle.node.proofs.Submitting.{submitted_later, submitted_here}
 
 module _ {A : Type 0} where
   -- what is awaited is what was submitted, and answers are those of the maildrops
@@ -122,7 +121,7 @@ module _ {A : Type 0} where
   answered_submitted log id a e = (log_holds log).submitted id (ap is_some (held_is _ a e))
 
   pub answered_here : (log : NodeLog A) (id : CommandId) (a : Outcome A) → answered log id ≡ Some a → id.ticket.node ≡ log.opening.me
-  answered_here log id a e = ap (λ (t : Ticket). t.node) (answered_submitted log id a e).1.ticket
+  answered_here log id a e = let submit = answered_submitted log id a e in submitted_here log id submit.0 submit.1
 
   -- answers stay
   abbrev Keeps : CommandId → Outcome A → NodeState A → NodeState A → Type 0

@@ -14,3 +14,4 @@ pub mod Crashing
 pub mod Lasting
 pub mod Fronts
 pub mod Awaiting
+pub mod News

@@ -30,6 +30,10 @@ module _ {A : Type 0} where
         ticket = h.ticket;
       }
 
+  -- a ticket is of the node that gave it
+  pub submitted_here : (log : NodeLog A) (id : CommandId) (op : Op A) → IsSubmitted log id op → id.ticket.node ≡ log.opening.me
+  submitted_here log id op h = ap (λ (t : Ticket). t.node) h.ticket
+
   -- where the operation stands among inputs
   record Found (me : ℕ) (before is : List (Input A)) (id : CommandId) (op : Op A) : Type 0 where
     front : List (Input A)

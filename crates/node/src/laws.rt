@@ -1,5 +1,5 @@
 //! Laws of logs, and of what they lead to. Each is a function that does nothing: its contract is the law.
-ghost use Rattle.std.specs.Prelude.{◌≡◌, ◌↔◌, ◌≤◌, ℕ, List, [], length, Some, is_some, true, false};
+ghost use Rattle.std.specs.Prelude.{◌≡◌, ◌↔◌, ◌≤◌, ℕ, List, [], length, Some, None, is_some, true, false};
 ghost use Rattle.std.specs.List.{list_any};
 ghost use Rattle.maildrop.specs.CommandId.{CommandId};
 ghost use Rattle.maildrop.specs.declared.op.Op.{Op};
@@ -53,7 +53,16 @@ pub fn performed_commands_are_answered<A: Allocator>()
         → has_identity mail_rules id (replayed log).replica.performed ≡ true → is_some (answered log id) ≡ true }
 {}
 
-/// A node gives a ticket of a user once, to one operation, which the ticket names from then on.
+/// An answer comes only at the input that performs its command: what is answered is performed, and what gets an answer
+/// behind a log wasn't performed in it. So what was performed without an answer has none, whatever inputs follow.
+pub fn answers_come_when_performed<A: Allocator>()
+    ensures performed { (log : NodeLog A) (id : CommandId) → is_some (answered log id) ≡ true → has_identity mail_rules id (replayed log).replica.performed ≡ true }
+    ensures new { (log : NodeLog A) (more : List (Input A)) (id : CommandId) →
+        answered log id ≡ None → is_some (answered (lengthened log more) id) ≡ true → has_identity mail_rules id (replayed log).replica.performed ≡ false }
+{}
+
+/// A node gives a ticket of a user once, to one operation, which the ticket names from then on. It is a ticket of this
+/// node, whether or not the operation is answered.
 pub fn tickets_name_one_submit<A: Allocator>()
     ensures new { (log : NodeLog A) (user : List ℕ) (op : Op A) →
         op_of (logged log (Submit user op)) (next_id log.opening.me user log.inputs) ≡ Some op }
@@ -62,6 +71,7 @@ pub fn tickets_name_one_submit<A: Allocator>()
     ensures found { (log : NodeLog A) (id : CommandId) (op : Op A) → (op_of log id ≡ Some op) ↔ IsSubmitted log id op }
     ensures one { (log : NodeLog A) (id : CommandId) (op other : Op A) (here : IsSubmitted log id op) (there : IsSubmitted log id other) →
         (here.before ≡ there.before) × (op ≡ other) × (here.after ≡ there.after) }
+    ensures own { (log : NodeLog A) (id : CommandId) (op : Op A) → IsSubmitted log id op → id.ticket.node ≡ log.opening.me }
 {}
 
 /// The ticket that a user got last is that of the user's last Submit, and no other input changes it. A log after which

@@ -13,6 +13,7 @@ use Rattle.node.specs.declared.input.Input.{Input}
 use Rattle.node.specs.declared.log.NodeLog.{NodeLog}
 use Rattle.node.specs.declared.log.Opening.{Opening}
 use Rattle.node.proofs.Answering.{answered_here}
+use Rattle.node.proofs.News.{longer_brings}
 use Rattle.world.specs.Clients.{Client, client_of}
 use Rattle.world.specs.Connections.{AreFit, AreUntaken, awaited_by, service_of}
 use Rattle.world.specs.Hosts.{Host, Hosts, HasAnswerAt, logs_of, network_of}
@@ -30,7 +31,6 @@ use Rattle.world.specs.declared.sent.Sent.{Sent}
 use Rattle.world.proofs.Awaiting.{AreNumbered, happen_logs}
 use Rattle.world.proofs.Keeping.{begun_logs, kept_after, kept_cut, kept_untaken}
 use Rattle.world.proofs.Logs.{new_log, some_same}
-use Rattle.world.proofs.News.{longer_brings}
 use Rattle.world.proofs.ServiceRuns.{Follows, happens_follows}
 use Rattle.world.proofs.WholeRuns.{happen_count}
 

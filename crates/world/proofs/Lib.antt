@@ -34,7 +34,6 @@ pub mod Later
 pub mod Arrivals
 pub mod Blocks
 pub mod Searching
-pub mod News
 pub mod Watching
 pub mod Noting
 pub mod Hearing

@@ -1,4 +1,4 @@
-use Rattle.node.proofs.Submitting.{op_new, op_stays, op_found, op_named, one_submit}
+use Rattle.node.proofs.Submitting.{op_new, op_stays, op_found, op_named, one_submit, submitted_here}
 use Rattle.node.proofs.laws.tickets_name_one_submit.Goals as goal
 
 pub returns : goal.returns
@@ -8,4 +8,5 @@ returns g c =
       stays = op_stays;
       found = λ log id op. (op_found log id op, op_named log id op);
       one = one_submit;
+      own = submitted_here;
     }
