@@ -13,7 +13,7 @@ use Rattle.pop3_wire.specs.declared.line.Line.{Line}
 use Rattle.session.specs.Prefix.{IsPrefix}
 use Rattle.session.specs.Serve.{told}
 use Rattle.session.specs.declared.transcript.Transcript.{Transcript}
-use Rattle.session.proofs.AsAlone.{front_written}
+use Rattle.session.proofs.AsAlone.{front_taken}
 use Rattle.world.specs.Clients.{Client, client_of}
 use Rattle.world.specs.Messages.{log_of}
 use Rattle.world.specs.Projection.{own_commands, alone_bytes}
@@ -188,7 +188,7 @@ module _ {A : Type 0} (cfg : Config A) (stamps : ℕ → Stamp) (logs : List (No
         c.1,
         λ user is_user.
             prefix_on written c.0.replies (alone_bytes cfg c.0 user t.lines (line_tickets t.asked) (own_commands cfg (run_of cfg happenings) user))
-            (prefix_on written (concat (told cfg.accounts (stamps i) t).replies) c.0.replies (front_written t.end (told cfg.accounts (stamps i) t).replies written counted.said) c.2.replies)
+            (prefix_on written (concat (told cfg.accounts (stamps i) t).replies) c.0.replies (front_taken cfg.accounts (stamps i) t written counted.said) c.2.replies)
             (every_projected cfg happenings (suc i) c.0 c.1 user t.lines (line_tickets t.asked) (own_commands cfg (run_of cfg happenings) user) is_user
             (its_lines t c.0.lines c.2.lines) ([], append-nil c.0.tickets ∙ c.2.tickets) (all_of (own_commands cfg (run_of cfg happenings) user))),
       )

@@ -11,7 +11,7 @@ use Rattle.node.specs.declared.input.Input.TheVariants.{Submit}
 use Rattle.node.specs.declared.log.NodeLog.{NodeLog}
 use Rattle.node.specs.declared.log.Opening.{Opening}
 use Rattle.session.specs.Prefix.{IsPrefix}
-use Rattle.session.specs.Serve.{IsTranscript, IsWrittenBy, told}
+use Rattle.session.specs.Serve.{IsTranscript, IsWritten, told}
 use Rattle.session.specs.declared.transcript.Asked.{Asked}
 use Rattle.session.specs.declared.transcript.Transcript.{Transcript}
 use Rattle.world.specs.Clients.{Client, client_of}
@@ -119,7 +119,7 @@ module _ {A : Type 0} where
   -- of a session with this transcript these bytes were written, and counted
   pub record AreCounted (cfg : Config A) (stamp : Stamp) (t : Transcript A) (written : List ℕ) : Type 0 where
     pub count : t.count ≡ length written
-    pub said : IsWrittenBy t.end (told cfg.accounts stamp t).replies written
+    pub said : IsWritten cfg.accounts stamp t written
 
   -- They are a prefix of what a server says that has the user's maildrop alone: to the session's greeting and lines,
   -- where what its lines asked has its tickets, taking the user's decided commands in order, each once.

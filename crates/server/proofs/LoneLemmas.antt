@@ -16,7 +16,7 @@ use Rattle.session.specs.Session.{opening, free_of, lock_due}
 use Rattle.session.specs.Conversation.{Answer, Conversation, with_reply, conversation}
 use Rattle.session.specs.Transcript.{answers_of, requests_of, given_of, AreAnswered, IsHistory}
 use Rattle.session.specs.Prefix.{IsPrefix}
-use Rattle.session.specs.Serve.{IsTranscript, IsReadAndWritten, IsLeftBy, IsWrittenBy, AreAnsweredAt, told}
+use Rattle.session.specs.Serve.{IsTranscript, IsReadAndWritten, IsLeftBy, IsWrittenBy, IsWritten, AreAnsweredAt, told}
 use Rattle.session.specs.declared.state.State.{State}
 use Rattle.session.specs.declared.state.State.TheVariants.{Closed}
 use Rattle.session.specs.declared.transcript.End.{End}
@@ -41,6 +41,10 @@ IsOver ended = (ended ≡ end.Closed) ⊎ (ended ≡ end.HungUp)
 all-written : (ended : End) (replies : List (List ℕ)) (written : List ℕ) → IsOver ended → IsWrittenBy ended replies written → written ≡ concat replies
 all-written ended replies written (inl closed) some = subst (λ e. IsWrittenBy e replies written) closed some
 all-written ended replies written (inr hung_up) some = subst (λ e. IsWrittenBy e replies written) hung_up some
+
+all-taken : {A : Type 0} (accounts : List Account) (stamp : Stamp) (transcript : Transcript A) (written : List ℕ) → IsOver transcript.end → IsWritten accounts stamp transcript written → written ≡ concat (told accounts stamp transcript).replies
+all-taken accounts stamp transcript written over (inl said) = all-written transcript.end (told accounts stamp transcript).replies written over said
+all-taken accounts stamp transcript written over (inr all) = all.1
 
 -- what a result that is no fault leads to
 pub over_ok : {T E Q P : Type 0} (result : Result T E) → (IsOk result ↔ Q) → (Q → P) → OnOk result P
@@ -132,7 +136,7 @@ module _ {A : Type 0} where
       record {
         own = own;
         asked = sym (commands_asked desk.next entries answered) ∙ ap (λ asked. commands_from desk.next asked) talk.asked ∙ ap (λ (c : Conversation A). commands_from desk.next c.asked) (sym same);
-        replied = all-written transcript.end (told accounts stamp transcript).replies bytes.written over bytes.said ∙ ap (λ (c : Conversation A). concat c.replies) (sym same);
+        replied = all-taken accounts stamp transcript bytes.written over bytes.said ∙ ap (λ (c : Conversation A). concat c.replies) (sym same);
       }
 
   -- where the input is known, all of it was answered

@@ -13,7 +13,7 @@ use Rattle.session.specs.Alone.{answer_before, answers_for, replies_alone}
 use Rattle.session.specs.AsAlone.{AreOwnAnswers, tickets_of}
 use Rattle.session.specs.Conversation.{Answer, conversation}
 use Rattle.session.specs.Prefix.{IsPrefix}
-use Rattle.session.specs.Serve.{IsWrittenBy, told}
+use Rattle.session.specs.Serve.{IsWrittenBy, IsWritten, told}
 use Rattle.session.specs.Transcript.{answers_of}
 use Rattle.session.specs.declared.transcript.End.{End}
 use Rattle.session.specs.declared.transcript.End.TheVariants as end
@@ -32,18 +32,22 @@ all_written : (replies : List (List ℕ)) (written : List ℕ) → written ≡ c
 all_written replies written all = ([], append-nil written ∙ all)
 
 -- what is written is a front of the replies, whatever the end is
-pub front_written : (ended : End) (replies : List (List ℕ)) (written : List ℕ) → IsWrittenBy ended replies written → IsPrefix written (concat replies)
+front_written : (ended : End) (replies : List (List ℕ)) (written : List ℕ) → IsWrittenBy ended replies written → IsPrefix written (concat replies)
 front_written end.Closed replies written all = all_written replies written all
 front_written end.HungUp replies written all = all_written replies written all
 front_written end.ReadFault replies written all = all_written replies written all
-front_written end.WriteFault replies written (inr all) = all_written replies written all
-front_written end.WriteFault replies written (inl less) =
+front_written end.WriteFault replies written less =
     rw (less.said, less.in_order, concat-append less.front (less.last ∷ []), concat_one less.last) (prefix_behind (concat less.front) less.sent less.last less.cut)
 front_written end.DeskStopped replies written all = all_written replies written all
 front_written end.Memory replies written (inl all) = all_written replies written all
 front_written end.Memory replies written (inr less) = rw (less.said, less.in_order) (concat (less.last ∷ []), sym (concat-append less.front (less.last ∷ [])))
 
 module _ {A : Type 0} where
+  -- what a writer took is a front of them
+  pub front_taken : (accounts : List Account) (stamp : Stamp) (transcript : Transcript A) (written : List ℕ) → IsWritten accounts stamp transcript written → IsPrefix written (concat (told accounts stamp transcript).replies)
+  front_taken accounts stamp transcript written (inl said) = front_written transcript.end (told accounts stamp transcript).replies written said
+  front_taken accounts stamp transcript written (inr all) = all_written (told accounts stamp transcript).replies written all.1
+
   answers_are : (maildrop : Option (Maildrop A)) (own : List (Command A)) (answers : List (Answer A)) → AreOwnAnswers maildrop own answers → answers_for maildrop own (tickets_of answers) ≡ answers
   answers_are maildrop own [] h = refl
   answers_are maildrop own (answer ∷ answers) h =
@@ -52,7 +56,7 @@ module _ {A : Type 0} where
 
   pub written_alone : (accounts : List Account) (stamp : Stamp) (maildrop : Option (Maildrop A)) (own decided : List (Command A)) (transcript : Transcript A) (more : List Line) (others : List Ticket) (written : List ℕ)
       → AreOwnAnswers maildrop own (answers_of transcript.asked)
-      → IsWrittenBy transcript.end (told accounts stamp transcript).replies written
+      → IsWritten accounts stamp transcript written
       → IsPrefix written (concat (replies_alone accounts stamp maildrop (transcript.lines ++ more) (tickets_of (answers_of transcript.asked) ++ others) (own ++ decided)))
   written_alone accounts stamp maildrop own decided transcript more others written own_answers says =
       let answers : List (Answer A) = answers_of transcript.asked in
@@ -60,6 +64,6 @@ module _ {A : Type 0} where
       ap (λ (given : List (Answer A)). (conversation accounts stamp transcript.lines given).replies) (sym (answers_are maildrop own answers own_answers)) in
       let longer : List (List ℕ) = replies_alone accounts stamp maildrop (transcript.lines ++ more) (tickets_of answers ++ others) (own ++ decided) in
       heard_front written (concat (conversation accounts stamp transcript.lines answers).replies) (concat longer)
-      (front_written transcript.end (conversation accounts stamp transcript.lines answers).replies written says)
+      (front_taken accounts stamp transcript written says)
       (subst (λ (rs : List (List ℕ)). IsPrefix (concat rs) (concat longer)) (sym same)
       (concat_front (replies_alone accounts stamp maildrop transcript.lines (tickets_of answers) own) longer (replies_longer accounts stamp maildrop transcript.lines more (tickets_of answers) others own decided)))

@@ -12,13 +12,12 @@ use Rattle.session.specs.Prefix.{IsPrefix}
 use Rattle.session.specs.Desks.{Given}
 use Rattle.session.specs.Session.{hears, opening}
 use Rattle.session.specs.Conversation.{with_reply}
-use Rattle.session.specs.declared.state.State.TheVariants.{Closed}
 use Rattle.session.specs.declared.transcript.End.{End}
 use Rattle.session.specs.declared.transcript.End.TheVariants as end
 use Rattle.session.specs.declared.stop.Stop.{Stop}
 use Rattle.session.specs.declared.stop.Stop.TheVariants as stop
-use Rattle.session.specs.Dialogue.{Place, end_of, IsLastEnd, IsRun, IsStop, IsPieceFront, IsPieceStop, IsListened, IsConversed}
-use Rattle.session.proofs.Runs.{IsOutside, run_none, run_join, run_stop, run_ends, written_after, cut_first, length_taken}
+use Rattle.session.specs.Dialogue.{Place, end_of, IsRun, IsStop, IsPieceFront, IsPieceStop, IsListened, IsConversed}
+use Rattle.session.proofs.Runs.{run_none, run_join, run_stop, run_ends, written_after, cut_first, length_taken}
 use Rattle.session.proofs.Streams.{appends_none, appends_join, appends_kept, consumes_none}
 
 -- a line of the rest, and what is behind it
@@ -66,7 +65,7 @@ module _ {A : Type 0} where
   front_fed accounts stamp gives old new kept fed after piece rest behind contents contents2 front next =
       record { lines = front.lines; written = front.written; run = front.run; appended = front.appended; cut = λ more. front.cut more ∙ ap (λ lines. front.lines ++ lines) (next more) }
 
-  -- the writer passes on what it took
+  -- the writer passes on what it took, or can't
   pub front_passed_on : {D : Type 0} (accounts : List Account) (stamp : Stamp) (gives : D → Given A → D → Type 0) (old new : Place A D) (kept after : Kept) (piece rest : List ℕ) (contents contents2 contents3 : Option (List ℕ))
       → IsPieceFront accounts stamp gives old new kept after piece rest contents contents2 → Keeps contents2 contents3
       → IsPieceFront accounts stamp gives old new kept after piece rest contents contents3
@@ -103,9 +102,9 @@ module _ {A : Type 0} where
         ∙ ap (λ lines. front.lines ++ lines) (front2.cut more) ∙ sym (append_assoc front.lines front2.lines (lines_after after more));
   }
 
-  -- the input has ended, or is read no more, or what was said can't be passed on
+  -- the input has ended, or is read no more
   pub listened : {D : Type 0} (accounts : List Account) (stamp : Stamp) (gives : D → Given A → D → Type 0) (old new : Place A D) (fed : Kept) (read : List ℕ) (ended : End) (remaining remaining2 contents contents2 : Option (List ℕ))
-      → IsPieceFront accounts stamp gives old new (Open []) fed read [] contents contents2 → lines_after fed [] ≡ [] → Consumes remaining remaining2 read → IsOutside ended → (ended ≡ end.HungUp → IsAtEnd remaining2)
+      → IsPieceFront accounts stamp gives old new (Open []) fed read [] contents contents2 → lines_after fed [] ≡ [] → Consumes remaining remaining2 read → (ended ≡ end.HungUp) ⊎ (ended ≡ end.ReadFault) → (ended ≡ end.HungUp → IsAtEnd remaining2)
       → IsListened accounts stamp gives old new ended remaining remaining2 contents contents2
   listened accounts stamp gives old new fed read ended remaining remaining2 contents contents2 front none consumed ends over =
       let whole : front.lines ≡ lines_of read =
@@ -182,45 +181,6 @@ module _ {A : Type 0} where
         at_end = listened.at_end;
       }
 
-  -- what was said last was passed on, or a session that had closed could not do so
-  pub conversed_last : {D : Type 0} (accounts : List Account) (stamp : Stamp) (gives : D → Given A → D → Type 0) (before : D) (new : Place A D) (ended last : End) (remaining remaining2 contents contents2 contents3 : Option (List ℕ))
-      → IsConversed accounts stamp gives before new ended remaining remaining2 contents contents2 → Keeps contents2 contents3 → IsLastEnd ended last
-      → IsConversed accounts stamp gives before new last remaining remaining2 contents contents3
-  conversed_last accounts stamp gives before new ended last remaining remaining2 contents contents2 contents3 conversed kept (inl same) =
-      rw same (record {
-        read = conversed.read;
-        written = conversed.written;
-        consumed = conversed.consumed;
-        appended = appends_kept contents contents2 contents3 conversed.written conversed.appended kept;
-        talk = conversed.talk;
-        at_end = conversed.at_end;
-      })
-  conversed_last accounts stamp gives before new ended last remaining remaining2 contents contents2 contents3 conversed kept (inr unpassed) =
-      let talk = conversed.talk in
-      let left : talk.last ≡ Closed = rw unpassed.0 at talk.left in
-      rw unpassed.1 (record {
-        read = conversed.read;
-        written = conversed.written;
-        consumed = conversed.consumed;
-        appended = appends_kept contents contents2 contents3 conversed.written conversed.appended kept;
-        talk = record {
-          replies = talk.replies;
-          last = talk.last;
-          talk = talk.talk;
-          each_heard = talk.each_heard;
-          heard = talk.heard;
-          heard_all = never_out end.WriteFault (unended stop.WriteFault);
-          counted = talk.counted;
-          said = inr (rw unpassed.0 at talk.said);
-          given = talk.given;
-          answered = rw unpassed.0 at talk.answered;
-          left = rw left refl;
-          due = talk.due;
-          room = talk.room;
-        };
-        at_end = λ same. absurd (cc);
-      })
-
   -- the greeting was not written whole
   pub ungreeted : {D : Type 0} (accounts : List Account) (stamp : Stamp) (gives : D → Given A → D → Type 0) (new : Place A D) (remaining contents contents2 : Option (List ℕ)) (greeted : List ℕ) (sent : ℕ)
       → greeted ≡ greeting stamp.nonce stamp.host → new.state ≡ opening → new.lines ≡ [] → new.asked ≡ [] → 0 < new.room → new.count ≡ sent → sent < length greeted → Appends contents contents2 (take sent greeted)
@@ -240,7 +200,7 @@ module _ {A : Type 0} where
           heard = rw lines ([], refl);
           heard_all = never_out end.WriteFault (unended stop.WriteFault);
           counted = count ∙ sym sized;
-          said = inl (cut_first greeted sent less);
+          said = cut_first greeted sent less;
           given = rw asked refl;
           answered = rw asked tt;
           left = refl;

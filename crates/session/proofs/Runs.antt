@@ -56,7 +56,7 @@ written_behind : (ended : End) (front replies : List (List ℕ)) (written : List
 written_behind end.Closed front replies written all = behind_all front replies written all
 written_behind end.HungUp front replies written all = behind_all front replies written all
 written_behind end.ReadFault front replies written all = behind_all front replies written all
-written_behind end.WriteFault front replies written (inl less) = inl (record {
+written_behind end.WriteFault front replies written less = record {
   front = front ++ less.front;
   last = less.last;
   sent = less.sent;
@@ -66,8 +66,7 @@ written_behind end.WriteFault front replies written (inl less) = inl (record {
       ∙ ap (λ bytes. bytes ++ less.sent) (sym (concat-append front less.front));
   cut = less.cut;
   less = less.less;
-})
-written_behind end.WriteFault front replies written (inr all) = inr (behind_all front replies written all)
+}
 written_behind end.DeskStopped front replies written all = behind_all front replies written all
 written_behind end.Memory front replies written (inl all) = inl (behind_all front replies written all)
 written_behind end.Memory front replies written (inr some) = inr (record {
@@ -92,26 +91,7 @@ cut_first reply sent less = record {
   less = omega (arith, less, length_taken sent reply (omega (arith, less)));
 }
 
--- an end at which the session would have gone on: its input ended or failed, or its writer couldn't pass on what it took
-abbrev pub IsOutside : End → Type 0
-IsOutside ended = (ended ≡ end.HungUp) ⊎ ((ended ≡ end.ReadFault) ⊎ (ended ≡ end.WriteFault))
-
-outside_said : (ended : End) (replies : List (List ℕ)) (written : List ℕ) → IsOutside ended → written ≡ concat replies → IsWrittenBy ended replies written
-outside_said ended replies written (inl hung_up) said = rw hung_up said
-outside_said ended replies written (inr (inl failed)) said = rw failed said
-outside_said ended replies written (inr (inr unwritten)) said = rw unwritten (inr said)
-
 module _ {A : Type 0} where
-  outside_answered : (ended : End) (last : State A) (entries : List (Asked A)) → IsOutside ended → AreAnswered entries → AreAnsweredAt ended last entries
-  outside_answered ended last entries (inl hung_up) answered = rw hung_up answered
-  outside_answered ended last entries (inr (inl failed)) answered = rw failed answered
-  outside_answered ended last entries (inr (inr unwritten)) answered = rw unwritten answered
-
-  outside_left : (ended : End) (last : State A) → IsOutside ended → hears last ≡ true → IsLeftBy ended last
-  outside_left ended last (inl hung_up) hearing = rw hung_up hearing
-  outside_left ended last (inr (inl failed)) hearing = rw failed hearing
-  outside_left ended last (inr (inr unwritten)) hearing = rw unwritten (heard_awaits last hearing)
-
   pub run_join : {D : Type 0} (accounts : List Account) (stamp : Stamp) (gives : D → Given A → D → Type 0) (old middle new : Place A D) (lines lines2 : List Line) (written written2 : List ℕ)
       → IsRun accounts stamp gives old middle lines written → IsRun accounts stamp gives middle new lines2 written2
       → IsRun accounts stamp gives old new (lines ++ lines2) (written ++ written2)
@@ -173,9 +153,9 @@ module _ {A : Type 0} where
     room = stop.room;
   }
 
-  -- a session that would go on, and stops since its input ends or fails, or its writer can't pass on what it took
+  -- a session that would go on, and stops since its input ends or fails
   pub run_ends : {D : Type 0} (accounts : List Account) (stamp : Stamp) (gives : D → Given A → D → Type 0) (old new : Place A D) (lines : List Line) (ended : End) (written : List ℕ)
-      → IsRun accounts stamp gives old new lines written → IsOutside ended → IsStop accounts stamp gives old new lines ended written
+      → IsRun accounts stamp gives old new lines written → (ended ≡ end.HungUp) ⊎ (ended ≡ end.ReadFault) → IsStop accounts stamp gives old new lines ended written
   run_ends accounts stamp gives old new lines ended written run over = record {
     entries = run.entries;
     replies = run.replies;
@@ -188,11 +168,20 @@ module _ {A : Type 0} where
     front_of = ([], append-nil lines);
     heard = run.heard;
     asked = run.asked;
-    said = outside_said ended run.replies written over run.said;
+    said = elim over [
+      | inl hung_up ↦ rw hung_up run.said
+      | inr fault ↦ rw fault run.said
+    ];
     counted = run.counted;
     given = run.given;
-    answered = outside_answered ended new.state run.entries over run.answered;
-    left = outside_left ended new.state over run.hears;
+    answered = elim over [
+      | inl hung_up ↦ rw hung_up run.answered
+      | inr fault ↦ rw fault run.answered
+    ];
+    left = elim over [
+      | inl hung_up ↦ rw hung_up run.hears
+      | inr fault ↦ rw fault run.hears
+    ];
     due = refl;
     room = run.room;
   }
@@ -298,4 +287,4 @@ module _ {A : Type 0} where
   unwritten_stop accounts stamp gives old heard new line saying sent hearing is less =
       let count : length (take sent saying.bytes) ≡ sent = length_taken sent saying.bytes (omega (arith, less)) in
       heard_stop accounts stamp gives old heard new line saying (take sent saying.bytes) end.WriteFault hearing (rw count is)
-      (inl (cut_first saying.bytes sent less)) hearing.answered (settled saying heard.state hearing.settled)
+      (cut_first saying.bytes sent less) hearing.answered (settled saying heard.state hearing.settled)

@@ -1,5 +1,5 @@
 -- How a session that is being served goes on, and how it stops. Only private contracts cite this.
-use Rattle.std.specs.Prelude.{◌≡◌, ℕ, ◌+◌, ◌-◌, ◌<◌, ◌≤◌, List, [], ◌∷◌, ◌++◌, length, take, vec_len, vec_capacity, true, false, Option, Some, Result, Ok, Err, if◌then◌else◌}
+use Rattle.std.specs.Prelude.{◌≡◌, ℕ, ◌+◌, ◌-◌, ◌<◌, ◌≤◌, List, [], ◌∷◌, ◌++◌, length, take, vec_len, vec_capacity, true, false, Option, Some, None, Result, Ok, Err, if◌then◌else◌}
 use Rattle.std.specs.List.{concat}
 use mathlib.Core.Logic.{◌⊎◌}
 use Rattle.apop.specs.Stamp.{Stamp}
@@ -39,9 +39,11 @@ end_of stop.WriteFault = end.WriteFault
 end_of stop.DeskStopped = end.DeskStopped
 end_of stop.Memory = end.Memory
 
--- The end of a session once what was said last is passed on, or isn't: of one that had closed that is a write fault.
-abbrev pub IsLastEnd : End → End → Type 0
-IsLastEnd ended last = (last ≡ ended) ⊎ ((ended ≡ end.Closed) × (last ≡ end.WriteFault))
+-- The end to which a session has come, or none, where its writer couldn't pass on what it took: then it reads no more, as
+-- where a read fails.
+abbrev pub end_at : Option End → End
+end_at None = end.ReadFault
+end_at (Some ended) = ended
 
 -- where the session and the desk are, with what is kept, and the room for entries that is left
 pub record Place (A D : Type 0) : Type 0 where

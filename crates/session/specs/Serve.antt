@@ -99,15 +99,29 @@ pub record IsCutInLast (replies : List (List ℕ)) (written : List ℕ) : Type 0
   pub less : length sent < length last
 
 -- How much of its replies a session has written at each end: each of them; where a write failed, less than all of the
--- last, or each of them, where the writer took them and could not pass them on; where there was no memory, each of them or
--- all but the last. None stands behind one that isn't written whole.
+-- last; where there was no memory, each of them or all but the last. None stands behind one that isn't written whole.
 abbrev pub IsWrittenBy : End → List (List ℕ) → List ℕ → Type 0
 IsWrittenBy end.Closed replies written = written ≡ concat replies
 IsWrittenBy end.HungUp replies written = written ≡ concat replies
 IsWrittenBy end.ReadFault replies written = written ≡ concat replies
-IsWrittenBy end.WriteFault replies written = IsCutInLast replies written ⊎ (written ≡ concat replies)
+IsWrittenBy end.WriteFault replies written = IsCutInLast replies written
 IsWrittenBy end.DeskStopped replies written = written ≡ concat replies
 IsWrittenBy end.Memory replies written = (written ≡ concat replies) ⊎ IsAllButLast replies written
+
+-- The end that is told of a session which came to this one. Where its writer can't pass on what it took, a session that
+-- had closed, or would have read more, ends by a fault of writing; it reads no more then, as where a read fails.
+abbrev pub IsEndedAs : End → End → Type 0
+IsEndedAs ended shown = (shown ≡ ended) ⊎ ((shown ≡ end.WriteFault) × ((ended ≡ end.Closed) ⊎ (ended ≡ end.ReadFault)))
+
+module _ {A : Type 0} where
+  -- the writer took all that the session said, and couldn't pass it on
+  abbrev pub IsUnpassed : List Account → Stamp → Transcript A → Type 0
+  IsUnpassed accounts stamp transcript = (transcript.end ≡ end.WriteFault) × (transcript.count ≡ length (concat (told accounts stamp transcript).replies))
+
+  -- what the writer took of what the session said: as its end says, or all, where it couldn't pass that on
+  abbrev pub IsWritten : List Account → Stamp → Transcript A → List ℕ → Type 0
+  IsWritten accounts stamp transcript written = IsWrittenBy transcript.end (told accounts stamp transcript).replies written
+      ⊎ (IsUnpassed accounts stamp transcript × (written ≡ concat (told accounts stamp transcript).replies))
 
 -- With this transcript these bytes were taken from a reader, and these were given to a writer.
 pub record IsReadAndWritten {A : Type 0} (accounts : List Account) (stamp : Stamp) (transcript : Transcript A) (remaining remaining2 contents contents2 : Option (List ℕ)) : Type 0 where
@@ -121,4 +135,6 @@ pub record IsReadAndWritten {A : Type 0} (accounts : List Account) (stamp : Stam
   pub at_end : transcript.end ≡ end.HungUp → IsAtEnd remaining2
   -- what was written is counted, and is the replies of the session, as far as its end says
   pub counted : transcript.count ≡ length written
-  pub said : IsWrittenBy transcript.end (told accounts stamp transcript).replies written
+  pub said : IsWritten accounts stamp transcript written
+  -- what can't be passed on stops a session that has closed, or that has heard all that was read
+  pub between : IsUnpassed accounts stamp transcript → ((told accounts stamp transcript).state ≡ Closed) ⊎ (transcript.lines ≡ lines_of read)

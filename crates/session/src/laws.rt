@@ -13,7 +13,7 @@ ghost use Rattle.session.specs.Asking.{AreForOneUser};
 ghost use Rattle.session.specs.Calls.{Call, Talk, after_call, IsTalk, IsConversation};
 ghost use Rattle.session.specs.Conversation.{Answer, conversation};
 ghost use Rattle.session.specs.Prefix.{IsPrefix};
-ghost use Rattle.session.specs.Serve.{IsWrittenBy, told};
+ghost use Rattle.session.specs.Serve.{IsWritten};
 ghost use Rattle.session.specs.Transcript.{answers_of};
 ghost use Rattle.session.specs.declared.transcript.Transcript.{Transcript};
 
@@ -43,7 +43,7 @@ pub fn replies_lengthen<A: Allocator>()
 pub fn transcripts_are_as_alone<A: Allocator>()
     ensures { (accounts : List Account) (stamp : Stamp) (maildrop : Option (Maildrop A)) (own decided : List (Command A)) (transcript : Transcript A) (more : List Line) (others : List Ticket) (written : List ℕ) →
         AreOwnAnswers maildrop own (answers_of transcript.asked)
-        → IsWrittenBy transcript.end (told accounts stamp transcript).replies written
+        → IsWritten accounts stamp transcript written
         → IsPrefix written (concat (replies_alone accounts stamp maildrop (transcript.lines ++ more) (tickets_of (answers_of transcript.asked) ++ others) (own ++ decided))) }
 {}
 

@@ -3,10 +3,10 @@ ghost use Rattle.std.specs.Prelude.{◌≡◌, ◌<◌, ◌≤◌, ◌+◌, ◌*
 ghost use Rattle.std.specs.Io.KnownBytes.{Appends, Keeps};
 ghost use Rattle.pop3_wire.specs.Reader.{lines_after, waiting};
 ghost use Rattle.pop3_wire.specs.Reply.{greeting as greeting_of};
-ghost use Rattle.session.specs.Dialogue.{place, end_of, IsRun, IsStop, IsPieceFront, IsPieceStop, IsListened, IsConversed, IsHungUp, IsLastEnd};
-ghost use Rattle.session.specs.Gates.{IsGated, IsPassedFrom, IsStoppedFrom};
+ghost use Rattle.session.specs.Dialogue.{place, end_of, IsRun, IsStop, IsPieceFront, IsPieceStop, IsListened, IsConversed, IsHungUp, end_at};
+ghost use Rattle.session.specs.Gates.{IsGated, IsPassed, IsPassedFrom, IsStoppedFrom};
 ghost use Rattle.session.specs.Serve as spec;
-ghost use Rattle.session.specs.Serve.{IsTranscript, IsReadAndWritten};
+ghost use Rattle.session.specs.Serve.{IsTranscript, IsReadAndWritten, IsEndedAs, IsUnpassed};
 ghost use Rattle.session.specs.Session.{hears, opening};
 ghost use Rattle.session.specs.Transcript.{IsHistory};
 
@@ -133,7 +133,8 @@ fn exchange_all<A: Allocator + Copy, W: Write, D: Desk<Op<A>, Outcome<A>>, G: Ga
     Ok(())
 }
 
-/// Reads the input and serves its lines, in at most 4,294,967,295 reads.
+/// Reads the input and serves its lines, in at most 4,294,967,295 reads. Before each of these the writer is flushed. Gives
+/// the end of the session, or none where the writer can't pass on what it took.
 fn listen<A: Allocator + Copy, R: Read, W: Write, D: Desk<Op<A>, Outcome<A>>, G: Gate>(
     accounts: &Accounts<A>,
     dialogue: &mut Dialogue<A>,
@@ -141,58 +142,36 @@ fn listen<A: Allocator + Copy, R: Read, W: Write, D: Desk<Op<A>, Outcome<A>>, G:
     writer: &mut W,
     desk: &mut D,
     gate: &mut G,
-) -> End
+) -> Option<End>
     requires hearing { hears dialogue.old.session.state ≡ true }
     requires entry_room { vec_len dialogue.old.asked < vec_capacity dialogue.old.asked }
     requires room { dialogue.old.count ≤ 2 ^ 64 }
     ensures listened { IsListened accounts.now dialogue.old.session.stamp D.gives (place dialogue.old desk.old) (place dialogue.new desk.new)
-        result (R.remaining reader.old) (R.remaining reader.new) (W.contents writer.old) (W.contents writer.new) }
-    ensures gated { IsStoppedFrom G.enters G.leaves result (length dialogue.old.lines) (length dialogue.new.lines) gate.old gate.new }
+        (end_at result) (R.remaining reader.old) (R.remaining reader.new) (W.contents writer.old) (W.contents writer.new) }
+    ensures gated { IsStoppedFrom G.enters G.leaves (end_at result) (length dialogue.old.lines) (length dialogue.new.lines) gate.old gate.new }
 {
     let mut lines = LineReader::new();
     let mut buffer = [0u8; PIECE];
     for _ in 0..MOST_READS {
         // Whoever is to send more has first heard all that was said.
         if writer.flush().is_err() {
-            return End::WriteFault;
+            return None;
         }
         let count = match reader.read(&mut buffer) {
-            Ok(0) => return End::HungUp,
+            Ok(0) => return Some(End::HungUp),
             Ok(count) => count,
-            Err(_) => return End::ReadFault,
+            Err(_) => return Some(End::ReadFault),
         };
         let piece = &buffer[..count];
         if let Err(stop) = exchange_all(accounts, dialogue, &mut lines, writer, desk, gate, piece) {
-            return stop.end();
+            return Some(stop.end());
         }
     }
-    End::ReadFault
+    Some(End::ReadFault)
 }
 
-/// Passes on what was said last. A session that had closed, and can't pass it on, has met a write fault; every other end
-/// stays.
-fn pass_on_last<W: Write>(writer: &mut W, end: End) -> End
-    ensures kept { Keeps (W.contents writer.old) (W.contents writer.new) }
-    ensures end { IsLastEnd end result }
-{
-    match end {
-        End::Closed => {
-            if writer.flush().is_err() {
-                End::WriteFault
-            } else {
-                End::Closed
-            }
-        }
-        // Nothing is written behind a write that failed.
-        End::WriteFault => end,
-        _ => {
-            let _unheard = writer.flush();
-            end
-        }
-    }
-}
-
-/// Says the greeting, and serves the client's lines.
+/// Says the greeting, and serves the client's lines. Gives the end of the session, or none where the writer can't pass on
+/// what it took.
 fn converse<A: Allocator + Copy, R: Read, W: Write, D: Desk<Op<A>, Outcome<A>>, G: Gate>(
     accounts: &Accounts<A>,
     greeting: &[u8],
@@ -201,23 +180,22 @@ fn converse<A: Allocator + Copy, R: Read, W: Write, D: Desk<Op<A>, Outcome<A>>, 
     writer: &mut W,
     desk: &mut D,
     gate: &mut G,
-) -> End
+) -> Option<End>
     requires greets { greeting.now ≡ greeting_of dialogue.old.session.stamp.nonce dialogue.old.session.stamp.host }
     requires opening { dialogue.old.session.state ≡ opening }
     requires no_lines { dialogue.old.lines ≡ [] }
     requires none_asked { dialogue.old.asked.items ≡ [] }
     requires entry_room { vec_len dialogue.old.asked < vec_capacity dialogue.old.asked }
     ensures conversed { IsConversed accounts.now dialogue.old.session.stamp D.gives desk.old (place dialogue.new desk.new)
-        result (R.remaining reader.old) (R.remaining reader.new) (W.contents writer.old) (W.contents writer.new) }
-    ensures gated { IsGated G.enters G.leaves result (length dialogue.new.lines) gate.old gate.new }
+        (end_at result) (R.remaining reader.old) (R.remaining reader.new) (W.contents writer.old) (W.contents writer.new) }
+    ensures gated { IsGated G.enters G.leaves (end_at result) (length dialogue.new.lines) gate.old gate.new }
 {
     let sent = send(writer, greeting);
     dialogue.count = sent as u128;
     if sent < greeting.len() {
-        return End::WriteFault;
+        return Some(End::WriteFault);
     }
-    let end = listen(accounts, dialogue, reader, writer, desk, gate);
-    pass_on_last(writer, end)
+    listen(accounts, dialogue, reader, writer, desk, gate)
 }
 
 /// Tells the desk the Free of a lock that the session still holds. There is room for its entry.
@@ -244,10 +222,29 @@ fn hang_up<A: Allocator + Copy, D: Desk<Op<A>, Outcome<A>>>(
     });
 }
 
+/// Has the writer pass on what was said last. Where it can't, a session that had closed, or would have read more, has met
+/// a fault of writing; one that ended for want of memory or by its desk is told as that.
+fn pass_on_last<W: Write>(writer: &mut W, ended: Option<End>) -> End
+    ensures kept { Keeps (W.contents writer.old) (W.contents writer.new) }
+    ensures end { IsEndedAs (end_at ended) result }
+{
+    match ended {
+        // Nothing is passed on behind a write that failed.
+        None | Some(End::WriteFault) => End::WriteFault,
+        Some(end) => {
+            let is_passed_on = writer.flush().is_ok();
+            match end {
+                End::Closed | End::ReadFault if !is_passed_on => End::WriteFault,
+                _ => end,
+            }
+        }
+    }
+}
+
 /// Serves a session (RFC 1939) to its end: writes the greeting, hears the lines that are read, has the desk perform
-/// what they ask, and writes each reply before the next line is heard. The writer is flushed before more is read and at
-/// the end, so replies to lines that come together may go out together; a flush that fails is a write fault. A lock that
-/// the session holds at its end is given back, unless the desk has stopped. Gives all that went through it.
+/// what they ask, and writes each reply before the next line is heard. The writer is flushed before each read and at the
+/// end, so it may send the replies to lines that came together in one piece; where it can't, that is a fault of writing. A
+/// lock that the session holds at its end is given back, unless the desk has stopped. Gives all that went through it.
 pub fn serve<A: Allocator + Copy, R: Read, W: Write, D: Desk<Op<A>, Outcome<A>>, G: Gate>(
     alloc: A,
     reader: &mut R,
@@ -264,8 +261,10 @@ pub fn serve<A: Allocator + Copy, R: Read, W: Write, D: Desk<Op<A>, Outcome<A>>,
     // The desk was asked what the entries say, gave what they say, and was asked nothing else.
     ensures desk { IsHistory D.gives desk.old result.asked desk.new }
 
-    // The gate was entered before each line, left once its reply was written, and nothing else.
-    ensures gate { IsGated G.enters G.leaves result.end (length result.lines) gate.old gate.new }
+    // The gate was entered before each line, left once its reply was written, and nothing else. What the writer can't pass
+    // on stops the session between two lines.
+    ensures gate { (¬ IsUnpassed accounts.now stamp result) → IsGated G.enters G.leaves result.end (length result.lines) gate.old gate.new }
+    ensures between { IsUnpassed accounts.now stamp result → IsPassed G.enters G.leaves (length result.lines) gate.old gate.new }
 {
     let session = Session::new(alloc, stamp);
     let Ok(greeting) = session.greeting() else {
@@ -274,7 +273,7 @@ pub fn serve<A: Allocator + Copy, R: Read, W: Write, D: Desk<Op<A>, Outcome<A>>,
     let Ok(mut dialogue) = Dialogue::new(alloc, session) else {
         return nothing(alloc);
     };
-    let end = converse(
+    let ended = converse(
         accounts,
         greeting.get(),
         &mut dialogue,
@@ -284,6 +283,7 @@ pub fn serve<A: Allocator + Copy, R: Read, W: Write, D: Desk<Op<A>, Outcome<A>>,
         gate,
     );
     hang_up(&mut dialogue, desk);
+    let end = pass_on_last(writer, ended);
     Transcript {
         greeting,
         lines: dialogue.lines,

@@ -1,7 +1,7 @@
 use Rattle.std.proofs.Common.{◌≡◌, ◌+◌, length, take, rules, refl, arith}
 use Rattle.session.specs.Dialogue.{place}
 use Rattle.session.proofs.Runs.{written_run, closed_stop, unwritten_stop}
-use Rattle.session.proofs.Gates.{heard_one, handed_on, heard_few, unwritten_line, passed_line, stopped_line}
+use Rattle.session.proofs.Gates.{heard_one, handed_on, heard_few, held_line, passed_line, stopped_line}
 use Rattle.session.proofs.serving.exchange.Goals as goal
 
 pub returns-then-sent-len-clause-stops : goal.returns-then-sent-len-clause-stops
@@ -38,7 +38,7 @@ returns-in_err-saying-clause-held g c =
 pub returns-then-sent-len-clause-held : goal.returns-then-sent-len-clause-held
 returns-then-sent-len-clause-held g c =
     let one : length c.hear.new.self.lines ≡ length c.args.dialogue.now.lines + 1 = heard_one c.args.dialogue.now.lines c.hear.new.self.lines c.args.line.now c.in_ok-saying.ensures.heard.heard in
-    unwritten_line g.G.Gate.enters g.G.Gate.leaves (length c.args.dialogue.now.lines) (length c.hear.new.self.lines) c.args.gate.now c.enter.new.self (omega (arith, one)) (omega (arith, one)) c.enter.ensures
+    held_line g.G.Gate.enters g.G.Gate.leaves (length c.args.dialogue.now.lines) (length c.hear.new.self.lines) c.args.gate.now c.enter.new.self (omega (arith, one)) (omega (arith, one)) c.enter.ensures
 
 pub returns-then-saying-clause-held : goal.returns-then-saying-clause-held
 returns-then-saying-clause-held g c =
