@@ -16,7 +16,7 @@ use Rattle.node.specs.declared.stopped.Stopped.{Stopped}
 use Rattle.node.specs.declared.stopped.Stopped.TheVariants.{Crashed, Memory, TicketsUsed}
 use Rattle.node.proofs.Kept.{crash-push}
 use Rattle.node.proofs.Replaying.{replayed-push}
-use Rattle.world.specs.Hosts.{Host, known_log, crashed_instead, host_of, IsLoggedSo, HasAnswer, without_last, sent_after}
+use Rattle.world.specs.Hosts.{Host, known_log, crashed_instead, host_of, IsLoggedSo, HasAnswer, without_last, log_after, sent_after}
 use Rattle.world.specs.Messages.{is_up, newly_sent}
 use Rattle.world.specs.declared.sent.Sent.{Sent}
 use Rattle.world.proofs.AnswersStay.{all_left}
@@ -43,20 +43,20 @@ module _ {A : Type 0} where
   down_has id host down up = absurd (cc)
 
   -- a node that is up runs, and its log is its own
-  pub record IsRunning (node : NodeValue A) (unsent : Bool) (host : Host A) : Type 0 where
-    pub sent : unsent ≡ false
+  pub record IsRunning (node : NodeValue A) (is_cut : Bool) (host : Host A) : Type 0 where
+    pub whole : is_cut ≡ false
     pub runs : node.stopped ≡ None
     pub log : node.log ≡ host.log
     pub awaited : node.awaited ≡ host.awaited
     pub no_crash : list_any is_crash node.log.inputs ≡ false
 
-  pub running : (node : NodeValue A) (unsent : Bool) (host : Host A) → IsLoggedSo node.stopped node.log → host_of node unsent ≡ host → is_up (Some host.log) ≡ true → IsRunning node unsent host
+  pub running : (node : NodeValue A) (is_cut : Bool) (host : Host A) → IsLoggedSo node.stopped node.log → host_of node is_cut ≡ host → is_up (Some host.log) ≡ true → IsRunning node is_cut host
   running node true host h same up = absurd (cc (ap (λ (x : Host A). is_up (Some x.log)) same, crashed_down (record { opening = node.log.opening; inputs = without_last node.log.inputs })))
   running node false host h same up =
       go node.stopped refl h (ap (λ (x : Host A). x.log) same) up
     where
       go : (s : Option Stopped) → node.stopped ≡ s → IsLoggedSo s node.log → known_log s node.log ≡ host.log → is_up (Some host.log) ≡ true → IsRunning node false host
-      go None e k its up = record { sent = refl; runs = e; log = its; awaited = ap (λ (x : Host A). x.awaited) same; no_crash = k }
+      go None e k its up = record { whole = refl; runs = e; log = its; awaited = ap (λ (x : Host A). x.awaited) same; no_crash = k }
       go (Some Crashed) e k its up = absurd (cc (ap (λ (l : NodeLog A). is_up (Some l)) its))
       go (Some Memory) e k its up = absurd (cc (ap (λ (l : NodeLog A). is_up (Some l)) its, crashed_down node.log))
       go (Some TicketsUsed) e k its up = absurd (cc (ap (λ (l : NodeLog A). is_up (Some l)) its, crashed_down node.log))
@@ -83,9 +83,9 @@ module _ {A : Type 0} where
   pub step_log : (node later : NodeValue A) (host : Host A) (i : Input A) → node.log ≡ host.log → later.log ≡ logged node.log i → later.stopped ≡ stops_after i → (host_of later false).log ≡ logged host.log i
   step_log node later host i same log stops = rw (stops) (known_after later.log i) ∙ log ∙ ap (λ (l : NodeLog A). logged l i) same
 
-  -- where what was sent can't be kept
-  pub unsent_log : (node later : NodeValue A) (host : Host A) (i : Input A) → node.log ≡ host.log → later.log ≡ logged node.log i → (host_of later true).log ≡ logged host.log Crash
-  unsent_log node later host i same log =
+  -- where there was no memory for the input, or for what it sent
+  pub cut_log : (node later : NodeValue A) (host : Host A) (i : Input A) → node.log ≡ host.log → later.log ≡ logged node.log i → (host_of later true).log ≡ logged host.log Crash
+  cut_log node later host i same log =
       ap crashed_instead log
       ∙ ap (λ (is : List (Input A)). logged (record { opening = node.log.opening; inputs = is }) Crash) (without_last-push node.log.inputs i)
       ∙ ap (λ (l : NodeLog A). logged l Crash) same
@@ -97,14 +97,18 @@ module _ {A : Type 0} where
   stopped_log node later host used Memory same is can = ap (λ (x : NodeValue A). known_log x.stopped x.log) is ∙ ap (λ (l : NodeLog A). logged l Crash) same
   stopped_log node later host used TicketsUsed same is can = ap (λ (x : NodeValue A). known_log x.stopped x.log) is ∙ ap (λ (l : NodeLog A). logged l Crash) same
 
+  -- a node that is up takes what comes
+  pub goes_on : (log : NodeLog A) (i : Input A) → is_up (Some log) ≡ true → log_after log i ≡ logged log i
+  goes_on log i up = rw (up) refl
+
   pub crashed_has : (id : CommandId) (log : NodeLog A) (host : Host A) → host.log ≡ logged log Crash → HasAnswer id host
   crashed_has id log host e = down_has id host (ap (λ (l : NodeLog A). is_up (Some l)) e ∙ crashed_down log)
 
   -- answers that are there stay, and those that come are there
-  pub step_has : (node later : NodeValue A) (unsent : Bool) (host : Host A) (i : Input A) → IsRunning node unsent host → is_up (Some host.log) ≡ true → later.log ≡ logged node.log i → later.stopped ≡ stops_after i
+  pub step_has : (node later : NodeValue A) (is_cut : Bool) (host : Host A) (i : Input A) → IsRunning node is_cut host → is_up (Some host.log) ≡ true → later.log ≡ logged node.log i → later.stopped ≡ stops_after i
       → (stops_after i ≡ None → (id : CommandId) → answer_of id later.awaited ≡ answer_after node.log i id (answer_of id node.awaited))
       → (id : CommandId) → HasAnswer id host → HasAnswer id (host_of later false)
-  step_has node later unsent host i r up log stops answers id has later_up =
+  step_has node later is_cut host i r up log stops answers id has later_up =
       go i refl (answers)
     where
       its : (host_of later false).log ≡ logged host.log i

@@ -1,9 +1,8 @@
 -- Why events are refused, by a world's connections.
-use Rattle.std.proofs.Common.{◌≡◌, ℕ, List, [], ◌∷◌, Bool, true, false, Option, Some, None, refl, ap, ◌∙◌, cond, map}
+use Rattle.std.proofs.Common.{◌≡◌, ℕ, List, [], ◌∷◌, Bool, true, false, Option, Some, None, refl, ap, ◌∙◌, cond}
 use Rattle.std.specs.Prelude.{option_map, is_some, ◌||◌}
-use Rattle.std.specs.List.{list_any}
 use Rattle.std.specs.Str.{bytes_eq}
-use Rattle.apop.specs.Accounts.{Account, name_of}
+use Rattle.apop.specs.Accounts.{Account, has_account}
 use Rattle.apop.specs.Login.{account_named}
 use Rattle.node.specs.declared.log.NodeLog.{NodeLog}
 use Rattle.world.specs.Clients.{Standing, Hears, Waits, Shut, Stranded, Over, Client, standing_as, stranded, client_of}
@@ -70,12 +69,12 @@ module _ {A : Type 0} where
         ap (connect_refusal (service_of hosts es) node) (client_shown (network_of hosts).logs session es ∙ ap (option_map (λ x. shown (network_of hosts).logs (client_in x))) none)
 
 -- who has an account
-pub named : (accounts : List Account) (user : List ℕ) → list_any (λ name. bytes_eq name user) (map name_of accounts) ≡ is_some (account_named accounts user)
+pub named : (accounts : List Account) (user : List ℕ) → has_account accounts user ≡ is_some (account_named accounts user)
 named [] user = refl
 named (a ∷ accounts) user =
     go (bytes_eq a.name user) (named accounts user)
   where
-    go : (t : Bool) → list_any (λ name. bytes_eq name user) (map name_of accounts) ≡ is_some (account_named accounts user)
-        → (t || list_any (λ name. bytes_eq name user) (map name_of accounts)) ≡ is_some (cond t (Some a) (account_named accounts user))
+    go : (t : Bool) → has_account accounts user ≡ is_some (account_named accounts user)
+        → (t || has_account accounts user) ≡ is_some (cond t (Some a) (account_named accounts user))
     go true h = refl
     go false h = h

@@ -36,7 +36,7 @@ module _ {A : Type 0} where
   known_log (Some Memory) log = logged log Crash
   known_log (Some TicketsUsed) log = logged log Crash
 
-  -- and in place of an input whose messages couldn't be kept
+  -- and in place of the last input, where there was no memory for that or for its messages
   abbrev pub crashed_instead : NodeLog A → NodeLog A
   crashed_instead log = logged (record { opening = log.opening; inputs = without_last log.inputs }) Crash
 

@@ -70,10 +70,7 @@ pub(crate) fn act<A: Allocator + Copy>(
         Event::Arrive(which) => hosts.arrive(which),
         Event::Tick(node) => give(hosts, node, Input::Tick),
         Event::Campaign(node) => give(hosts, node, Input::Campaign),
-        Event::Crash(node) => {
-            hosts.crash(node);
-            Ok(())
-        }
+        Event::Crash(node) => give(hosts, node, Input::Crash),
     }
 }
 

@@ -20,8 +20,8 @@ use std::marker::Model;
 #[derive(Drop)]
 pub(crate) struct Host<A: Allocator + Copy = Global> {
     node: Node<A>,
-    /// Whether there was no memory for what the node sent at its last input: then it has crashed in place of that.
-    unsent: bool,
+    /// Whether there was no memory for its last input, or for what that sent: then it has crashed in place of that.
+    is_cut: bool,
 }
 
 impl<A: Allocator + Copy> Model for Host<A> {
@@ -29,7 +29,7 @@ impl<A: Allocator + Copy> Model for Host<A> {
 
     ghost Value = { Host A };
 
-    ghost view = { λ h. host_of h.node h.unsent };
+    ghost view = { λ h. host_of h.node h.is_cut };
 
     ghost invariant = { λ h. IsLoggedSo h.node.stopped h.node.log };
 }
@@ -43,7 +43,7 @@ impl<A: Allocator + Copy> Host<A> {
     {
         Host {
             node,
-            unsent: false,
+            is_cut: false,
         }
     }
 
@@ -51,7 +51,7 @@ impl<A: Allocator + Copy> Host<A> {
     pub(crate) fn is_up(&self) -> bool
         ensures { result ≡ is_up (Some self.now.log) }
     {
-        !self.unsent && self.node.stopped().is_none()
+        !self.is_cut && self.node.stopped().is_none()
     }
 
     /// Takes an input, and sends what that brings. Gives the ticket of a `Submit`. After `Memory` it has crashed.
@@ -72,7 +72,7 @@ impl<A: Allocator + Copy> Host<A> {
             Ok(outputs) => match sent.add_all(outputs.sends) {
                 Ok(()) => Ok(outputs.ticket),
                 Err(error) => {
-                    self.unsent = true;
+                    self.is_cut = true;
                     Err(error)
                 }
             },
@@ -97,6 +97,19 @@ impl<A: Allocator + Copy> Host<A> {
             self.take(sent, input)
         } else {
             Ok(None)
+        }
+    }
+
+    /// It has stopped in place of an input for which there was no memory. Where it isn't up, nothing happens.
+    pub(crate) fn cut(&mut self)
+        ensures log { self.new.log ≡ log_after self.old.log Crash }
+        ensures answers { (id : CommandId) → HasAnswer id self.old → HasAnswer id self.new }
+    {
+        if self.is_up() {
+            match self.node.step(Input::Crash) {
+                Ok(_) => self.is_cut = true,
+                Err(_) => {}
+            }
         }
     }
 
@@ -127,7 +140,7 @@ impl<A: Allocator + Copy> Host<A> {
         ensures value { IfSome result (λ performed. performed.now ≡ (replayed self.now.log).replica.performed) }
         ensures up { is_up (Some self.now.log) ≡ true → is_some result ≡ true }
     {
-        if self.unsent {
+        if self.is_cut {
             return None;
         }
         match self.node.stopped() {
@@ -143,7 +156,7 @@ impl<A: Allocator + Copy> Host<A> {
         ensures value { IfSome result (λ ticket. last_ticket_of self.now.log user ≡ Some ticket) }
         ensures up { is_up (Some self.now.log) ≡ true → result ≡ last_ticket_of self.now.log user }
     {
-        if self.unsent {
+        if self.is_cut {
             return None;
         }
         match self.node.stopped() {

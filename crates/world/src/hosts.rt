@@ -97,18 +97,23 @@ impl<A: Allocator + Copy> Hosts<A> {
         match Shared::new(*self.index.allocator(), op) {
             Ok(op) => self.take(node, Input::Submit(user, op)),
             Err(error) => {
-                self.crash(node);
+                self.cut(node);
                 Err(error)
             }
         }
     }
 
-    /// A node stops, for good. Where it isn't there, or isn't up, nothing happens.
-    pub(crate) fn crash(&mut self, node: NodeId)
+    /// A node has stopped in place of an input for which there was no memory. Where it isn't there, or isn't up, nothing
+    /// happens.
+    pub(crate) fn cut(&mut self, node: NodeId)
         ensures network { network_of self.new ≡ takes (network_of self.old) node Crash }
         ensures answers { (n : ℕ) (id : CommandId) → HasAnswerAt n id self.old → HasAnswerAt n id self.new }
     {
-        let _ = self.take(node, Input::Crash);
+        let was_up = self.nodes.is_up(node);
+        self.nodes.cut(node);
+        if was_up {
+            pass_over(&self.nodes, &mut self.index);
+        }
     }
 
     /// The message that was sent as the number `which` reaches its addressee. Where no such was sent, or the addressee
@@ -202,8 +207,8 @@ impl<A: Allocator + Copy> Hosts<A> {
         self.nodes.take_answer(node, id)
     }
 
-    /// What a node has performed: each command once, with its slot. None where there is no such node, or it has stopped
-    /// for want of memory.
+    /// What a node has performed: each command once, with its slot. None where there is no such node, or want of memory has
+    /// stopped it.
     pub(crate) fn performed(&self, node: NodeId) -> Option<&[(Slot, SharedCommand<A>)]>
         ensures value { IfSome result (λ performed. performed_in (log_of node (network_of self.now).logs) ≡ Some performed.now) }
         ensures up { is_up (log_of node (network_of self.now).logs) ≡ true → is_some result ≡ true }
@@ -219,8 +224,8 @@ impl<A: Allocator + Copy> Hosts<A> {
         self.nodes.performed_at(place)
     }
 
-    /// The ticket that a node gave last to the user, if it has given one. None where there is no such node, or it has
-    /// stopped for want of memory.
+    /// The ticket that a node gave last to the user, if it has given one. None where there is no such node, or want of
+    /// memory has stopped it.
     pub(crate) fn last_ticket(&self, node: NodeId, user: Name) -> Option<Ticket>
         ensures value { IfSome result (λ ticket. last_ticket_in (log_of node (network_of self.now).logs) user ≡ Some ticket) }
         ensures up { is_up (log_of node (network_of self.now).logs) ≡ true → result ≡ last_ticket_in (log_of node (network_of self.now).logs) user }

@@ -81,12 +81,16 @@ impl<A: Allocator + Copy> Nodes<A> {
         host.take_if_up(&mut self.sent, input)
     }
 
-    /// A node stops, for good. Where it isn't there, or isn't up, nothing happens.
-    pub(crate) fn crash(&mut self, node: NodeId)
+    /// A node has stopped in place of an input for which there was no memory. Where it isn't there, or isn't up, nothing
+    /// happens.
+    pub(crate) fn cut(&mut self, node: NodeId)
         ensures network { network_of self.new ≡ takes (network_of self.old) node Crash }
         ensures answers { (n : ℕ) (id : CommandId) → HasAnswerAt n id self.old → HasAnswerAt n id self.new }
     {
-        let _ = self.take(node, Input::Crash);
+        let Some(host) = self.hosts.get_mut(place_of(node)) else {
+            return;
+        };
+        host.cut();
     }
 
     /// The message that was sent as the number `which` reaches its addressee. Where no such was sent, or the addressee
@@ -106,7 +110,7 @@ impl<A: Allocator + Copy> Nodes<A> {
         match arriving(message) {
             Ok(envelope) => self.receive(which, to, Input::Arrive(envelope)),
             Err(error) => {
-                self.crash(to);
+                self.cut(to);
                 Err(error)
             }
         }
@@ -146,8 +150,8 @@ impl<A: Allocator + Copy> Nodes<A> {
         host.take_answer(id)
     }
 
-    /// What a node has performed: each command once, with its slot. None where there is no such node, or it has stopped
-    /// for want of memory.
+    /// What a node has performed: each command once, with its slot. None where there is no such node, or want of memory has
+    /// stopped it.
     pub(crate) fn performed(&self, node: NodeId) -> Option<&[(Slot, SharedCommand<A>)]>
         ensures value { IfSome result (λ performed. performed_in (log_of node (network_of self.now).logs) ≡ Some performed.now) }
         ensures up { is_up (log_of node (network_of self.now).logs) ≡ true → is_some result ≡ true }
@@ -166,8 +170,8 @@ impl<A: Allocator + Copy> Nodes<A> {
         }
     }
 
-    /// The ticket that a node gave last to the user, if it has given one. None where there is no such node, or it has
-    /// stopped for want of memory.
+    /// The ticket that a node gave last to the user, if it has given one. None where there is no such node, or want of
+    /// memory has stopped it.
     pub(crate) fn last_ticket(&self, node: NodeId, user: Name) -> Option<Ticket>
         ensures value { IfSome result (λ ticket. last_ticket_in (log_of node (network_of self.now).logs) user ≡ Some ticket) }
         ensures up { is_up (log_of node (network_of self.now).logs) ≡ true → result ≡ last_ticket_in (log_of node (network_of self.now).logs) user }

@@ -39,7 +39,7 @@ pub(crate) fn submit<A: Allocator + Copy>(
     ensures answers { (n : ℕ) (id : CommandId) → HasAnswerAt n id hosts.old → HasAnswerAt n id hosts.new }
 {
     if operations.reserve(1).is_err() {
-        hosts.crash(node);
+        hosts.cut(node);
         return Err(Memory);
     }
     match hosts.submit(node, user, op) {

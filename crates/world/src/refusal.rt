@@ -154,5 +154,5 @@ fn of_operation<A: Allocator + Copy>(
 fn has_account<A: Allocator + Copy>(config: &Config<A>, user: Name) -> bool
     ensures { result ≡ is_some (account_named config.now.accounts user) }
 {
-    config.accounts.names().contains(&user)
+    config.accounts.has(&user)
 }

@@ -144,9 +144,8 @@ impl<A: Allocator + Copy> World<A> {
         )
     }
 
-    /// What a node has performed: each command once, with its slot. None where there is no such node, or it has stopped
-    /// for want of memory. It is how the decided order begins, the same for all nodes, and each of its commands was
-    /// submitted.
+    /// What a node has performed: each command once, with its slot. None where there is no such node, or want of memory has
+    /// stopped it. It is how the decided order begins, the same for all nodes, and each of its commands was submitted.
     pub fn performed(&self, node: NodeId) -> Option<&[(Slot, SharedCommand<A>)]>
         ensures value { IfSome result (λ performed. spec.performed_by self.now.service node ≡ Some performed.now) }
         ensures decided { IfSome result (λ performed. IsDecidedFirst self.now.config self.now.service performed.now) }
@@ -156,8 +155,8 @@ impl<A: Allocator + Copy> World<A> {
         self.hosts.performed(node)
     }
 
-    /// The ticket that a node gave last to the user, if it has given one. None where there is no such node, or it has
-    /// stopped for want of memory. Takes no memory.
+    /// The ticket that a node gave last to the user, if it has given one. None where there is no such node, or want of
+    /// memory has stopped it. Takes no memory.
     pub fn last_ticket(&self, node: NodeId, user: Name) -> Option<Ticket>
         ensures value { IfSome result (λ ticket. spec.last_ticket self.now.service node user ≡ Some ticket) }
         ensures up { is_up (log_of node self.now.service.network.logs) ≡ true → result ≡ spec.last_ticket self.now.service node user }

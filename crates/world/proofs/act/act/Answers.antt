@@ -105,8 +105,13 @@ returns-in-Arrive-clause-err g c =
 
 pub returns-in-Crash-clause-service : goal.returns-in-Crash-clause-service
 returns-in-Crash-clause-service g c =
-    subst (λ (e : Event g.row.A.Denot). service_of c.crash.new.self c.args.connections.now.entries ≡ occurs c.args.config.now (service_of c.args.hosts.now c.args.connections.now.entries) e) (sym c.in-Crash.is)
-    (nodes_crash c.args.hosts.now c.crash.new.self c.args.connections.now.entries c.args.config.now c.in-Crash.node c.crash.ensures.network)
+    subst (λ (e : Event g.row.A.Denot). OnOk c.give-in-Crash.result (service_of c.give-in-Crash.new.hosts c.args.connections.now.entries ≡ occurs c.args.config.now (service_of c.args.hosts.now c.args.connections.now.entries) e)) (sym c.in-Crash.is)
+    (on_ok_weaker c.give-in-Crash.result (λ h. nodes_crash c.args.hosts.now c.give-in-Crash.new.hosts c.args.connections.now.entries c.args.config.now c.in-Crash.node h) c.give-in-Crash.ensures.ok)
+
+pub returns-in-Crash-clause-err : goal.returns-in-Crash-clause-err
+returns-in-Crash-clause-err g c =
+    subst (λ (e : Event g.row.A.Denot). OnErr c.give-in-Crash.result (IsInterrupted c.args.config.now e (service_of c.args.hosts.now c.args.connections.now.entries) (service_of c.give-in-Crash.new.hosts c.args.connections.now.entries))) (sym c.in-Crash.is)
+    (on_err_weaker c.give-in-Crash.result (λ h. nodes_crash c.args.hosts.now c.give-in-Crash.new.hosts c.args.connections.now.entries c.args.config.now c.in-Crash.node h) c.give-in-Crash.ensures.err)
 
 pub returns-in-Collect-clause-answers : goal.returns-in-Collect-clause-answers
 returns-in-Collect-clause-answers g c n id apart has =
