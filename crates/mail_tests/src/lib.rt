@@ -1,11 +1,15 @@
 //! Tests of maildrops, mailboxes, accounts and the wire of what no clause says: the rows of operations, requests for
-//! memory that are refused, and the tables beside plain lists. There is nothing here but tests.
+//! memory that are refused, and the tables, texts and mailboxes beside plain lists. There is nothing here but tests.
 #![tactic(auto)]
 
 #[cfg(test)]
 mod accounts_tests;
 #[cfg(test)]
 mod command_tests;
+#[cfg(test)]
+mod generated_mailbox_tests;
+#[cfg(test)]
+mod generated_text_tests;
 #[cfg(test)]
 mod mailbox_tests;
 #[cfg(test)]
@@ -14,6 +18,12 @@ mod office_tests;
 mod operation_tests;
 #[cfg(test)]
 mod plain;
+#[cfg(test)]
+mod plain_mailbox;
+#[cfg(test)]
+mod plain_text;
+#[cfg(test)]
+mod random;
 #[cfg(test)]
 mod short;
 #[cfg(test)]

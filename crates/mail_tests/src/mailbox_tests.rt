@@ -18,10 +18,11 @@ const LINES: &[&str] = &["Subject: x", "", "hi", ".", "From me"];
 /// Mailboxes, the lines of their texts, each with a line feed behind it and a line `--` behind each text, or why they
 /// are refused, and how many requests for memory they take at most, whole and byte by byte. A block of bytes takes one
 /// for its first 8 and one for each doubling: that of each text, and that of an open line, which is the last one or,
-/// byte by byte, each in turn. A text takes one more to give back what its block doesn't need, if it has lines, and one
-/// to be shared; a list of up to four texts takes one.
+/// byte by byte, each in turn. The first of a text is for as many bytes as stand behind the line that begins it, where
+/// some do. A text takes one more to give back what its block doesn't need, if it has lines, and one to be shared; a list
+/// of up to four texts takes one.
 const ROWS: &[(&str, Result<&str, MboxError>, u64, u64)] = &[
-    (MAILBOX, Ok("Subject: x\n\nhi\n.\nFrom me\n--\n"), 6, 10),
+    (MAILBOX, Ok("Subject: x\n\nhi\n.\nFrom me\n--\n"), 5, 10),
     ("", Ok(""), 0, 0),
     ("hello\n", Err(MboxError::NoFromLine), 0, 0),
     ("\nFrom x\n", Err(MboxError::NoFromLine), 0, 0),
@@ -30,15 +31,15 @@ const ROWS: &[(&str, Result<&str, MboxError>, u64, u64)] = &[
     ("Fr", Err(MboxError::NoFromLine), 0, 1),
     ("From\n", Err(MboxError::NoFromLine), 0, 1),
     ("From x", Ok("--\n"), 3, 3),
-    ("From x\r\n>>From a\r\n", Ok(">From a\n--\n"), 5, 7),
+    ("From x\r\n>>From a\r\n", Ok(">From a\n--\n"), 4, 7),
     ("From x\n\n\n", Ok("\n--\n"), 4, 5),
     ("From x\na\n\nFrom y\nb", Ok("a\n--\nb\n--\n"), 8, 8),
-    ("From x\nFrom y\n", Ok("--\n--\n"), 3, 4),
+    ("From x\nFrom y\n", Ok("--\n--\n"), 4, 4),
     ("From x\na\rb\r\r\nc\r", Ok("a\rb\r\nc\r\n--\n"), 6, 6),
     (
         "From x\n>hi\n> From a\nfrom b\nFrom:c\n From d",
         Ok(">hi\n> From a\nfrom b\nFrom:c\n From d\n--\n"),
-        8,
+        6,
         8,
     ),
 ];

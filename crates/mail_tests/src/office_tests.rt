@@ -1,5 +1,6 @@
 //! The office beside plain lists, over many commands.
 use crate::plain::{Act, IDS, MESSAGES, OCTETS, Plain};
+use crate::random::Random;
 use crate::short::{Short, in_short};
 use ballot::Memory;
 use maildrop::{Command, Key, Limits, Name, Office, Op, Text, TextBuilder, Uids, are_different};
@@ -7,18 +8,7 @@ use samples::{name, ticket};
 use std::alloc::Global;
 use std::test::Fail;
 
-/// Numbers without an order, always the same.
-#[derive(Drop)]
-struct Random(u64);
-
 impl Random {
-    /// A number below this one.
-    fn below(&mut self, limit: u64) -> u64 {
-        let next = self.0.wrapping_mul(6_364_136_223_846_793_005);
-        self.0 = next.wrapping_add(1_442_695_040_888_963_407);
-        (self.0 >> 33).checked_rem(limit).unwrap_or(0)
-    }
-
     fn act(&mut self, lock: u64) -> Act {
         let lock = if self.below(3) > 0 { lock } else { 2 };
         match self.below(9) {

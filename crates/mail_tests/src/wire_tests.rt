@@ -24,15 +24,15 @@ enum Call {
 
 /// The calls, what they give, and how many requests for memory they make at most.
 const ROWS: [(Call, &str, u64); 7] = [
-    (Call::New, WIRE, 6),
+    (Call::New, WIRE, 2),
     (Call::Stuffed, WIRE, 1),
-    (Call::Unstuffed, WIRE, 6),
+    (Call::Unstuffed, WIRE, 3),
     (
         Call::Retr,
         "+OK 30 octets\r\nSubject: x\r\n\r\nhi\r\n..\r\nFrom me\r\n.\r\n",
         1,
     ),
-    (Call::Top(0), "+OK\r\nSubject: x\r\n\r\n.\r\n", 2),
+    (Call::Top(0), "+OK\r\nSubject: x\r\n\r\n.\r\n", 1),
     (Call::Top(1), "+OK\r\nSubject: x\r\n\r\nhi\r\n.\r\n", 2),
     (
         Call::Top(99),
