@@ -189,7 +189,7 @@ impl<R: Net + Wait + Clock + Copy, N: ServedNode + Desk<Op, Outcome> + Drop> Ope
         }
     }
 
-    /// Hears a request, and answers it. What was gathered of the answer when a fault came may be unsaid.
+    /// Hears a request, and answers it.
     fn answer<S: Read, W: Write>(&self, reader: &mut S, writer: &mut W) -> Result<(), Fault> {
         let mut line = [0u8; LONGEST_REQUEST];
         let request = match read_line(reader, &mut line) {
@@ -197,12 +197,16 @@ impl<R: Net + Wait + Clock + Copy, N: ServedNode + Desk<Op, Outcome> + Drop> Ope
             None => None,
         };
         match request {
-            Some(request) => self.perform(&request, reader, writer),
-            None => say(writer, b"bad request\n"),
+            Some(request) => self.perform(&request, reader, writer)?,
+            None => say(writer, b"bad request\n")?,
+        }
+        match writer.flush() {
+            Ok(()) => Ok(()),
+            Err(_) => Err(Fault::Write),
         }
     }
 
-    /// Hears a request, and answers it. After a fault what was not written yet is not said.
+    /// Hears a request, and answers it. What was not written yet when a fault came is not said.
     fn respond(&self, stream: &TcpStream) -> Result<(), Fault> {
         let Ok(mut reader) = BufReader::with_capacity(self.alloc, PIECE, stream) else {
             return Err(Fault::Memory);
@@ -210,15 +214,10 @@ impl<R: Net + Wait + Clock + Copy, N: ServedNode + Desk<Op, Outcome> + Drop> Ope
         let Ok(mut writer) = BufWriter::with_capacity(self.alloc, PIECE, stream) else {
             return Err(Fault::Memory);
         };
-        if let Err(fault) = self.answer(&mut reader, &mut writer) {
-            let (_stream, unsaid) = writer.into_parts();
-            drop(unsaid);
-            return Err(fault);
-        }
-        match writer.flush() {
-            Ok(()) => Ok(()),
-            Err(_) => Err(Fault::Write),
-        }
+        let answered = self.answer(&mut reader, &mut writer);
+        let (_stream, unsaid) = writer.into_parts();
+        drop(unsaid);
+        answered
     }
 }
 

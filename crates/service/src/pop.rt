@@ -31,7 +31,7 @@ pub(crate) struct PopHandler<R, N: ServedNode> {
 impl<R: RandomSource + Wait + Copy, N: ServedNode + Desk<Op, Outcome> + Drop> Handler
     for PopHandler<R, N> {
     fn serve(&mut self, stream: &TcpStream) {
-        // A reply is never held back to be joined with the next.
+        // What is written goes out at once.
         let _slower = stream.set_nodelay(true);
         let Some(stamp) = self.board.new_stamp(&self.rt, self.alloc) else {
             return;
@@ -49,6 +49,9 @@ impl<R: RandomSource + Wait + Copy, N: ServedNode + Desk<Op, Outcome> + Drop> Ha
             &mut self.node,
             &mut OpenGate,
         );
+        // Nothing is written behind a write that failed.
+        let (_stream, unsaid) = writer.into_parts();
+        drop(unsaid);
         self.board.keep(&self.rt, transcript);
     }
 
