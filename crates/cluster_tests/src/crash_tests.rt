@@ -19,9 +19,11 @@ use std::time::Clock;
 /// A client that removes a message.
 const LINES: &[u8] = b"USER alice\r\nPASS s3\r\nDELE 1\r\nQUIT\r\n";
 
-/// How many turns the crash comes behind the question, so that the session has come to sleep by then. Where it hasn't, it finds
-/// a node that has stopped: the test passes all the same, and doesn't see a crash that wakes nobody.
-const TURNS_TO_SLEEP: u32 = 50;
+/// How many clusters are started and crashed, one after another. When a crash comes the session has asked, and either it sleeps,
+/// or it has yet to look whether its node is up and finds that it isn't: it ends the same way, whatever the timing. A crash that
+/// wakes nobody is seen by a session that sleeps, which then never ends, and no call tells whether one does. The operator looks
+/// once a turn whether it has asked, and asleep it is a few calls later, so most are when he looks; one of all is enough.
+const CLUSTERS: u32 = 20;
 
 type Nodes<D, R> = Cluster<D, R, InboxLink<R>>;
 
@@ -36,9 +38,6 @@ fn crash_once_waiting<D: Deployment, R: Wait + Clock>(rt: &R, desk: &DeskOf<D, R
         if !status.is_some_and(|status| status.up && !status.waiting) {
             break;
         }
-        wait_a_turn(rt);
-    }
-    for _ in 0..TURNS_TO_SLEEP {
         wait_a_turn(rt);
     }
     let was_up = desk.crash();
@@ -93,9 +92,22 @@ fn check_unanswered(transcript: &Transcript) -> Result<(), Fail> {
     }
 }
 
+fn waits_in_vain_often<
+    D: Deployment + Send + Sync + 'static,
+    R: Threads + Wait + Clock + Copy + Send + Sync + 'static,
+>(rt: R, alloc: Global, setup: &Setup) -> Result<(), Fail>
+    requires deployment { setup.now ≡ D.setup }
+    requires names { IsTrue (are_different setup.now.names) }
+{
+    for _ in 0..CLUSTERS {
+        waits_in_vain::<D, R>(rt, alloc, setup)?;
+    }
+    Ok(())
+}
+
 /// A session waits for a node that isn't to answer it, until that node stops.
 #[test]
 fn a_crash_ends_a_session_that_waits(rt: HostRuntime) -> Result<(), Fail> {
     let setup = setup_of(rt.alloc(), 1)?;
-    waits_in_vain::<Brand, _>(rt, rt.alloc(), &setup)
+    waits_in_vain_often::<Brand, _>(rt, rt.alloc(), &setup)
 }

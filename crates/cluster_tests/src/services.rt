@@ -14,8 +14,13 @@ use std::thread;
 use std::thread::{JoinHandle, Threads};
 use std::time::{Clock, Duration};
 
-/// How many turns of a millisecond are waited for a flag at most.
-const TURNS: u32 = 10_000;
+/// For how many seconds at least a test waits for anything before it gives up, so that none waits for ever: nearly the minute
+/// after which its runner ends it. A wait for what a right program does ends when that is done, so only where the whole test
+/// takes about its minute does one come near this bound. Where one reaches it the test has failed, or the runner ends it.
+pub const SECONDS: u64 = 50;
+
+/// As many turns, each of which takes a millisecond or more.
+const TURNS: u64 = SECONDS * 1_000;
 
 /// A flag that threads share.
 pub type Flag = Arc<Mutex<bool>>;
@@ -75,7 +80,7 @@ fn crash_when_late<D: Deployment, R: Wait + Clock, L: Link>(
     done: &Flag,
     desks: &[NodeDesk<D, R, L>],
 ) {
-    if !wait_for(rt, done) && !wait_for(rt, done) {
+    if !wait_for(rt, done) {
         for desk in desks {
             let _was_up = desk.crash();
         }

@@ -82,16 +82,19 @@ impl Course {
     }
 }
 
-/// Ticks a node until the session is over. It asks to lead when it has waited in vain for long enough.
+/// Ticks a node until the session is over, but not while something lies unheard there: so on a slow machine it gets no more
+/// ticks. It asks to lead when it has waited in vain for long enough.
 fn tick_on<D: Deployment, R: Wait + Clock>(rt: &R, desk: &DeskOf<D, R>, course: &Course) {
     let mut patience = Patience::new(desk.me());
     for _ in rt.forever() {
         if *course.done.lock(rt) {
             return;
         }
-        desk.tick();
-        if desk.status().is_some_and(|status| patience.tick(status)) {
-            desk.campaign();
+        if !desk.has_unheard() {
+            desk.tick();
+            if desk.status().is_some_and(|status| patience.tick(status)) {
+                desk.campaign();
+            }
         }
         wait_a_turn(rt);
     }

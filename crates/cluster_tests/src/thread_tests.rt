@@ -2,7 +2,7 @@
 ghost use Rattle.std.specs.Prelude.{◌≡◌, IsTrue};
 ghost use Rattle.maildrop.specs.Name.{are_different};
 
-use crate::services::{Flag, alone, new_flag, node, setup_of, wait_a_turn, wait_for};
+use crate::services::{Flag, SECONDS, alone, new_flag, node, setup_of, wait_a_turn, wait_for};
 use ballot::{Ballot, Envelope, Message};
 use cluster::{Cluster, Deployment, Link, NodeDesk, Setup};
 use crossbeam_channel::{Receiver, Sender, unbounded};
@@ -17,9 +17,6 @@ use std::time::{Clock, Duration};
 
 /// How many envelopes come to a node that is let go: several times what it hears under one lock.
 const ENVELOPES: u64 = 200;
-
-/// How many seconds an answer is waited for at most.
-const SECONDS: u64 = 30;
 
 /// Node 2 asks node 1 for a promise, and gets one answer.
 fn ask(round: u64) -> Result<Envelope<SharedCommand>, Fail> {
@@ -90,7 +87,7 @@ impl<R: Wait + Clock> Link for Holding<R> {
     }
 }
 
-/// Waits until the node answers.
+/// Waits until the node answers, but not for ever.
 fn wait_for_answer<R: Wait + Clock>(
     rt: &R,
     answers: &Receiver<Envelope<SharedCommand>>,
