@@ -27,6 +27,8 @@ pub enum Happening {
     Connect(u8),
     /// The client sends a line.
     Line(&'static str),
+    /// The client is gone.
+    Hangup,
     /// All comes that comes by itself, which is so many events.
     Settle(u64),
 }
@@ -108,6 +110,7 @@ pub fn event_of<A: Allocator + Copy>(
         Happening::Mail(number, user, lines) => mail_of(alloc, number, user, lines)?,
         Happening::Connect(number) => connect_of(number)?,
         Happening::Line(words) => line_of(words)?,
+        Happening::Hangup => Event::Hangup { session: session() },
         Happening::Settle(_) => return Ok(None),
     }))
 }

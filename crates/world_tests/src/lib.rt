@@ -13,4 +13,6 @@ mod refusals;
 #[cfg(test)]
 mod run_tests;
 #[cfg(test)]
+mod stopped_tests;
+#[cfg(test)]
 mod told;

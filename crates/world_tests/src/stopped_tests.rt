@@ -1,0 +1,162 @@
+//! What a node tells that has stopped: one that has crashed all that it did before, and one that found no memory nothing.
+
+use crate::happenings::{Happening, config, event_of};
+use refusing::Refusal;
+use samples::{Heap, Scenario, alice, check, node, requests};
+use std::alloc::Allocator;
+use std::test::Fail;
+use world::{Event, Refused, World};
+
+/// The node that stops.
+const STOPPING: u8 = 2;
+
+/// How many requests for memory one event makes at most.
+const MOST: u64 = 50;
+
+/// An event at the node.
+struct Last {
+    /// What happens before.
+    before: &'static [Happening],
+    /// The event.
+    event: Happening,
+    /// How many commands the node has performed then.
+    performed: usize,
+    /// The number of its last ticket for alice then.
+    ticket: u64,
+}
+
+/// What memory is asked for before the node has its input: the entry of an operation and the operation; that of a line; that of
+/// a hangup; the copy of a message that tells what was accepted; and room for a crash in a log that is full.
+const EVENTS: &[Last] = &[
+    Last {
+        before: &[
+            Happening::Connect(2),
+            Happening::Line("USER alice"),
+            Happening::Line("PASS s3"),
+        ],
+        event: Happening::Mail(2, "alice", &["one"]),
+        performed: 0,
+        ticket: 2,
+    },
+    Last {
+        before: &[
+            Happening::Mail(2, "alice", &["one"]),
+            Happening::Connect(2),
+            Happening::Line("USER alice"),
+        ],
+        event: Happening::Line("PASS s3"),
+        performed: 0,
+        ticket: 2,
+    },
+    Last {
+        before: &[
+            Happening::Crash(3),
+            Happening::Campaign(1),
+            Happening::Settle(4),
+            Happening::Connect(2),
+            Happening::Line("USER alice"),
+            Happening::Line("PASS s3"),
+            Happening::Settle(9),
+        ],
+        event: Happening::Hangup,
+        performed: 1,
+        ticket: 2,
+    },
+    Last {
+        before: &[
+            Happening::Crash(3),
+            Happening::Campaign(1),
+            Happening::Settle(4),
+            Happening::Mail(2, "alice", &["one"]),
+            Happening::Settle(8),
+            Happening::Campaign(2),
+            Happening::Settle(2),
+        ],
+        event: Happening::Settle(1),
+        performed: 1,
+        ticket: 1,
+    },
+    Last {
+        before: &[
+            Happening::Mail(2, "alice", &["one"]),
+            Happening::Mail(2, "alice", &["two"]),
+            Happening::Mail(2, "alice", &["three"]),
+            Happening::Mail(2, "alice", &["four"]),
+        ],
+        event: Happening::Crash(2),
+        performed: 0,
+        ticket: 4,
+    },
+];
+
+/// What happens next happens; of what comes by itself so many events.
+fn step<'h>(heap: Heap<'h>, world: &mut World<Heap<'h>>, happening: Happening) -> Result<(), Fail> {
+    match (event_of(heap, happening)?, happening) {
+        (Some(event), _) => Ok(world.step(event)?),
+        (None, Happening::Settle(events)) => {
+            let settled = world.settle(events)?;
+            check(settled == events, "fewer events come by themselves")
+        }
+        (None, _) => Ok(()),
+    }
+}
+
+/// The service behind these.
+fn service_behind<'h>(heap: Heap<'h>, before: &[Happening]) -> Result<World<Heap<'h>>, Fail> {
+    let mut world = World::new(heap, config(heap)?)?;
+    for happening in before {
+        step(heap, &mut world, *happening)?;
+    }
+    Ok(world)
+}
+
+/// The node tells how much it performed and its last ticket, or neither.
+fn check_told<A: Allocator + Copy>(
+    world: &World<A>,
+    expected: Option<(usize, u64)>,
+) -> Result<(), Fail> {
+    let node = node(STOPPING)?;
+    let performed = world.performed(node).map(|performed| performed.len());
+    let ticket = world
+        .last_ticket(node, alice()?)
+        .map(|ticket| ticket.get().1);
+    check(
+        performed == expected.map(|told| told.0) && ticket == expected.map(|told| told.1),
+        "the node tells something else",
+    )
+}
+
+impl Scenario for Last {
+    fn run(&self, heap: Heap, refusal: Refusal) -> Result<(), Fail> {
+        let told = Some((self.performed, self.ticket));
+        let mut world = service_behind(heap, self.before)?;
+        let event = match event_of(heap, self.event)? {
+            Some(event) => event,
+            None => world.next_oldest(0).ok_or("nothing comes by itself")?,
+        };
+        heap.refuse(refusal);
+        let happened = world.step(event);
+        heap.grant_all();
+        match happened {
+            Ok(()) => {
+                check_told(&world, told)?;
+                match world.step(Event::Crash(node(STOPPING)?)) {
+                    Ok(()) | Err(Refused::Down) => check_told(&world, told),
+                    Err(reason) => Err(reason)?,
+                }
+            }
+            Err(Refused::Memory) => check_told(&world, None),
+            Err(reason) => Err(reason)?,
+        }
+    }
+}
+
+#[test]
+fn a_node_tells_nothing_once_it_found_no_memory(rt: HostRuntime) -> Result<(), Fail> {
+    for event in EVENTS {
+        let made = requests(rt.alloc(), event, MOST)?;
+        println!(rt; "an event: {made}")?;
+        check(made > 0, "the event asks for no memory")?;
+    }
+    Ok(())
+}
