@@ -341,6 +341,67 @@ fn a_refused_node_stops(rt: HostRuntime) -> Result<(), Fail> {
     Ok(())
 }
 
+/// Inputs, each with how many requests for memory its copy makes at most. An operation and a command are shared, so only the list
+/// of a promise needs memory of its own.
+const COPIED: &[(Given, u64)] = &[
+    (Given::Take("alice"), 0),
+    (Given::Gets(1, Told::Propose), 0),
+    (Given::Gets(1, Told::P1a), 0),
+    (Given::Gets(1, Told::P1b), 1),
+    (Given::Astray(Told::P2a), 0),
+    (Given::Gets(3, Told::P2b), 0),
+    (Given::Gets(3, Told::Decision), 0),
+    (Given::Gets(3, Told::Ask), 0),
+    (Given::Tick, 0),
+    (Given::Campaign, 0),
+    (Given::Crash, 0),
+];
+
+/// Whether two inputs ask the same for a user, bring a message of one kind from one node to another, or are of the same kind.
+fn are_alike<'h>(input: &Input<Heap<'h>>, other: &Input<Heap<'h>>) -> bool {
+    match (input, other) {
+        (Input::Submit(user, op), Input::Submit(named, same)) => {
+            user == named && op.get().same(same.get())
+        }
+        (Input::Arrive(envelope), Input::Arrive(same)) => {
+            envelope.from == same.from
+                && envelope.to == same.to
+                && letter(&envelope.message) == letter(&same.message)
+        }
+        (Input::Tick, Input::Tick)
+        | (Input::Campaign, Input::Campaign)
+        | (Input::Crash, Input::Crash) => true,
+        _ => false,
+    }
+}
+
+/// An input that is copied.
+#[derive(Drop)]
+struct Copied(Given);
+
+impl Scenario for Copied {
+    fn run(&self, heap: Heap, refusal: Refusal) -> Result<(), Fail> {
+        let input = input_of(heap, self.0)?;
+        heap.refuse(refusal);
+        let copy = input.copy();
+        heap.grant_all();
+        check(copy.is_err() == heap.has_refused(), "no memory")?;
+        match &copy {
+            Ok(copy) => check(are_alike(copy, &input), "another input"),
+            Err(Memory) => Ok(()),
+        }
+    }
+}
+
+#[test]
+fn an_input_is_copied(rt: HostRuntime) -> Result<(), Fail> {
+    for (given, most) in COPIED {
+        let made = requests(rt.alloc(), &Copied(*given), *most)?;
+        assert_eq!(rt; made, *most);
+    }
+    Ok(())
+}
+
 /// A node that is made.
 struct Made;
 
