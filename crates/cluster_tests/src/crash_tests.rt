@@ -102,8 +102,8 @@ impl Moment {
         }
     }
 
-    /// The node is down.
-    fn is_over<R: Wait>(&self, rt: &R) {
+    /// Lets go of what is held until the node is down.
+    fn let_go<R: Wait>(&self, rt: &R) {
         if let Moment::Entered(pass) = self {
             *pass.is_open.lock(rt) = true;
         }
@@ -123,7 +123,7 @@ fn crash_at<D: Deployment, R: Wait + Clock>(rt: &R, desk: &DeskOf<D, R>, moment:
     }
     let was_up = desk.crash();
     let is_up = desk.crash();
-    moment.is_over(rt);
+    moment.let_go(rt);
     was_up && !is_up
 }
 

@@ -341,8 +341,8 @@ fn a_refused_node_stops(rt: HostRuntime) -> Result<(), Fail> {
     Ok(())
 }
 
-/// Inputs, each with how many requests for memory its copy makes at most. An operation and a command are shared, so only the list
-/// of a promise needs memory of its own.
+/// Inputs, each with how many requests for memory its copy makes. An operation and a command are shared, so only the list of
+/// a promise needs memory of its own.
 const COPIED: &[(Given, u64)] = &[
     (Given::Take("alice"), 0),
     (Given::Gets(1, Told::Propose), 0),
@@ -395,9 +395,9 @@ impl Scenario for Copied {
 
 #[test]
 fn an_input_is_copied(rt: HostRuntime) -> Result<(), Fail> {
-    for (given, most) in COPIED {
-        let made = requests(rt.alloc(), &Copied(*given), *most)?;
-        assert_eq!(rt; made, *most);
+    for (given, needed) in COPIED {
+        let made = requests(rt.alloc(), &Copied(*given), *needed)?;
+        assert_eq!(rt; made, *needed);
     }
     Ok(())
 }

@@ -243,8 +243,9 @@ fn pass_on_last<W: Write>(writer: &mut W, ended: Option<End>) -> End
 
 /// Serves a session (RFC 1939) to its end: writes the greeting, hears the lines that are read, has the desk perform
 /// what they ask, and writes each reply before the next line is heard. The writer is flushed before each read and at the
-/// end, so it may send the replies to lines that came together in one piece; where it can't, that is a fault of writing. A
-/// lock that the session holds at its end is given back, unless the desk has stopped. Gives all that went through it.
+/// end, so it may send the replies to lines that came together in one piece. Where it can't, the session ends with a fault of
+/// writing, unless its client was gone, there was no memory, or its desk had stopped. A lock that the session holds at its end
+/// is given back, unless the desk has stopped. Gives all that went through it.
 pub fn serve<A: Allocator + Copy, R: Read, W: Write, D: Desk<Op<A>, Outcome<A>>, G: Gate>(
     alloc: A,
     reader: &mut R,
