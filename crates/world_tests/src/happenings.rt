@@ -108,8 +108,8 @@ pub fn event_of<A: Allocator + Copy>(
         Happening::Crash(number) => Event::Crash(node(number)?),
         Happening::Campaign(number) => Event::Campaign(node(number)?),
         Happening::Mail(number, user, lines) => mail_of(alloc, number, user, lines)?,
-        Happening::Connect(number) => connect_of(session(), number)?,
-        Happening::Line(words) => line_of(session(), words)?,
+        Happening::Connect(number) => connect_of(number)?,
+        Happening::Line(words) => line_of(words)?,
         Happening::Hangup => Event::Hangup { session: session() },
         Happening::Settle(_) => return Ok(None),
     }))
@@ -129,19 +129,17 @@ fn mail_of<A: Allocator + Copy>(
     })
 }
 
-/// A session's client connects to a node.
-pub fn connect_of<A: Allocator>(session: SessionId, number: u8) -> Result<Event<A>, Fail> {
+fn connect_of<A: Allocator>(number: u8) -> Result<Event<A>, Fail> {
     Ok(Event::Connect {
-        session,
+        session: session(),
         node: node(number)?,
         stamp: stamp(b"n.1", b"mail.test").ok_or("no stamp")?,
     })
 }
 
-/// A session's client sends a line.
-pub fn line_of<A: Allocator>(session: SessionId, words: &str) -> Result<Event<A>, Fail> {
+fn line_of<A: Allocator>(words: &str) -> Result<Event<A>, Fail> {
     Ok(Event::Line {
-        session,
+        session: session(),
         line: Line::Whole(LineBytes::new(words.as_bytes()).ok_or("no line")?),
     })
 }

@@ -102,7 +102,7 @@ fn step<'h>(heap: Heap<'h>, world: &mut World<Heap<'h>>, happening: Happening) -
 }
 
 /// The service behind these.
-pub fn service_behind<'h>(heap: Heap<'h>, before: &[Happening]) -> Result<World<Heap<'h>>, Fail> {
+fn service_behind<'h>(heap: Heap<'h>, before: &[Happening]) -> Result<World<Heap<'h>>, Fail> {
     let mut world = World::new(heap, config(heap)?)?;
     for happening in before {
         step(heap, &mut world, *happening)?;

@@ -4,11 +4,10 @@ use crate::happenings::{TOLD, session};
 use samples::check;
 use std::alloc::Allocator;
 use std::test::Fail;
-use world::{SessionId, World};
+use world::World;
 
-/// What a session was told.
-pub fn told<A: Allocator + Copy>(world: &World<A>, session: SessionId) -> &[u8] {
-    match world.replies(session) {
+fn told<A: Allocator + Copy>(world: &World<A>) -> &[u8] {
+    match world.replies(session()) {
         Some(bytes) => bytes,
         None => b"",
     }
@@ -16,16 +15,13 @@ pub fn told<A: Allocator + Copy>(world: &World<A>, session: SessionId) -> &[u8] 
 
 /// The session was told all.
 pub fn check_whole<A: Allocator + Copy>(world: &World<A>) -> Result<(), Fail> {
-    check(
-        told(world, session()) == TOLD,
-        "the session is told something else",
-    )
+    check(told(world) == TOLD, "the session is told something else")
 }
 
 /// The session was told how that begins.
 pub fn check_front<A: Allocator + Copy>(world: &World<A>) -> Result<(), Fail> {
     check(
-        TOLD.starts_with(told(world, session())),
+        TOLD.starts_with(told(world)),
         "the session is told something that isn't how the run's replies begin",
     )
 }
