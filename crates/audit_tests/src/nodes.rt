@@ -26,12 +26,8 @@ pub struct Nodes<A: Allocator + Copy> {
 
 /// This many nodes, with a maildrop for alice. Node 1 leads.
 pub fn new_nodes<A: Allocator + Copy>(alloc: A, count: u8, lives: u32) -> Result<Nodes<A>, Fail> {
-    let mut nodes = Vec::new(alloc);
-    for number in 1..=count {
-        nodes.push(new_node(alloc, number, count)?)?;
-    }
     let mut nodes = Nodes {
-        nodes,
+        nodes: all_nodes(alloc, count)?,
         waiting: VecDeque::new(alloc),
         seat: 0,
         lives,
@@ -39,6 +35,14 @@ pub fn new_nodes<A: Allocator + Copy>(alloc: A, count: u8, lives: u32) -> Result
     };
     nodes.take(0, Input::Campaign).ok_or("no leader")?;
     nodes.settle();
+    Ok(nodes)
+}
+
+fn all_nodes<A: Allocator + Copy>(alloc: A, count: u8) -> Result<Vec<Node<A>, A>, Fail> {
+    let mut nodes = Vec::new(alloc);
+    for number in 1..=count {
+        nodes.push(new_node(alloc, number, count)?)?;
+    }
     Ok(nodes)
 }
 

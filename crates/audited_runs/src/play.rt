@@ -47,18 +47,24 @@ pub struct Play {
     alloc: Global,
 }
 
+/// The clients of all sessions, each of one of so many users, which have said nothing yet.
+fn new_talks(alloc: Global, chance: &mut Chance, users: u32) -> Result<Vec<Talk>, Fail> {
+    let mut talks = Vec::new(alloc);
+    for _ in 0..SESSIONS {
+        talks.push(Talk {
+            user: chance.below(users) as usize,
+            said: Vec::new(alloc),
+        })?;
+    }
+    Ok(talks)
+}
+
 impl Play {
     fn new(alloc: Global, chance: &mut Chance) -> Result<Play, Fail> {
         let nodes = chance.below(MOST_NODES).saturating_add(1);
         let cluster = Cluster::new(u8::try_from(nodes).unwrap_or(1)).ok_or("no cluster")?;
         let users = chance.below(USERS.len() as u32).saturating_add(1);
-        let mut talks = Vec::new(alloc);
-        for _ in 0..SESSIONS {
-            talks.push(Talk {
-                user: chance.below(users) as usize,
-                said: Vec::new(alloc),
-            })?;
-        }
+        let talks = new_talks(alloc, chance, users)?;
         Ok(Play {
             stage: Stage::new(alloc, cluster)?,
             talks,

@@ -26,15 +26,21 @@ pub struct Served {
     pub told: Vec<u8>,
 }
 
-/// The session as it is served to a client that says this, where a desk gives what was given before.
-pub fn serve_again(alloc: Global, talk: &Talk, seat: &Seat) -> Result<Served, Fail> {
+/// What the client says.
+fn said_by(alloc: Global, talk: &Talk) -> Result<Vec<u8>, Fail> {
     let mut said = Vec::new(alloc);
     for number in talk.said.iter() {
         said.extend_from_slice(words_of(talk.user, *number).as_bytes())?;
         said.extend_from_slice(b"\r\n")?;
     }
-    let accounts = accounts(alloc)?;
+    Ok(said)
+}
+
+/// The session as it is served to a client that says this, where a desk gives what was given before.
+pub fn serve_again(alloc: Global, talk: &Talk, seat: &Seat) -> Result<Served, Fail> {
     let stamp = greeting_stamp()?;
+    let accounts = accounts(alloc)?;
+    let said = said_by(alloc, talk)?;
     let mut told = Vec::new(alloc);
     let mut desk = Again {
         entries: seat.asked.as_slice(),
@@ -49,6 +55,24 @@ pub fn serve_again(alloc: Global, talk: &Talk, seat: &Seat) -> Result<Served, Fa
         &mut OpenGate,
     );
     Ok(Served { transcript, told })
+}
+
+impl Records {
+    fn add_logs(&mut self, alloc: Global, play: &Play) -> Result<(), Fail> {
+        for node in play.stage.nodes.iter() {
+            self.logs.push(log_again(alloc, node.log())?)?;
+        }
+        Ok(())
+    }
+
+    fn add_sessions(&mut self, alloc: Global, play: &Play) -> Result<(), Fail> {
+        for (talk, seat) in play.talks.iter().zip(play.stage.seats.iter()) {
+            let Served { transcript, told } = session_records(alloc, talk, seat)?;
+            self.transcripts.push(transcript)?;
+            self.told.push(told)?;
+        }
+        Ok(())
+    }
 }
 
 /// The log again.
@@ -88,13 +112,7 @@ pub fn records_of(alloc: Global, play: &Play) -> Result<Records, Fail> {
         transcripts: Vec::new(alloc),
         told: Vec::new(alloc),
     };
-    for node in play.stage.nodes.iter() {
-        records.logs.push(log_again(alloc, node.log())?)?;
-    }
-    for (talk, seat) in play.talks.iter().zip(play.stage.seats.iter()) {
-        let Served { transcript, told } = session_records(alloc, talk, seat)?;
-        records.transcripts.push(transcript)?;
-        records.told.push(told)?;
-    }
+    records.add_logs(alloc, play)?;
+    records.add_sessions(alloc, play)?;
     Ok(records)
 }

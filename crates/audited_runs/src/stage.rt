@@ -122,6 +122,23 @@ fn new_node(
     Ok(made.ok_or("no node")?)
 }
 
+/// All nodes of a service.
+fn new_nodes(alloc: Global, accounts: &Accounts, cluster: Cluster) -> Result<Vec<Node>, Fail> {
+    let mut nodes = Vec::new(alloc);
+    for number in 1..=cluster.get() {
+        nodes.push(new_node(alloc, accounts, number, cluster)?)?;
+    }
+    Ok(nodes)
+}
+
+fn new_seats(alloc: Global) -> Result<Vec<Seat>, Fail> {
+    let mut seats = Vec::new(alloc);
+    for _ in 0..SESSIONS {
+        seats.push(Seat::new(alloc)?)?;
+    }
+    Ok(seats)
+}
+
 /// The place of the node among all.
 pub fn place_of_node(node: NodeId) -> usize {
     usize::from(node.get()).saturating_sub(1)
@@ -131,14 +148,8 @@ impl Stage {
     /// A service of so many nodes, of which nothing has happened.
     pub fn new(alloc: Global, cluster: Cluster) -> Result<Stage, Fail> {
         let accounts = accounts(alloc)?;
-        let mut nodes = Vec::new(alloc);
-        for number in 1..=cluster.get() {
-            nodes.push(new_node(alloc, &accounts, number, cluster)?)?;
-        }
-        let mut seats = Vec::new(alloc);
-        for _ in 0..SESSIONS {
-            seats.push(Seat::new(alloc)?)?;
-        }
+        let nodes = new_nodes(alloc, &accounts, cluster)?;
+        let seats = new_seats(alloc)?;
         Ok(Stage {
             world: World::new(alloc, config(alloc, cluster)?)?,
             nodes,

@@ -39,11 +39,15 @@ pub fn words_of(user: usize, number: usize) -> &'static str {
     }
 }
 
-pub fn accounts(alloc: Global) -> Result<Accounts, Fail> {
-    match Accounts::read(alloc, ACCOUNTS) {
+fn accounts_of(alloc: Global, rows: &[u8]) -> Result<Accounts, Fail> {
+    match Accounts::read(alloc, rows) {
         Ok(accounts) => Ok(accounts),
         Err(_) => Err("no accounts")?,
     }
+}
+
+pub fn accounts(alloc: Global) -> Result<Accounts, Fail> {
+    accounts_of(alloc, ACCOUNTS)
 }
 
 pub fn config(alloc: Global, cluster: Cluster) -> Result<Config, Fail>

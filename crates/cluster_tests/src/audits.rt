@@ -6,7 +6,7 @@ use ballot::{Items, Message};
 use maildrop::Outcome;
 use node::{Input, NodeLog};
 use samples::check;
-use session::Transcript;
+use session::{End, Transcript};
 use std::alloc::Global;
 use std::test::Fail;
 
@@ -27,6 +27,14 @@ pub fn all_of(
         all.push(transcript.ok_or("no thread")?)?;
     }
     Ok(all)
+}
+
+/// Each session ended as it should.
+pub fn check_closed(transcripts: &[Transcript]) -> Result<(), Fail> {
+    for transcript in transcripts {
+        check(transcript.end == End::Closed, "a session ends otherwise")?;
+    }
+    Ok(())
 }
 
 /// An audit finds this wrong, or nothing.

@@ -4,6 +4,7 @@ use crate::services::{Flag, wait_for};
 use apop::{Accounts, Stamp, stamp};
 use ballot::NodeId;
 use cluster::Job;
+use samples::check;
 use session::Gate;
 use std::alloc::{AllocError, Global};
 use std::io;
@@ -76,19 +77,31 @@ pub fn new_page(alloc: Global) -> Result<Page, AllocError> {
     Ok(Arc::new(alloc, Mutex::new(Vec::new(alloc)))?)
 }
 
+fn accounts_of(alloc: Global, rows: &[u8]) -> Result<Accounts, Fail> {
+    Ok(Accounts::read(alloc, rows)?)
+}
+
 /// The accounts of alice and bob.
-pub fn accounts_of(alloc: Global) -> Result<Accounts, Fail> {
-    Ok(Accounts::read(alloc, b"alice pass s3\nbob pass s4\n")?)
+pub fn accounts(alloc: Global) -> Result<Accounts, Fail> {
+    accounts_of(alloc, b"alice pass s3\nbob pass s4\n")
 }
 
 /// The same, for sessions to share.
 pub fn new_accounts(alloc: Global) -> Result<Arc<Accounts>, Fail> {
-    Ok(Arc::new(alloc, accounts_of(alloc)?)?)
+    Ok(Arc::new(alloc, accounts(alloc)?)?)
 }
 
 /// The timestamp of each greeting.
 pub fn new_stamp() -> Result<Stamp, Fail> {
     Ok(stamp(b"n.1", b"mail.test").ok_or("no stamp")?)
+}
+
+/// This is on the page.
+pub fn check_page<R: Wait>(rt: &R, page: &Page, replies: &str) -> Result<(), Fail> {
+    check(
+        page.lock(rt).as_slice() == replies.as_bytes(),
+        "other replies",
+    )
 }
 
 /// A client that sends these lines to a node, and gets its replies on the page.

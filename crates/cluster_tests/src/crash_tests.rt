@@ -3,11 +3,11 @@ ghost use Rattle.std.specs.Prelude.{◌≡◌, IsTrue};
 ghost use Rattle.maildrop.specs.Name.{are_different};
 
 use crate::audits::{Remains, all_of, check_legal};
-use crate::clients::{new_accounts, new_client, new_page};
+use crate::clients::{Client, new_accounts, new_client, new_page};
 use crate::services::{
-    Flag, alone, end_watch, new_flag, node, setup_of, start_watch, wait_a_turn, wait_for,
+    Flag, alone, desk_of, end_watch, new_flag, node, setup_of, start_watch, wait_a_turn, wait_for,
 };
-use cluster::{Cluster, Deployment, InboxLink, NodeDesk, Setup};
+use cluster::{Cluster, Deployment, InboxLink, Job, NodeDesk, Setup};
 use samples::check;
 use session::{End, Gate, OpenGate, Transcript};
 use std::alloc::Global;
@@ -15,7 +15,7 @@ use std::marker::Brand;
 use std::sync::{Arc, Wait};
 use std::test::Fail;
 use std::thread;
-use std::thread::Threads;
+use std::thread::{JoinHandle, Threads};
 use std::time::Clock;
 
 /// A client that removes a message.
@@ -127,6 +127,25 @@ fn crash_at<D: Deployment, R: Wait + Clock>(rt: &R, desk: &DeskOf<D, R>, moment:
     was_up && !is_up
 }
 
+/// Starts the thread that crashes node 1.
+fn start_operator<
+    D: Deployment + Send + Sync + 'static,
+    R: Threads + Wait + Clock + Copy + Send + Sync + 'static,
+>(rt: R, cluster: &Nodes<D, R>, moment: Moment) -> Result<JoinHandle<bool>, Fail> {
+    let desk = desk_of(cluster, 1)?;
+    Ok(thread::spawn(&rt, move || crash_at(&rt, &desk, &moment))?)
+}
+
+/// A client at node 1.
+fn client_of<R: Wait + Clock + Copy, G: Gate + Drop>(
+    rt: R,
+    alloc: Global,
+    gate: G,
+) -> Result<Vec<Job<&'static [u8], Client<R>, G>>, Fail> {
+    let page = new_page(alloc)?;
+    alone(alloc, new_client(rt, node(1)?, LINES, &page, gate)?)
+}
+
 /// Serves a client at a node that never leads, and crashes that node. Gives the session's transcript.
 fn served<
     D: Deployment + Send + Sync + 'static,
@@ -139,12 +158,9 @@ fn served<
     gate: G,
     moment: Moment,
 ) -> Result<Vec<Transcript>, Fail> {
+    let jobs = client_of(rt, alloc, gate)?;
     let accounts = new_accounts(alloc)?;
-    let page = new_page(alloc)?;
-    let job = new_client(rt, node(1)?, LINES, &page, gate)?;
-    let jobs = alone(alloc, job)?;
-    let desk = cluster.desk(node(1)?)?.ok_or("no desk")?;
-    let operator = thread::spawn(&rt, move || crash_at(&rt, &desk, &moment))?;
+    let operator = start_operator(rt, cluster, moment)?;
     let transcripts = cluster.sessions(jobs, &accounts);
     check(operator.join(&rt), "the node was down, or is up")?;
     all_of(alloc, transcripts?)
@@ -160,6 +176,12 @@ fn check_unanswered(transcript: &Transcript, is_submitted: bool) -> Result<(), F
         ),
         _ => Err("another number of entries".into()),
     }
+}
+
+fn check_remains(alloc: Global, remains: &Remains, is_submitted: bool) -> Result<(), Fail> {
+    let transcript = remains.transcripts.first().ok_or("no answer")?;
+    check_unanswered(transcript, is_submitted)?;
+    check_legal(alloc, remains)
 }
 
 /// A cluster that is watched, whose session isn't answered. What is left of it is legal.
@@ -180,11 +202,7 @@ fn waits_in_vain<
         transcripts: outcome?,
         logs: cluster.stop(),
     };
-    check_unanswered(
-        remains.transcripts.first().ok_or("no answer")?,
-        is_submitted,
-    )?;
-    check_legal(alloc, &remains)
+    check_remains(alloc, &remains, is_submitted)
 }
 
 fn waits_in_vain_often<

@@ -2,9 +2,9 @@
 ghost use Rattle.std.specs.Prelude.{◌≡◌, IsTrue};
 ghost use Rattle.maildrop.specs.Name.{are_different};
 
-use crate::clients::{new_accounts, new_client, new_page};
-use crate::services::{end_watch, node, setup_of, start_watch};
-use cluster::{Cluster, Deployment, InboxLink, Link, NodeDesk, Setup};
+use crate::clients::{Client, new_accounts, new_client, new_page};
+use crate::services::{desk_of, end_watch, node, setup_of, start_watch};
+use cluster::{Cluster, Deployment, InboxLink, Job, Link, NodeDesk, Setup};
 use maildrop::Op;
 use samples::{alice, check};
 use session::{Desk, OpenGate, Transcript};
@@ -53,17 +53,27 @@ fn check_fourth<
     check(!was_up && cluster.status(fourth).is_none(), "it is here")
 }
 
-/// Serves a client at a node that isn't there, and one at the second.
+/// A client of a node that isn't there, and one of the second.
+fn clients_of<R: Wait + Copy + Drop>(
+    rt: R,
+    alloc: Global,
+) -> Result<Vec<Job<&'static [u8], Client<R>, OpenGate>>, Fail> {
+    let (second, fourth) = (node(2)?, node(4)?);
+    let page = new_page(alloc)?;
+    let mut jobs = Vec::new(alloc);
+    jobs.push(new_client(rt, fourth, LINES, &page, OpenGate)?)?;
+    jobs.push(new_client(rt, second, LINES, &page, OpenGate)?)?;
+    Ok(jobs)
+}
+
+/// Serves both clients.
 fn served<D: Deployment + Send + Sync + 'static, R: Threads + Wait + Copy + Send + Sync + 'static>(
     rt: R,
     alloc: Global,
     cluster: &Nodes<D, R>,
 ) -> Result<Vec<Option<Transcript>>, Fail> {
+    let jobs = clients_of(rt, alloc)?;
     let accounts = new_accounts(alloc)?;
-    let page = new_page(alloc)?;
-    let mut jobs = Vec::new(alloc);
-    jobs.push(new_client(rt, node(4)?, LINES, &page, OpenGate)?)?;
-    jobs.push(new_client(rt, node(2)?, LINES, &page, OpenGate)?)?;
     Ok(cluster.sessions(jobs, &accounts)?)
 }
 
@@ -79,8 +89,9 @@ fn check_second(transcripts: &[Option<Transcript>]) -> Result<(), Fail> {
 fn stops<D: Deployment + Send + Sync + 'static, R: Threads + Wait + Copy + Send + Sync + 'static>(
     cluster: Nodes<D, R>,
 ) -> Result<(), Fail> {
-    let mut desk = cluster.desk(node(2)?)?.ok_or("no desk")?;
-    cluster.tick(node(2)?);
+    let second = node(2)?;
+    let mut desk = desk_of(&cluster, 2)?;
+    cluster.tick(second);
     let logs = cluster.stop();
     check(
         logs.len() == 3 && !logs[1].inputs.is_empty(),
@@ -89,15 +100,22 @@ fn stops<D: Deployment + Send + Sync + 'static, R: Threads + Wait + Copy + Send 
     check_stopped(&mut desk)
 }
 
+fn check_running<
+    D: Deployment + Send + Sync + 'static,
+    R: Threads + Wait + Copy + Send + Sync + 'static,
+>(rt: R, alloc: Global, cluster: &Nodes<D, R>) -> Result<(), Fail> {
+    check_second(&served(rt, alloc, cluster)?)?;
+    check_fourth(cluster)?;
+    check_crash(cluster)
+}
+
 /// A cluster of which something is asked is let go.
 fn is_let_go<
     D: Deployment + Send + Sync + 'static,
     R: Threads + Wait + Copy + Send + Sync + 'static,
 >(rt: R, alloc: Global, cluster: Nodes<D, R>) -> Result<(), Fail> {
-    let mut desk = cluster.desk(node(2)?)?.ok_or("no desk")?;
-    check_second(&served(rt, alloc, &cluster)?)?;
-    check_fourth(&cluster)?;
-    check_crash(&cluster)?;
+    let mut desk = desk_of(&cluster, 2)?;
+    check_running(rt, alloc, &cluster)?;
     drop(cluster);
     check_stopped(&mut desk)
 }

@@ -2,14 +2,14 @@
 ghost use Rattle.std.specs.Prelude.{◌≡◌, IsTrue};
 ghost use Rattle.maildrop.specs.Name.{are_different};
 
-use crate::audits::{Remains, all_of};
-use crate::clients::{At, Page, Turns, new_accounts, new_client, new_page};
+use crate::audits::{Remains, all_of, check_closed};
+use crate::clients::{At, Client, Page, Turns, check_page, new_accounts, new_client, new_page};
 use crate::orders::check_order;
-use crate::services::{Flag, deliver, end_watch, new_flag, node, setup_of, start_watch};
-use cluster::{Cluster, Deployment, InboxLink, Setup};
+use crate::services::{Flag, end_watch, mail_to_leader, new_flag, node, setup_of, start_watch};
+use cluster::{Cluster, Deployment, InboxLink, Job, Setup};
 use samples::check;
-use session::{End, Transcript};
-use std::alloc::Global;
+use session::Transcript;
+use std::alloc::{AllocError, Global};
 use std::marker::Brand;
 use std::sync::{Arc, Wait};
 use std::test::Fail;
@@ -38,7 +38,59 @@ const TO_BOB: &str = "+OK POP3 server ready <n.1@mail.test>\r\n\
 
 type Nodes<D, R> = Cluster<D, R, InboxLink<R>>;
 
-/// Serves both clients, alice's at node 1 and bob's at node 3, each with a page of its own.
+fn at(line: u32, flag: &Flag) -> Result<At, AllocError> {
+    let flag = Arc::try_clone(flag)?;
+    Ok(At { line, flag })
+}
+
+/// A gate that sets the first flag behind line 3, and holds a line until the second is set.
+fn gate<R: Wait + Clock + Copy>(
+    rt: R,
+    told: &Flag,
+    held: (u32, &Flag),
+    gave_up: &Flag,
+) -> Result<Turns<R>, AllocError> {
+    let tells = at(3, told)?;
+    let holds = at(held.0, held.1)?;
+    let gave_up = Arc::try_clone(gave_up)?;
+    Ok(Turns {
+        rt,
+        lines: 0,
+        tells,
+        holds,
+        gave_up,
+    })
+}
+
+/// The gates of both sessions, alice's first: each waits for the other.
+fn gates<R: Wait + Clock + Copy>(
+    rt: R,
+    alloc: Global,
+    gave_up: &Flag,
+) -> Result<(Turns<R>, Turns<R>), Fail> {
+    let retrieved = new_flag(alloc)?;
+    let counted = new_flag(alloc)?;
+    let alice = gate(rt, &retrieved, (3, &counted), gave_up)?;
+    let bob = gate(rt, &counted, (4, &retrieved), gave_up)?;
+    Ok((alice, bob))
+}
+
+/// Both clients, alice's at node 1 and bob's at node 3, each with a page of its own.
+fn clients_of<R: Wait + Clock + Copy>(
+    rt: R,
+    alloc: Global,
+    pages: &[Page; 2],
+    gave_up: &Flag,
+) -> Result<Vec<Job<&'static [u8], Client<R>, Turns<R>>>, Fail> {
+    let (one, three) = (node(1)?, node(3)?);
+    let (first, second) = gates(rt, alloc, gave_up)?;
+    let mut jobs = Vec::new(alloc);
+    jobs.push(new_client(rt, one, ALICE, &pages[0], first)?)?;
+    jobs.push(new_client(rt, three, BOB, &pages[1], second)?)?;
+    Ok(jobs)
+}
+
+/// Serves both clients.
 fn served<
     D: Deployment + Send + Sync + 'static,
     R: Threads + Wait + Clock + Copy + Send + Sync + 'static,
@@ -49,67 +101,32 @@ fn served<
     pages: &[Page; 2],
     gave_up: &Flag,
 ) -> Result<Vec<Transcript>, Fail> {
+    let jobs = clients_of(rt, alloc, pages, gave_up)?;
     let accounts = new_accounts(alloc)?;
-    let retrieved = new_flag(alloc)?;
-    let counted = new_flag(alloc)?;
-    let first = Turns {
-        rt,
-        lines: 0,
-        tells: At {
-            line: 3,
-            flag: Arc::try_clone(&retrieved)?,
-        },
-        holds: At {
-            line: 3,
-            flag: Arc::try_clone(&counted)?,
-        },
-        gave_up: Arc::try_clone(gave_up)?,
-    };
-    let second = Turns {
-        rt,
-        lines: 0,
-        tells: At {
-            line: 3,
-            flag: counted,
-        },
-        holds: At {
-            line: 4,
-            flag: retrieved,
-        },
-        gave_up: Arc::try_clone(gave_up)?,
-    };
-    let mut jobs = Vec::new(alloc);
-    jobs.push(new_client(rt, node(1)?, ALICE, &pages[0], first)?)?;
-    jobs.push(new_client(rt, node(3)?, BOB, &pages[1], second)?)?;
     all_of(alloc, cluster.sessions(jobs, &accounts)?)
 }
 
-/// Each client has got what it is to get.
-fn check_pages<R: Wait>(rt: &R, pages: &[Page; 2]) -> Result<(), Fail> {
-    check(
-        pages[0].lock(rt).as_slice() == TO_ALICE.as_bytes(),
-        "alice gets other replies",
-    )?;
-    check(
-        pages[1].lock(rt).as_slice() == TO_BOB.as_bytes(),
-        "bob gets other replies",
-    )
+/// Both sessions ended as they should, with all replies, and neither waited for the other in vain.
+fn check_served<R: Wait>(
+    rt: &R,
+    pages: &[Page; 2],
+    gave_up: &Flag,
+    transcripts: &[Transcript],
+) -> Result<(), Fail> {
+    check_closed(transcripts)?;
+    check(!*gave_up.lock(rt), "a session waits for the other in vain")?;
+    check_page(rt, &pages[0], TO_ALICE)?;
+    check_page(rt, &pages[1], TO_BOB)
 }
 
 fn mailed_and_served<
     D: Deployment + Send + Sync + 'static,
     R: Threads + Wait + Clock + Copy + Send + Sync + 'static,
 >(rt: R, alloc: Global, cluster: &Nodes<D, R>, pages: &[Page; 2]) -> Result<Vec<Transcript>, Fail> {
-    let mut desk = cluster.desk(node(1)?)?.ok_or("no desk")?;
-    desk.campaign();
-    deliver(alloc, &mut desk, "alice", &["hi"], 1)?;
+    mail_to_leader(alloc, cluster)?;
     let gave_up = new_flag(alloc)?;
     let transcripts = served(rt, alloc, cluster, pages, &gave_up)?;
-    for transcript in &transcripts {
-        check(transcript.end == End::Closed, "a session ends otherwise")?;
-    }
-    check(!*gave_up.lock(&rt), "a session waits for the other in vain")?;
-    check_pages(&rt, pages)?;
+    check_served(&rt, pages, &gave_up, &transcripts)?;
     Ok(transcripts)
 }
 

@@ -3,19 +3,19 @@ ghost use Rattle.std.specs.Prelude.{◌≡◌, IsTrue};
 ghost use Rattle.maildrop.specs.Name.{are_different};
 
 use crate::services::{
-    Flag, alone, deliver, end_watch, new_flag, node, setup_of, start_watch, wait_for,
+    Flag, alone, deliver, desk_of, end_watch, new_flag, node, setup_of, start_watch, wait_for,
 };
-use ballot::{Envelope, Message};
+use ballot::{Envelope, Message, NodeId};
 use cluster::{Cluster, Deployment, Link, NodeDesk, Setup};
 use crossbeam_channel::{Receiver, Sender, unbounded};
 use maildrop::SharedCommand;
 use samples::check;
-use std::alloc::Global;
+use std::alloc::{AllocError, Global};
 use std::marker::Brand;
 use std::sync::{Arc, Wait};
 use std::test::Fail;
 use std::thread;
-use std::thread::Threads;
+use std::thread::{JoinHandle, Threads};
 use std::time::{Clock, Duration};
 
 /// An envelope on its way, and a flag that is set once the node which sent it was looked at.
@@ -78,6 +78,69 @@ fn carry<D: Deployment, R: Wait + Clock>(
     }
 }
 
+/// A link of node 1 to a postman.
+fn posting_link<R: Wait + Clock + Drop>(
+    rt: R,
+    alloc: Global,
+    parcels: Sender<Parcel>,
+    gave_up: &Flag,
+) -> Result<Vec<(NodeId, Posted<R>)>, Fail> {
+    let gave_up = Arc::try_clone(gave_up)?;
+    let link = Posted {
+        rt,
+        alloc,
+        parcels,
+        gave_up,
+    };
+    alone(alloc, (node(1)?, link))
+}
+
+/// A thread that carries parcels until the test is done.
+#[derive(Drop)]
+struct Postman {
+    done: Flag,
+    thread: JoinHandle<()>,
+}
+
+fn start_postman<
+    D: Deployment + Send + Sync + 'static,
+    R: Threads + Wait + Clock + Copy + Send + Sync + 'static,
+>(
+    rt: R,
+    alloc: Global,
+    desk: &NodeDesk<D, R, Posted<R>>,
+    parcels: Receiver<Parcel>,
+) -> Result<Postman, Fail> {
+    let theirs = desk.share()?;
+    let done = new_flag(alloc)?;
+    let over = Arc::try_clone(&done)?;
+    let thread = thread::spawn(&rt, move || carry(&rt, &theirs, &parcels, &over))?;
+    Ok(Postman { done, thread })
+}
+
+fn end_postman<R: Threads + Wait>(rt: &R, postman: Postman) {
+    *postman.done.lock(rt) = true;
+    postman.thread.join(rt);
+}
+
+/// Node 1 leads, and a message is stored there.
+fn mail<
+    D: Deployment + Send + Sync + 'static,
+    R: Threads + Wait + Clock + Copy + Send + Sync + 'static,
+>(
+    rt: R,
+    alloc: Global,
+    cluster: &Cluster<D, R, Posted<R>>,
+    parcels: Receiver<Parcel>,
+) -> Result<(), Fail> {
+    let mut desk = desk_of(cluster, 1)?;
+    let postman = start_postman(rt, alloc, &desk, parcels)?;
+    desk.campaign();
+    let outcome = deliver(alloc, &mut desk, "alice", &["hi"], 1);
+    end_postman(&rt, postman);
+    outcome
+}
+
 fn sends_unlocked<
     D: Deployment + Send + Sync + 'static,
     R: Threads + Wait + Clock + Copy + Send + Sync + 'static,
@@ -87,24 +150,10 @@ fn sends_unlocked<
 {
     let (sender, parcels) = unbounded(alloc)?;
     let gave_up = new_flag(alloc)?;
-    let link = Posted {
-        rt,
-        alloc,
-        parcels: sender,
-        gave_up: Arc::try_clone(&gave_up)?,
-    };
-    let links = alone(alloc, (node(1)?, link))?;
+    let links = posting_link(rt, alloc, sender, &gave_up)?;
     let cluster = Cluster::<D, R, Posted<R>>::start_over(rt, alloc, setup, links)?;
     let watch = start_watch(rt, alloc, &cluster)?;
-    let mut desk = cluster.desk(node(1)?)?.ok_or("no desk")?;
-    let theirs = desk.share()?;
-    let done = new_flag(alloc)?;
-    let over = Arc::try_clone(&done)?;
-    let postman = thread::spawn(&rt, move || carry(&rt, &theirs, &parcels, &over))?;
-    desk.campaign();
-    let outcome = deliver(alloc, &mut desk, "alice", &["hi"], 1);
-    *done.lock(&rt) = true;
-    postman.join(&rt);
+    let outcome = mail(rt, alloc, &cluster, parcels);
     end_watch(&rt, watch);
     outcome?;
     check(!*gave_up.lock(&rt), "a node sends under its lock")
@@ -138,6 +187,70 @@ impl<R: Wait + Clock> Link for Meeting<R> {
     }
 }
 
+fn new_flags(alloc: Global) -> Result<[Flag; 2], AllocError> {
+    Ok([new_flag(alloc)?, new_flag(alloc)?])
+}
+
+fn clone_of(flags: &[Flag; 2], place: usize) -> Result<Flag, Fail> {
+    let flag = flags.get(place).ok_or("no flag")?;
+    Ok(Arc::try_clone(flag)?)
+}
+
+/// The link of the node at this place, which waits for that of the other.
+fn meeting_link<R: Wait + Clock + Copy>(
+    rt: R,
+    place: usize,
+    envelopes: Sender<Envelope<SharedCommand>>,
+    answering: &[Flag; 2],
+    met: &[Flag; 2],
+) -> Result<Meeting<R>, Fail> {
+    let other = if place == 0 { 1 } else { 0 };
+    let here = clone_of(answering, place)?;
+    let there = clone_of(answering, other)?;
+    let met = clone_of(met, place)?;
+    Ok(Meeting {
+        rt,
+        envelopes,
+        here,
+        there,
+        met,
+    })
+}
+
+/// The links of both nodes.
+fn meeting_links<R: Wait + Clock + Copy>(
+    rt: R,
+    alloc: Global,
+    envelopes: Sender<Envelope<SharedCommand>>,
+    answering: &[Flag; 2],
+    met: &[Flag; 2],
+) -> Result<Vec<(NodeId, Meeting<R>)>, Fail> {
+    let (one, two) = (node(1)?, node(2)?);
+    let first = meeting_link(rt, 0, envelopes.clone()?, answering, met)?;
+    let second = meeting_link(rt, 1, envelopes, answering, met)?;
+    let mut links = Vec::new(alloc);
+    links.push((one, first))?;
+    links.push((two, second))?;
+    Ok(links)
+}
+
+/// Node 1 asks to lead. What a campaign sends is sent before it returns, so nothing is waited for.
+fn campaign<
+    D: Deployment + Send + Sync + 'static,
+    R: Threads + Wait + Clock + Copy + Send + Sync + 'static,
+>(
+    rt: &R,
+    cluster: &Cluster<D, R, Meeting<R>>,
+    envelopes: &Receiver<Envelope<SharedCommand>>,
+) -> Result<(), Fail> {
+    cluster.campaign(node(1)?);
+    for _ in 0..2 {
+        let envelope = envelopes.try_recv(rt)?;
+        check(cluster.arrive(envelope), "an envelope is lost")?;
+    }
+    Ok(())
+}
+
 fn answers_at_once<
     D: Deployment + Send + Sync + 'static,
     R: Threads + Wait + Clock + Copy + Send + Sync + 'static,
@@ -146,26 +259,11 @@ fn answers_at_once<
     requires names { IsTrue (are_different setup.now.names) }
 {
     let (sender, envelopes) = unbounded(alloc)?;
-    let flags = [new_flag(alloc)?, new_flag(alloc)?];
-    let met = [new_flag(alloc)?, new_flag(alloc)?];
-    let mut links = Vec::new(alloc);
-    for place in 0..2 {
-        let link = Meeting {
-            rt,
-            envelopes: sender.clone()?,
-            here: Arc::try_clone(&flags[place])?,
-            there: Arc::try_clone(&flags[1 - place])?,
-            met: Arc::try_clone(&met[place])?,
-        };
-        links.push((node(place as u8 + 1)?, link))?;
-    }
+    let answering = new_flags(alloc)?;
+    let met = new_flags(alloc)?;
+    let links = meeting_links(rt, alloc, sender, &answering, &met)?;
     let cluster = Cluster::<D, R, Meeting<R>>::start_over(rt, alloc, setup, links)?;
-    cluster.campaign(node(1)?);
-    for _ in 0..2 {
-        // What a campaign sends is sent before it returns, so nothing is waited for.
-        let envelope = envelopes.try_recv(&rt)?;
-        check(cluster.arrive(envelope), "an envelope is lost")?;
-    }
+    campaign(&rt, &cluster, &envelopes)?;
     let logs = cluster.stop();
     check(logs.len() == 2, "a log is missing")?;
     let have_met = *met[0].lock(&rt) && *met[1].lock(&rt);

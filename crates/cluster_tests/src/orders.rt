@@ -1,7 +1,7 @@
 //! The order that an audit gives, as a service as a value takes it.
 
 use crate::audits::Remains;
-use crate::clients::{Page, accounts_of, new_stamp};
+use crate::clients::{Page, accounts, new_stamp};
 use audit::{Event as Turn, audit};
 use ballot::{Memory, NodeId};
 use cluster::Setup;
@@ -42,6 +42,15 @@ impl Coming {
             }
             Turn::Arrive(which) => Ok(Event::Arrive(which)),
         }
+    }
+
+    /// What the turns of an order are in a service.
+    fn take_all(&mut self, alloc: Global, order: &[Turn]) -> Result<Vec<Event>, Fail> {
+        let mut events = Vec::new(alloc);
+        for turn in order {
+            events.push(self.take(*turn)?)?;
+        }
+        Ok(events)
     }
 
     /// Whether nothing is still to come.
@@ -119,25 +128,33 @@ fn lines_of(alloc: Global, place: usize, transcript: &Transcript) -> Result<VecD
     Ok(lines)
 }
 
-fn coming_of(alloc: Global, remains: &Remains) -> Result<Coming, Fail> {
+fn all_given(alloc: Global, logs: &[NodeLog]) -> Result<Vec<VecDeque<Event>>, Fail> {
     let mut given = Vec::new(alloc);
-    for log in &remains.logs {
+    for log in logs {
         given.push(given_to(alloc, log)?)?;
     }
+    Ok(given)
+}
+
+fn all_lines(alloc: Global, transcripts: &[Transcript]) -> Result<Vec<VecDeque<Event>>, Fail> {
     let mut lines = Vec::new(alloc);
-    for (place, transcript) in remains.transcripts.iter().enumerate() {
+    for (place, transcript) in transcripts.iter().enumerate() {
         lines.push(lines_of(alloc, place, transcript)?)?;
     }
+    Ok(lines)
+}
+
+fn coming_of(alloc: Global, remains: &Remains) -> Result<Coming, Fail> {
+    let given = all_given(alloc, &remains.logs)?;
+    let lines = all_lines(alloc, &remains.transcripts)?;
     Ok(Coming { given, lines })
 }
 
 /// The events of the order that an audit finds.
 fn events_of(alloc: Global, remains: &Remains) -> Result<Vec<Event>, Fail> {
     let mut coming = coming_of(alloc, remains)?;
-    let mut events = Vec::new(alloc);
-    for turn in audit(alloc, &remains.logs, &remains.transcripts)? {
-        events.push(coming.take(turn)?)?;
-    }
+    let order = audit(alloc, &remains.logs, &remains.transcripts)?;
+    let events = coming.take_all(alloc, &order)?;
     check(coming.is_over(), "the order leaves something out")?;
     Ok(events)
 }
@@ -145,7 +162,7 @@ fn events_of(alloc: Global, remains: &Remains) -> Result<Vec<Event>, Fail> {
 /// What a service brings that begins as this cluster did, and takes the order that an audit finds.
 fn played(alloc: Global, setup: &Setup, remains: &Remains) -> Result<Runs, Fail> {
     let config = Config {
-        accounts: accounts_of(alloc)?,
+        accounts: accounts(alloc)?,
         limits: setup.limits,
         cluster: setup.cluster,
         window: setup.window,
@@ -173,6 +190,20 @@ fn check_told<R: Wait>(
     )
 }
 
+fn check_replies<R: Wait>(
+    rt: &R,
+    runs: &Runs,
+    transcripts: &[Transcript],
+    pages: &[Page],
+) -> Result<(), Fail> {
+    for (place, page) in pages.iter().enumerate() {
+        let (_, told) = runs.replies.get(place).ok_or("no replies")?;
+        let transcript = transcripts.get(place).ok_or("no transcript")?;
+        check_told(rt, told, transcript, page)?;
+    }
+    Ok(())
+}
+
 /// A service as a value that begins as this cluster did takes the order that an audit finds of what the cluster left. It
 /// tells each session the very bytes that it wrote on its page, and counted.
 pub fn check_order<R: Wait>(
@@ -187,10 +218,5 @@ pub fn check_order<R: Wait>(
         runs.replies.len() == pages.len() && remains.transcripts.len() == pages.len(),
         "another number of sessions",
     )?;
-    for (place, page) in pages.iter().enumerate() {
-        let (_, told) = runs.replies.get(place).ok_or("no replies")?;
-        let transcript = remains.transcripts.get(place).ok_or("no transcript")?;
-        check_told(rt, told, transcript, page)?;
-    }
-    Ok(())
+    check_replies(rt, &runs, &remains.transcripts, pages)
 }

@@ -94,20 +94,59 @@ pub struct Watch {
     thread: JoinHandle<()>,
 }
 
+/// The desk of the node with this number.
+pub fn desk_of<
+    D: Deployment + Send + Sync + 'static,
+    R: Threads + Wait + Copy + Send + Sync + 'static,
+    L: Link + Drop + Send + Sync + 'static,
+>(cluster: &Cluster<D, R, L>, number: u8) -> Result<NodeDesk<D, R, L>, Fail> {
+    Ok(cluster.desk(node(number)?)?.ok_or("no desk")?)
+}
+
+/// Node 1 leads, and alice has a message of 4 octets.
+pub fn mail_to_leader<
+    D: Deployment + Send + Sync + 'static,
+    R: Threads + Wait + Copy + Send + Sync + 'static,
+    L: Link + Drop + Send + Sync + 'static,
+>(alloc: Global, cluster: &Cluster<D, R, L>) -> Result<(), Fail> {
+    let mut desk = desk_of(cluster, 1)?;
+    desk.campaign();
+    deliver(alloc, &mut desk, "alice", &["hi"], 1)
+}
+
+/// Adds the desk of the node with this number, if that node is here.
+fn add_desk<
+    D: Deployment + Send + Sync + 'static,
+    R: Threads + Wait + Copy + Send + Sync + 'static,
+    L: Link + Drop + Send + Sync + 'static,
+>(cluster: &Cluster<D, R, L>, number: u8, desks: &mut Vec<NodeDesk<D, R, L>>) -> Result<(), Fail> {
+    if let Some(desk) = cluster.desk(node(number)?)? {
+        desks.push(desk)?;
+    }
+    Ok(())
+}
+
+fn desks_of<
+    D: Deployment + Send + Sync + 'static,
+    R: Threads + Wait + Copy + Send + Sync + 'static,
+    L: Link + Drop + Send + Sync + 'static,
+>(alloc: Global, cluster: &Cluster<D, R, L>) -> Result<Vec<NodeDesk<D, R, L>>, Fail> {
+    let mut desks = Vec::new(alloc);
+    for number in 1..=LAST_NODE {
+        add_desk(cluster, number, &mut desks)?;
+    }
+    Ok(desks)
+}
+
 /// Watches a cluster.
 pub fn start_watch<
     D: Deployment + Send + Sync + 'static,
     R: Threads + Wait + Clock + Copy + Send + Sync + 'static,
     L: Link + Drop + Send + Sync + 'static,
 >(rt: R, alloc: Global, cluster: &Cluster<D, R, L>) -> Result<Watch, Fail> {
+    let desks = desks_of(alloc, cluster)?;
     let done = new_flag(alloc)?;
     let theirs = Arc::try_clone(&done)?;
-    let mut desks = Vec::new(alloc);
-    for number in 1..=LAST_NODE {
-        if let Some(desk) = cluster.desk(node(number)?)? {
-            desks.push(desk)?;
-        }
-    }
     let thread = thread::spawn(&rt, move || crash_when_late(&rt, &theirs, &desks))?;
     Ok(Watch { done, thread })
 }

@@ -2,13 +2,13 @@
 ghost use Rattle.std.specs.Prelude.{◌≡◌, IsTrue};
 ghost use Rattle.maildrop.specs.Name.{are_different};
 
-use crate::audits::{Remains, all_of, check_other_outcome, check_without_p2a};
-use crate::clients::{Page, new_accounts, new_client, new_page};
+use crate::audits::{Remains, all_of, check_closed, check_other_outcome, check_without_p2a};
+use crate::clients::{Page, check_page, new_accounts, new_client, new_page};
 use crate::orders::check_order;
-use crate::services::{alone, deliver, end_watch, node, setup_of, start_watch};
+use crate::services::{alone, deliver, desk_of, end_watch, node, setup_of, start_watch};
 use cluster::{Cluster, Deployment, InboxLink, NodeDesk, Setup};
 use samples::check;
-use session::{End, OpenGate, Transcript};
+use session::{OpenGate, Transcript};
 use std::alloc::Global;
 use std::marker::Brand;
 use std::sync::Wait;
@@ -63,22 +63,25 @@ fn served<D: Deployment + Send + Sync + 'static, R: Threads + Wait + Copy + Send
     Ok((page, all_of(alloc, transcripts)?))
 }
 
+/// Mail comes in at two desks.
+fn mail_all<
+    D: Deployment + Send + Sync + 'static,
+    R: Threads + Wait + Copy + Send + Sync + 'static,
+>(alloc: Global, cluster: &Nodes<D, R>) -> Result<(), Fail> {
+    let mut one = desk_of(cluster, 1)?;
+    let mut two = desk_of(cluster, 2)?;
+    mailed(alloc, &mut one, &mut two)
+}
+
 /// Mail and a session over a cluster, which is watched. Gives what the client gets, and the session's transcript.
 fn mail_and_session<
     D: Deployment + Send + Sync + 'static,
     R: Threads + Wait + Copy + Send + Sync + 'static,
 >(rt: R, alloc: Global, cluster: &Nodes<D, R>) -> Result<(Page, Vec<Transcript>), Fail> {
-    let mut one = cluster.desk(node(1)?)?.ok_or("no desk")?;
-    let mut two = cluster.desk(node(2)?)?.ok_or("no desk")?;
-    mailed(alloc, &mut one, &mut two)?;
+    mail_all(alloc, cluster)?;
     let (page, transcripts) = served(rt, alloc, cluster)?;
-    for transcript in &transcripts {
-        check(transcript.end == End::Closed, "the session ends otherwise")?;
-    }
-    check(
-        page.lock(&rt).as_slice() == REPLIES.as_bytes(),
-        "other replies",
-    )?;
+    check_closed(&transcripts)?;
+    check_page(&rt, &page, REPLIES)?;
     Ok((page, transcripts))
 }
 

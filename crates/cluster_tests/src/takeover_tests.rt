@@ -2,21 +2,22 @@
 ghost use Rattle.std.specs.Prelude.{◌≡◌, IsTrue};
 ghost use Rattle.maildrop.specs.Name.{are_different};
 
-use crate::audits::{Remains, all_of};
-use crate::clients::{At, Page, Turns, new_accounts, new_client, new_page};
+use crate::audits::{Remains, all_of, check_closed};
+use crate::clients::{At, Client, Page, Turns, check_page, new_accounts, new_client, new_page};
 use crate::orders::check_order;
 use crate::services::{
-    Flag, alone, deliver, end_watch, new_flag, node, setup_of, start_watch, wait_a_turn,
+    Flag, alone, desk_of, end_watch, mail_to_leader, new_flag, node, setup_of, start_watch,
+    wait_a_turn,
 };
-use cluster::{Cluster, Deployment, InboxLink, NodeDesk, Patience, Setup};
+use cluster::{Cluster, Deployment, InboxLink, Job, NodeDesk, Patience, Setup};
 use samples::check;
-use session::{End, Transcript};
+use session::Transcript;
 use std::alloc::{AllocError, Global};
 use std::marker::Brand;
 use std::sync::{Arc, Wait};
 use std::test::Fail;
 use std::thread;
-use std::thread::Threads;
+use std::thread::{JoinHandle, Threads};
 use std::time::Clock;
 
 /// A client that removes a message. Its QUIT waits until the leader has crashed.
@@ -133,23 +134,50 @@ fn crash_leader<D: Deployment, R: Wait + Clock>(
     is_logged_in && was_up
 }
 
+/// Starts the thread that crashes node 1, and then ticks node 2.
+fn start_operator<
+    D: Deployment + Send + Sync + 'static,
+    R: Threads + Wait + Clock + Copy + Send + Sync + 'static,
+>(rt: R, cluster: &Nodes<D, R>, course: &Course) -> Result<JoinHandle<bool>, Fail> {
+    let leader = desk_of(cluster, 1)?;
+    let other = desk_of(cluster, 2)?;
+    let theirs = course.share()?;
+    Ok(thread::spawn(&rt, move || { crash_leader(&rt, &leader, &other, &theirs) })?)
+}
+
+/// The client, at node 2.
+fn client_of<R: Wait + Clock + Copy>(
+    rt: R,
+    alloc: Global,
+    page: &Page,
+    course: &Course,
+) -> Result<Vec<Job<&'static [u8], Client<R>, Turns<R>>>, Fail> {
+    let gate = course.gate(rt)?;
+    alone(alloc, new_client(rt, node(2)?, LINES, page, gate)?)
+}
+
+/// The session is over. The leader was up until it was crashed, and the gate never let go.
+fn end_course<R: Threads + Wait>(
+    rt: &R,
+    course: &Course,
+    operator: JoinHandle<bool>,
+) -> Result<(), Fail> {
+    *course.done.lock(rt) = true;
+    check(operator.join(rt), "the leader was down")?;
+    check(!*course.gave_up.lock(rt), "the gate let go")
+}
+
 /// Serves the client at node 2, while node 1 leads and crashes.
 fn served<
     D: Deployment + Send + Sync + 'static,
     R: Threads + Wait + Clock + Copy + Send + Sync + 'static,
 >(rt: R, alloc: Global, cluster: &Nodes<D, R>, page: &Page) -> Result<Vec<Transcript>, Fail> {
-    let leader = cluster.desk(node(1)?)?.ok_or("no desk")?;
-    let other = cluster.desk(node(2)?)?.ok_or("no desk")?;
     let course = Course::new(alloc)?;
+    let jobs = client_of(rt, alloc, page, &course)?;
     let accounts = new_accounts(alloc)?;
-    let job = new_client(rt, node(2)?, LINES, page, course.gate(rt)?)?;
-    let jobs = alone(alloc, job)?;
-    let theirs = course.share()?;
-    let operator = thread::spawn(&rt, move || crash_leader(&rt, &leader, &other, &theirs))?;
+    let operator = start_operator(rt, cluster, &course)?;
     let transcripts = cluster.sessions(jobs, &accounts);
-    *course.done.lock(&rt) = true;
-    check(operator.join(&rt), "the leader was down")?;
-    check(!*course.gave_up.lock(&rt), "the gate let go")?;
+    end_course(&rt, &course, operator)?;
     all_of(alloc, transcripts?)
 }
 
@@ -157,18 +185,11 @@ fn mailed_and_served<
     D: Deployment + Send + Sync + 'static,
     R: Threads + Wait + Clock + Copy + Send + Sync + 'static,
 >(rt: R, alloc: Global, cluster: &Nodes<D, R>) -> Result<(Page, Vec<Transcript>), Fail> {
-    let mut desk = cluster.desk(node(1)?)?.ok_or("no desk")?;
-    desk.campaign();
-    deliver(alloc, &mut desk, "alice", &["hi"], 1)?;
+    mail_to_leader(alloc, cluster)?;
     let page = new_page(alloc)?;
     let transcripts = served(rt, alloc, cluster, &page)?;
-    for transcript in &transcripts {
-        check(transcript.end == End::Closed, "the session ends otherwise")?;
-    }
-    check(
-        page.lock(&rt).as_slice() == REPLIES.as_bytes(),
-        "other replies",
-    )?;
+    check_closed(&transcripts)?;
+    check_page(&rt, &page, REPLIES)?;
     Ok((page, transcripts))
 }
 

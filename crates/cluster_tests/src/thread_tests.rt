@@ -2,8 +2,10 @@
 ghost use Rattle.std.specs.Prelude.{◌≡◌, IsTrue};
 ghost use Rattle.maildrop.specs.Name.{are_different};
 
-use crate::services::{Flag, SECONDS, alone, new_flag, node, setup_of, wait_a_turn, wait_for};
-use ballot::{Ballot, Envelope, Message};
+use crate::services::{
+    Flag, SECONDS, alone, desk_of, new_flag, node, setup_of, wait_a_turn, wait_for,
+};
+use ballot::{Ballot, Envelope, Message, NodeId};
 use cluster::{Cluster, Deployment, Link, NodeDesk, Setup};
 use crossbeam_channel::{Receiver, Sender, unbounded};
 use maildrop::SharedCommand;
@@ -44,6 +46,26 @@ impl<R: Wait + Clock> Link for Slow<R> {
     }
 }
 
+/// A link of node 1 that counts what it sends.
+fn slow_link<R: Wait + Clock + Drop>(
+    rt: R,
+    alloc: Global,
+    sent: &Arc<Mutex<u64>>,
+) -> Result<Vec<(NodeId, Slow<R>)>, Fail> {
+    let sent = Arc::try_clone(sent)?;
+    alone(alloc, (node(1)?, Slow { rt, sent }))
+}
+
+fn ask_often<
+    D: Deployment + Send + Sync + 'static,
+    R: Threads + Wait + Clock + Copy + Send + Sync + 'static,
+>(cluster: &Cluster<D, R, Slow<R>>) -> Result<(), Fail> {
+    for round in 1..=ENVELOPES {
+        check(cluster.arrive(ask(round)?), "an envelope is lost")?;
+    }
+    Ok(())
+}
+
 fn answers_all<
     D: Deployment + Send + Sync + 'static,
     R: Threads + Wait + Clock + Copy + Send + Sync + 'static,
@@ -52,15 +74,9 @@ fn answers_all<
     requires names { IsTrue (are_different setup.now.names) }
 {
     let sent = Arc::new(alloc, Mutex::new(0))?;
-    let link = Slow {
-        rt,
-        sent: Arc::try_clone(&sent)?,
-    };
-    let links = alone(alloc, (node(1)?, link))?;
+    let links = slow_link(rt, alloc, &sent)?;
     let cluster = Cluster::<D, R, Slow<R>>::start_over(rt, alloc, setup, links)?;
-    for round in 1..=ENVELOPES {
-        check(cluster.arrive(ask(round)?), "an envelope is lost")?;
-    }
+    ask_often(&cluster)?;
     drop(cluster);
     check(*sent.lock(&rt) == ENVELOPES, "not all is answered")
 }
@@ -103,6 +119,7 @@ fn check_unheard<D: Deployment, R: Wait + Clock>(
     answers: &Receiver<Envelope<SharedCommand>>,
     free: &Flag,
 ) -> Result<(), Fail> {
+    check(!desk.has_unheard(), "the inbox has something")?;
     check(desk.arrive(ask(1)?), "an envelope is lost")?;
     wait_for_answer(rt, answers)?;
     check(!desk.has_unheard(), "the inbox has what was heard")?;
@@ -111,6 +128,17 @@ fn check_unheard<D: Deployment, R: Wait + Clock>(
     *free.lock(rt) = true;
     wait_for_answer(rt, answers)?;
     check(!desk.has_unheard(), "the inbox has what was heard")
+}
+
+/// A link of node 1 that holds its thread.
+fn holding_link<R: Wait + Clock + Drop>(
+    rt: R,
+    alloc: Global,
+    sent: Sender<Envelope<SharedCommand>>,
+    free: &Flag,
+) -> Result<Vec<(NodeId, Holding<R>)>, Fail> {
+    let free = Arc::try_clone(free)?;
+    alone(alloc, (node(1)?, Holding { rt, sent, free }))
 }
 
 fn holds_a_thread<
@@ -122,15 +150,9 @@ fn holds_a_thread<
 {
     let (sent, answers) = unbounded(alloc)?;
     let free = new_flag(alloc)?;
-    let link = Holding {
-        rt,
-        sent,
-        free: Arc::try_clone(&free)?,
-    };
-    let links = alone(alloc, (node(1)?, link))?;
+    let links = holding_link(rt, alloc, sent, &free)?;
     let cluster = Cluster::<D, R, Holding<R>>::start_over(rt, alloc, setup, links)?;
-    let desk = cluster.desk(node(1)?)?.ok_or("no desk")?;
-    check(!desk.has_unheard(), "the inbox has something")?;
+    let desk = desk_of(&cluster, 1)?;
     check_unheard(&rt, &desk, &answers, &free)
 }
 

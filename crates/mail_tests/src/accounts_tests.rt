@@ -73,13 +73,17 @@ impl Scenario for Single {
     }
 }
 
+fn accounts_of<'h>(heap: Heap<'h>, table: &str) -> Result<Accounts<Heap<'h>>, Fail> {
+    Ok(Accounts::read(heap, table.as_bytes())?)
+}
+
 /// The secrets of a table are compared without memory.
 #[derive(Clone, Copy)]
 struct Compared;
 
 impl Scenario for Compared {
     fn run(&self, heap: Heap, refusal: Refusal) -> Result<(), Fail> {
-        let accounts = Accounts::read(heap, b"alice pass s3\nbob apop a b")?;
+        let accounts = accounts_of(heap, "alice pass s3\nbob apop a b")?;
         let stamp = stamp(b"1.1", b"localhost").ok_or("no stamp")?;
         heap.refuse(refusal);
         let is_right = accounts.check_pass(&alice()?, b"s3");

@@ -5,7 +5,7 @@ use ballot::{Machine, Memory, Payload};
 use maildrop::{Command, CommandId, Key, Name, Office, Op, Outcome, Shared, SharedCommand, Uids};
 use refusing::Refusal;
 use samples::{Heap, Scenario, alice, check, limits, name, requests, text, ticket};
-use std::alloc::Allocator;
+use std::alloc::{Allocator, Global};
 use std::test::Fail;
 
 /// The operations, one of each kind.
@@ -153,22 +153,72 @@ fn copies_of_a_command_take_no_memory(rt: HostRuntime) -> Result<(), Fail> {
     Ok(())
 }
 
+/// This is another command, of a greater identity.
+fn check_other(one: &SharedCommand, other: &SharedCommand) -> Result<(), Fail> {
+    check(!are_same(one, other), "the same command")?;
+    check(identity_of(other) > identity_of(one), "no greater identity")
+}
+
+/// Of the commands with this one's identity those of its kind are the same, and no others.
+fn check_kinds(alloc: Global, one: &SharedCommand, kind: Kind) -> Result<(), Fail> {
+    for other in KINDS {
+        let same = are_same(one, &command(alloc, *other, 1)?);
+        check(same == (kind as u8 == *other as u8), "another command")?;
+    }
+    Ok(())
+}
+
+fn check_command(alloc: Global, kind: Kind) -> Result<(), Fail> {
+    let one = command(alloc, kind, 1)?;
+    let id = CommandId::new(alice()?, ticket(1)?);
+    check(identity_of(&one) == id, "another identity")?;
+    check_other(&one, &command(alloc, kind, 2)?)?;
+    check_other(&one, &command_of(alloc, name("bob")?, kind, 1)?)?;
+    check_kinds(alloc, &one, kind)
+}
+
 /// Commands are the same where user, ticket and operation are, and have one identity where user and ticket are.
 #[test]
 fn commands_are_told_apart(rt: HostRuntime) -> Result<(), Fail> {
-    let alloc = rt.alloc();
-    let id = CommandId::new(alice()?, ticket(1)?);
     for kind in KINDS {
-        let one = command(alloc, *kind, 1)?;
-        assert!(rt; identity_of(&one) == id);
-        let later = command(alloc, *kind, 2)?;
-        assert!(rt; !are_same(&one, &later) && identity_of(&later) > id);
-        let others = command_of(alloc, name("bob")?, *kind, 1)?;
-        assert!(rt; !are_same(&one, &others) && identity_of(&others) > id);
-        for other in KINDS {
-            let same = are_same(&one, &command(alloc, *other, 1)?);
-            assert_eq!(rt; same, *kind as u8 == *other as u8);
-        }
+        check_command(rt.alloc(), *kind)?;
+    }
+    Ok(())
+}
+
+/// What an office is given, under the tickets from 1, and what it answers: each time something else than before.
+const PERFORMED: &[(Kind, Short)] = &[
+    (Kind::Mail, Short::Stored(1)),
+    (Kind::Take, Short::Taken(1, 19)),
+    (Kind::Commit, Short::Done),
+    (Kind::Take, Short::Taken(0, 0)),
+    (Kind::Commit, Short::NotHolder),
+];
+
+fn new_office(alloc: Global) -> Result<Office, Fail> {
+    let names = [alice()?];
+    Ok(Office::new(alloc, names.as_slice(), limits()?)?)
+}
+
+fn performed(alloc: Global, office: &mut Office, kind: Kind, number: u64) -> Result<Outcome, Fail> {
+    let command = command(alloc, kind, number)?;
+    Ok(perform(office, &command)?)
+}
+
+/// The outcome is the same as its copy, and none of the earlier ones.
+fn check_outcome(outcome: &Outcome, earlier: &[Outcome], expected: Short) -> Result<(), Fail> {
+    check(in_short(outcome) == expected, "another outcome")?;
+    check(outcome.same(&outcome.copy()?), "another copy")?;
+    let is_new = earlier.iter().all(|other| !outcome.same(other));
+    check(is_new, "an earlier outcome")
+}
+
+fn perform_all(alloc: Global, office: &mut Office) -> Result<(), Fail> {
+    let mut outcomes = vec![in alloc; Outcome::Stored(2)]?;
+    for (place, (kind, expected)) in PERFORMED.iter().enumerate() {
+        let outcome = performed(alloc, office, *kind, place as u64 + 1)?;
+        check_outcome(&outcome, &outcomes, *expected)?;
+        outcomes.push(outcome)?;
     }
     Ok(())
 }
@@ -177,17 +227,6 @@ fn commands_are_told_apart(rt: HostRuntime) -> Result<(), Fail> {
 #[test]
 fn an_office_is_a_machine(rt: HostRuntime) -> Result<(), Fail> {
     let alloc = rt.alloc();
-    let mut office = Office::new(alloc, [alice()?].as_slice(), limits()?)?;
-    let stored = perform(&mut office, &command(alloc, Kind::Mail, 1)?)?;
-    assert_eq!(rt; in_short(&stored), Short::Stored(1));
-    let taken = perform(&mut office, &command(alloc, Kind::Take, 2)?)?;
-    assert_eq!(rt; in_short(&taken), Short::Taken(1, 19));
-    assert!(rt; taken.same(&taken.copy()?) && stored.same(&Outcome::Stored(1)));
-    assert!(rt; !taken.same(&stored) && !stored.same(&Outcome::Stored(2)));
-    let committed = perform(&mut office, &command(alloc, Kind::Commit, 3)?)?;
-    assert!(rt; committed.same(&Outcome::Done) && !committed.same(&Outcome::NotHolder));
-    let none = perform(&mut office, &command(alloc, Kind::Take, 4)?)?;
-    assert_eq!(rt; in_short(&none), Short::Taken(0, 0));
-    assert!(rt; !none.same(&taken) && none.same(&none.copy()?));
-    Ok(())
+    let mut office = new_office(alloc)?;
+    perform_all(alloc, &mut office)
 }

@@ -160,15 +160,11 @@ fn input_of<'h>(heap: Heap<'h>, given: Given) -> Result<Input<Heap<'h>>, Fail> {
     })
 }
 
-/// Makes node 2 of three. Some of its requests may be refused.
-fn make_node<'h>(
-    heap: Heap<'h>,
-    refusal: Option<Refusal>,
-) -> Result<Result<Option<Node<Heap<'h>>>, Memory>, Fail> {
+/// Node 2 of three.
+fn new_node<'h>(heap: Heap<'h>) -> Result<Node<Heap<'h>>, Fail> {
     let names = [alice()?];
     let (me, cluster, limits) = (node(2)?, three()?, limits()?);
-    refuse(heap, refusal);
-    Ok(Node::new(heap, me, cluster, 5, &names, limits))
+    Ok(Node::new(heap, me, cluster, 5, &names, limits)?.ok_or("no node")?)
 }
 
 /// Takes an input with ample memory.
@@ -177,13 +173,12 @@ fn take<'h>(heap: Heap<'h>, node: &mut Node<Heap<'h>>, given: Given) -> Result<(
     Ok(())
 }
 
-/// A node after the inputs of these rows.
-fn node_after<'h>(heap: Heap<'h>, rows: &[Row]) -> Result<Node<Heap<'h>>, Fail> {
-    let mut node = make_node(heap, None)??.ok_or("no node")?;
+/// Takes the inputs of these rows.
+fn take_all<'h>(heap: Heap<'h>, node: &mut Node<Heap<'h>>, rows: &[Row]) -> Result<(), Fail> {
     for (given, _, _) in rows {
-        take(heap, &mut node, *given)?;
+        take(heap, node, *given)?;
     }
-    Ok(node)
+    Ok(())
 }
 
 /// The letter of a message's kind: a large one in phase 2, and for what is decided.
@@ -321,12 +316,24 @@ struct Played {
     place: usize,
 }
 
-impl Scenario for Played {
-    fn run(&self, heap: Heap, refusal: Refusal) -> Result<(), Fail> {
+impl Played {
+    fn play<'h>(
+        &self,
+        heap: Heap<'h>,
+        refusal: Refusal,
+        node: &mut Node<Heap<'h>>,
+    ) -> Result<(), Fail> {
         let before = self.rows.get(..self.place).ok_or("no rows")?;
         let row = *self.rows.get(self.place).ok_or("no row")?;
-        let mut node = node_after(heap, before)?;
-        check_step(heap, &mut node, row, refusal)
+        take_all(heap, node, before)?;
+        check_step(heap, node, row, refusal)
+    }
+}
+
+impl Scenario for Played {
+    fn run(&self, heap: Heap, refusal: Refusal) -> Result<(), Fail> {
+        let mut node = new_node(heap)?;
+        self.play(heap, refusal, &mut node)
     }
 }
 
@@ -375,6 +382,14 @@ fn are_alike<'h>(input: &Input<Heap<'h>>, other: &Input<Heap<'h>>) -> bool {
     }
 }
 
+/// Whether the input is copied or, where memory was refused, isn't.
+fn is_copied<'h>(heap: Heap<'h>, input: &Input<Heap<'h>>) -> bool {
+    match input.copy() {
+        Ok(copy) => !heap.has_refused() && are_alike(&copy, input),
+        Err(Memory) => heap.has_refused(),
+    }
+}
+
 /// An input that is copied.
 #[derive(Drop)]
 struct Copied(Given);
@@ -383,13 +398,9 @@ impl Scenario for Copied {
     fn run(&self, heap: Heap, refusal: Refusal) -> Result<(), Fail> {
         let input = input_of(heap, self.0)?;
         heap.refuse(refusal);
-        let copy = input.copy();
+        let is_right = is_copied(heap, &input);
         heap.grant_all();
-        check(copy.is_err() == heap.has_refused(), "no memory")?;
-        match &copy {
-            Ok(copy) => check(are_alike(copy, &input), "another input"),
-            Err(Memory) => Ok(()),
-        }
+        check(is_right, "another input, or another error")
     }
 }
 
@@ -407,9 +418,12 @@ struct Made;
 
 impl Scenario for Made {
     fn run(&self, heap: Heap, refusal: Refusal) -> Result<(), Fail> {
-        let answer = make_node(heap, Some(refusal))?;
+        let names = [alice()?];
+        let (me, cluster, limits) = (node(2)?, three()?, limits()?);
+        heap.refuse(refusal);
+        let is_refused = Node::new(heap, me, cluster, 5, &names, limits).is_err();
         heap.grant_all();
-        check(answer.is_err() == heap.has_refused(), "no memory")
+        check(is_refused == heap.has_refused(), "no memory")
     }
 }
 

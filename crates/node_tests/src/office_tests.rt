@@ -23,12 +23,18 @@ fn new_office(alloc: Global, limits: Limits) -> Result<Office, Fail> {
     Ok(Office::new(alloc, [user].as_slice(), limits)?)
 }
 
+/// The Take is requested.
+fn request(alloc: Global, replica: &mut OfficeReplica) -> Result<(), Fail> {
+    let sends = replica.request(first_take(alloc)?)?;
+    check(sends.len() == 3, "it isn't proposed to each node")
+}
+
 /// The replica of node 1, where the Take is requested.
 fn requested(alloc: Global) -> Result<OfficeReplica, Fail> {
-    let office = new_office(alloc, limits()?)?;
-    let mut replica = Replica::new(alloc, node(1)?, three()?, 1, office);
-    let sends = replica.request(first_take(alloc)?)?;
-    check(sends.len() == 3, "it isn't proposed to each node")?;
+    let (me, cluster, limits) = (node(1)?, three()?, limits()?);
+    let office = new_office(alloc, limits)?;
+    let mut replica = Replica::new(alloc, me, cluster, 1, office);
+    request(alloc, &mut replica)?;
     Ok(replica)
 }
 
@@ -47,18 +53,26 @@ fn take_answer(replica: &mut OfficeReplica) -> Result<Option<Outcome>, Fail> {
 /// The slot that is decided, and what is performed and next then.
 const ROWS: [(u64, (usize, u64)); 3] = [(2, (0, 1)), (1, (1, 3)), (1, (1, 3))];
 
+fn decide_all(alloc: Global, replica: &mut OfficeReplica) -> Result<(), Fail> {
+    for (place, expected) in ROWS {
+        let found = decide(alloc, replica, place)?;
+        check(found == expected, "more or fewer commands")?;
+    }
+    Ok(())
+}
+
+/// The Take has got the lock, and is answered once.
+fn check_answer(replica: &mut OfficeReplica) -> Result<(), Fail> {
+    let answer = take_answer(replica)?;
+    let has_lock = matches!(&answer, Some(Outcome::Taken(_)));
+    check(has_lock, "no lock is answered")?;
+    check(take_answer(replica)?.is_none(), "a second answer")
+}
+
 #[test]
 fn a_command_of_two_slots_is_performed_once(rt: HostRuntime) -> Result<(), Fail> {
     let alloc = rt.alloc();
     let mut replica = requested(alloc)?;
-    for (place, expected) in ROWS {
-        let found = decide(alloc, &mut replica, place)?;
-        check(found == expected, "more or fewer commands")?;
-    }
-    let answer = take_answer(&mut replica)?;
-    check(
-        matches!(&answer, Some(Outcome::Taken(_))),
-        "no lock is answered",
-    )?;
-    check(take_answer(&mut replica)?.is_none(), "a second answer")
+    decide_all(alloc, &mut replica)?;
+    check_answer(&mut replica)
 }

@@ -174,12 +174,18 @@ fn done<'h>(heap: Heap<'h>, replica: &mut Role<'h>, call: Call) -> Result<(), Fa
     Ok(())
 }
 
+/// Makes the calls of these rows.
+fn do_all<'h>(heap: Heap<'h>, replica: &mut Role<'h>, rows: &[Row]) -> Result<(), Fail> {
+    for (call, _, _, _) in rows {
+        done(heap, replica, *call)?;
+    }
+    Ok(())
+}
+
 /// A replica after the calls of these rows.
 fn replica_after<'h>(heap: Heap<'h>, rows: &[Row]) -> Result<Role<'h>, Fail> {
     let mut replica = new_replica(heap)?;
-    for (call, _, _, _) in rows {
-        done(heap, &mut replica, *call)?;
-    }
+    do_all(heap, &mut replica, rows)?;
     Ok(replica)
 }
 
@@ -256,16 +262,21 @@ fn check_told<'h>(replica: &Role<'h>) -> Result<(), Fail> {
     check(!replica.slots_used(), "no slot is left")
 }
 
+/// Checks what a replica tells of itself after the rows of `GIVES_WAY`, and its answers.
+fn check_answers<'h>(replica: &mut Role<'h>) -> Result<(), Fail> {
+    check_told(replica)?;
+    check_taken(replica, 10, 30)?;
+    check_taken(replica, 20, 10)
+}
+
 /// The rows are played, and then the answers are taken: what was performed before the command, once.
 struct Answered;
 
 impl Scenario for Answered {
     fn run(&self, heap: Heap, refusal: Refusal) -> Result<(), Fail> {
         let mut replica = replica_after(heap, &GIVES_WAY)?;
-        refuse(heap, Some(refusal));
-        check_told(&replica)?;
-        check_taken(&mut replica, 10, 30)?;
-        check_taken(&mut replica, 20, 10)?;
+        heap.refuse(refusal);
+        check_answers(&mut replica)?;
         check(!heap.has_refused(), "an answer takes memory")
     }
 }
@@ -300,10 +311,14 @@ struct Asked;
 impl Scenario for Asked {
     fn run(&self, heap: Heap, refusal: Refusal) -> Result<(), Fail> {
         let mut replica = new_replica(heap)?;
-        done(heap, &mut replica, Call::Decision(1, 30))?;
-        refused_ask(heap, &replica, refusal)?;
-        check_asked(&replica)
+        check_ask(heap, refusal, &mut replica)
     }
+}
+
+fn check_ask<'h>(heap: Heap<'h>, refusal: Refusal, replica: &mut Role<'h>) -> Result<(), Fail> {
+    done(heap, replica, Call::Decision(1, 30))?;
+    refused_ask(heap, replica, refusal)?;
+    check_asked(replica)
 }
 
 fn check_asked<'h>(replica: &Role<'h>) -> Result<(), Fail> {

@@ -44,25 +44,31 @@ fn take_twice(one: &mut OneNode<Global>) -> Result<Ticket, Fail> {
     Ok(ticket)
 }
 
+/// Checks what a node shows that has performed two operations and has the answer to the first.
+fn check_shown(one: &mut OneNode<Global>) -> Result<(), Fail> {
+    let ticket = take_twice(one)?;
+    check(one.node.has_answer(alice()?, ticket), "no answer")?;
+    check_done(one)
+}
+
 #[test]
 fn a_node_shows_what_it_performed(rt: HostRuntime) -> Result<(), Fail> {
     let mut one = OneNode::new(rt.alloc())?;
-    let ticket = take_twice(&mut one)?;
-    check(one.node.has_answer(alice()?, ticket), "no answer")?;
-    check_done(&one)
+    check_shown(&mut one)
 }
 
 #[test]
 fn a_log_is_handed_out(rt: HostRuntime) -> Result<(), Fail> {
     let mut one = OneNode::new(rt.alloc())?;
-    take_lock(&mut one)?;
-    let inputs = one.node.log().inputs.len();
-    check(inputs > 3, "its log is short")?;
+    let inputs = take_lock(&mut one)?;
     check(one.node.into_log().inputs.len() == inputs, "another log")
 }
 
-/// Has a first operation performed.
-fn take_lock(one: &mut OneNode<Global>) -> Result<(), Fail> {
+/// Has a first operation performed. Gives how many inputs are in the log.
+fn take_lock(one: &mut OneNode<Global>) -> Result<usize, Fail> {
     let (lock, _) = one.perform(alice()?, Op::Take).ok_or("no answer")?;
-    check(lock.get().1 == 1, "another ticket")
+    check(lock.get().1 == 1, "another ticket")?;
+    let inputs = one.node.log().inputs.len();
+    check(inputs > 3, "its log is short")?;
+    Ok(inputs)
 }

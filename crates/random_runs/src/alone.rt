@@ -50,6 +50,28 @@ impl Alone<'_, '_> {
         }
     }
 
+    /// The session greets its client, and hears its lines.
+    fn talk(&mut self, accounts: &Accounts, talk: &Talk) -> Result<(), Fail> {
+        self.greet()?;
+        for place in talk.lines.iter() {
+            if self.is_over {
+                break;
+            }
+            self.hear(accounts, talk.words(*place))?;
+        }
+        Ok(())
+    }
+
+    fn greet(&mut self) -> Result<(), Fail> {
+        let greeting = self.session.greeting()?;
+        self.say(greeting.get())
+    }
+
+    fn hear(&mut self, accounts: &Accounts, words: &str) -> Result<(), Fail> {
+        let step = self.session.line(accounts, &line(words)?)?;
+        self.take(&step)
+    }
+
     fn say(&mut self, bytes: &[u8]) -> Result<(), Fail> {
         self.said.extend_from_slice(bytes)?;
         Ok(())
@@ -87,6 +109,32 @@ fn said_at(step: &Step) -> Option<&[u8]> {
     }
 }
 
+/// The maildrops of these users, which are empty.
+fn new_office(alloc: Global, names: &[Name]) -> Result<Office, Fail> {
+    if !are_different(names) {
+        Err("a name stands twice")?;
+    }
+    Ok(Office::new(alloc, names, limits()?)?)
+}
+
+/// A session that has said nothing yet.
+fn new_alone<'d, 't>(
+    alloc: Global,
+    names: &[Name],
+    decided: &'d [(Slot, SharedCommand)],
+    talk: &'t Talk,
+) -> Result<Alone<'d, 't>, Fail> {
+    let stamp = greeting_stamp()?;
+    Ok(Alone {
+        office: new_office(alloc, names)?,
+        session: Session::new(alloc, stamp),
+        decided,
+        tickets: talk.tickets.as_slice(),
+        said: Vec::new(alloc),
+        is_over: false,
+    })
+}
+
 /// What is said to the lines of this client.
 fn replies(
     alloc: Global,
@@ -94,27 +142,8 @@ fn replies(
     decided: &[(Slot, SharedCommand)],
     talk: &Talk,
 ) -> Result<Vec<u8>, Fail> {
-    let names = accounts.names();
-    if !are_different(names) {
-        Err("a name stands twice")?;
-    }
-    let mut alone = Alone {
-        session: Session::new(alloc, greeting_stamp()?),
-        office: Office::new(alloc, names, limits()?)?,
-        decided,
-        tickets: talk.tickets.as_slice(),
-        said: Vec::new(alloc),
-        is_over: false,
-    };
-    let greeting = alone.session.greeting()?;
-    alone.said.extend_from_slice(greeting.get())?;
-    for place in talk.lines.iter() {
-        if alone.is_over {
-            break;
-        }
-        let step = alone.session.line(accounts, &line(talk.words(*place))?)?;
-        alone.take(&step)?;
-    }
+    let mut alone = new_alone(alloc, accounts.names(), decided, talk)?;
+    alone.talk(accounts, talk)?;
     Ok(alone.said)
 }
 

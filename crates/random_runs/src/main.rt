@@ -40,19 +40,36 @@ fn fault_of(alloc: Global, play: &Play) -> Result<Option<&'static str>, Fail> {
     wrong_replies(alloc, play)
 }
 
+/// What a run did.
+#[derive(Clone, Copy)]
+struct Done {
+    fault: Option<&'static str>,
+    performed: usize,
+    logins: usize,
+}
+
+/// The run of this seed.
+fn run(alloc: Global, seed: u64) -> Result<Done, Fail> {
+    let play = random_play(alloc, Chance::new(seed))?;
+    Ok(Done {
+        fault: fault_of(alloc, &play)?,
+        performed: play.longest().len(),
+        logins: play.logins(),
+    })
+}
+
 fn main(rt: HostRuntime) -> Result<ExitCode, Fail> {
-    let alloc = rt.alloc();
     let mut wrong = 0u64;
     let mut performed = 0usize;
     let mut logins = 0usize;
     for seed in 0..RUNS {
-        let play = random_play(alloc, Chance::new(seed))?;
-        if let Some(fault) = fault_of(alloc, &play)? {
+        let done = run(rt.alloc(), seed)?;
+        if let Some(fault) = done.fault {
             wrong = wrong.saturating_add(1);
             println!(&rt; "run {seed}: {fault}")?;
         }
-        performed = performed.saturating_add(play.longest().len());
-        logins = logins.saturating_add(play.logins());
+        performed = performed.saturating_add(done.performed);
+        logins = logins.saturating_add(done.logins);
     }
     if performed < LEAST_PERFORMED || logins < LEAST_LOGINS {
         println!(&rt; "too little happened: {performed} commands, {logins} logins")?;

@@ -35,11 +35,15 @@ pub const LINES: &[&str] = &[
 /// The same for bob: he logs in under another name.
 pub const BOB: &str = "USER bob";
 
-pub fn accounts(alloc: Global) -> Result<Accounts, Fail> {
-    match Accounts::read(alloc, ACCOUNTS) {
+fn accounts_of(alloc: Global, rows: &[u8]) -> Result<Accounts, Fail> {
+    match Accounts::read(alloc, rows) {
         Ok(accounts) => Ok(accounts),
         Err(_) => Err("no accounts")?,
     }
+}
+
+pub fn accounts(alloc: Global) -> Result<Accounts, Fail> {
+    accounts_of(alloc, ACCOUNTS)
 }
 
 pub fn name(word: &str) -> Result<Name, Fail> {

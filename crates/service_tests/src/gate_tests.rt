@@ -3,6 +3,7 @@
 use crate::desks::{desk_of_two, lone_stamp};
 use apop::Accounts;
 use maildrop::{Name, Op, Outcome, Ticket};
+use samples::check;
 use server::LoneDesk;
 use session::{Desk, DeskStopped, End, Gate, Transcript, serve};
 use std::alloc::Global;
@@ -156,16 +157,23 @@ fn a_gate_is_entered_before_its_line_is_heard(rt: HostRuntime) -> Result<(), Fai
     assert_events(&rt, rt.alloc(), &rows)
 }
 
+/// The second of three lines took the lock, and the end gave it back.
+fn check_asked(transcript: &Transcript) -> Result<(), Fail> {
+    check(transcript.end == End::HungUp, "another end")?;
+    check(transcript.lines.len() == 3, "more or fewer lines")?;
+    let [first, second] = transcript.asked.get() else {
+        return Err("more or fewer entries".into());
+    };
+    let is_taken = first.line == Some(1) && matches!(&first.op, Op::Take);
+    check(is_taken, "another first entry")?;
+    let is_freed = second.line.is_none() && matches!(&second.op, Op::Free { .. });
+    check(is_freed, "another second entry")
+}
+
 /// The entries of a login and of a client that hangs up.
 #[test]
 fn a_transcript_has_what_was_asked(rt: HostRuntime) -> Result<(), Fail> {
     let lines = b"USER alice\r\nPASS s\r\nDELE 1\r\n";
     let (_events, transcript) = served(rt.alloc(), lines, 9)?;
-    assert_eq!(rt; transcript.end, End::HungUp);
-    assert_eq!(rt; transcript.lines.len(), 3);
-    let entries = transcript.asked.get();
-    assert_eq!(rt; entries.len(), 2);
-    assert!(rt; entries[0].line == Some(1) && matches!(&entries[0].op, Op::Take));
-    assert!(rt; entries[1].line.is_none() && matches!(&entries[1].op, Op::Free { .. }));
-    Ok(())
+    check_asked(&transcript)
 }

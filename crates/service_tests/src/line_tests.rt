@@ -1,6 +1,6 @@
 //! Each line of a session that holds its lock.
 
-use crate::sessions::{Done, accounts, check_step, logged_in, whole};
+use crate::sessions::{Done, Expected, accounts, check_line, logged_in};
 use refusing::Refusal;
 use samples::{Heap, Scenario, requests};
 use std::test::Fail;
@@ -16,18 +16,11 @@ impl Scenario for Heard {
     fn run(&self, heap: Heap, refusal: Refusal) -> Result<(), Fail> {
         let accounts = accounts(heap)?;
         let (mut session, lock) = logged_in(heap, &accounts)?;
-        let line = whole(self.line)?;
-        heap.refuse(refusal);
-        let answer = session.line(&accounts, &line);
-        heap.grant_all();
-        check_step(
-            heap,
-            session,
-            &accounts,
-            answer,
-            Done::Says(self.reply),
-            Some(lock),
-        )
+        let expected = Expected {
+            done: Done::Says(self.reply),
+            due: Some(lock),
+        };
+        check_line(heap, refusal, &mut session, &accounts, self.line, &expected)
     }
 }
 

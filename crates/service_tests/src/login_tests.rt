@@ -1,12 +1,16 @@
 //! The greeting and the login.
 
-use crate::desks::{desk_of_two, lone_stamp};
-use crate::sessions::{Done, accounts, check_step, locking, whole};
-use maildrop::{Op, Outcome};
+use crate::desks::lone_stamp;
+use crate::sessions::{
+    Done, Expected, accounts, check_answer, check_line, hear, locking, two_taken,
+};
+use maildrop::Outcome;
 use refusing::Refusal;
-use samples::{Heap, Scenario, alice, check, requests};
+use samples::{Heap, Scenario, check, requests};
 use session::{Session, SessionError};
 use std::test::Fail;
+
+const GREETING: &[u8] = b"+OK POP3 server ready <1.1@localhost>\r\n";
 
 /// The greeting. A session that was refused memory for it is as it was.
 #[derive(Clone, Copy)]
@@ -16,18 +20,19 @@ impl Scenario for Greeted {
     fn run(&self, heap: Heap, refusal: Refusal) -> Result<(), Fail> {
         let session = Session::new(heap, lone_stamp()?);
         heap.refuse(refusal);
-        let answer = session.greeting();
+        let greets = greets(heap, &session);
         heap.grant_all();
-        let is_refused = matches!(&answer, Err(SessionError::Memory));
-        let bytes = match answer {
-            Ok(bytes) => bytes,
-            Err(_) => session.greeting()?,
-        };
-        let greeting = b"+OK POP3 server ready <1.1@localhost>\r\n";
-        check(
-            is_refused == heap.has_refused() && bytes.get() == greeting.as_slice(),
-            "another greeting",
-        )
+        check(greets, "another greeting, or another error")?;
+        let bytes = session.greeting()?;
+        check(bytes.get() == GREETING, "another greeting later")
+    }
+}
+
+/// Whether a session greets or, where it was refused memory, answers so.
+fn greets<'h>(heap: Heap<'h>, session: &Session<Heap<'h>>) -> bool {
+    match session.greeting() {
+        Ok(bytes) => !heap.has_refused() && bytes.get() == GREETING,
+        Err(error) => heap.has_refused() && error == SessionError::Memory,
     }
 }
 
@@ -41,14 +46,15 @@ struct Before {
 
 impl Scenario for Before {
     fn run(&self, heap: Heap, refusal: Refusal) -> Result<(), Fail> {
+        let stamp = lone_stamp()?;
         let accounts = accounts(heap)?;
-        let mut session = Session::new(heap, lone_stamp()?);
-        let _ = session.line(&accounts, &whole(self.first)?)?;
-        let line = whole(self.line)?;
-        heap.refuse(refusal);
-        let answer = session.line(&accounts, &line);
-        heap.grant_all();
-        check_step(heap, session, &accounts, answer, self.done, None)
+        let mut session = Session::new(heap, stamp);
+        hear(&mut session, &accounts, self.first)?;
+        let expected = Expected {
+            done: self.done,
+            due: None,
+        };
+        check_line(heap, refusal, &mut session, &accounts, self.line, &expected)
     }
 }
 
@@ -90,15 +96,15 @@ struct Locked {
 impl Scenario for Locked {
     fn run(&self, heap: Heap, refusal: Refusal) -> Result<(), Fail> {
         let accounts = accounts(heap)?;
-        let mut desk = desk_of_two(heap)?;
         let mut session = locking(heap, &accounts)?;
-        let (lock, taken) = desk.perform(alice()?, Op::Take).ok_or("no ticket")?;
-        let outcome = if self.is_free { taken } else { Outcome::InUse };
-        heap.refuse(refusal);
-        let answer = session.answer(lock, &outcome);
-        heap.grant_all();
-        let due = if self.is_free { Some(lock) } else { None };
-        check_step(heap, session, &accounts, answer, self.done, due)
+        let (lock, taken) = two_taken(heap)?;
+        let in_use = Outcome::InUse;
+        let answer = (lock, if self.is_free { &taken } else { &in_use });
+        let expected = Expected {
+            done: self.done,
+            due: if self.is_free { Some(lock) } else { None },
+        };
+        check_answer(heap, refusal, &mut session, &accounts, answer, &expected)
     }
 }
 

@@ -1,9 +1,11 @@
 //! The end of a session.
 
-use crate::sessions::{Done, accounts, check_step, logged_in, whole};
+use crate::sessions::{Done, Expected, accounts, check_answer, check_line, hear, logged_in};
+use apop::Accounts;
 use maildrop::Outcome;
 use refusing::Refusal;
 use samples::{Heap, Scenario, requests, ticket};
+use session::Session;
 use std::test::Fail;
 
 /// QUIT behind another line. A session that is refused memory at it still holds its lock.
@@ -17,12 +19,12 @@ impl Scenario for Left {
     fn run(&self, heap: Heap, refusal: Refusal) -> Result<(), Fail> {
         let accounts = accounts(heap)?;
         let (mut session, lock) = logged_in(heap, &accounts)?;
-        let _ = session.line(&accounts, &whole(self.before)?)?;
-        let line = whole("QUIT")?;
-        heap.refuse(refusal);
-        let answer = session.line(&accounts, &line);
-        heap.grant_all();
-        check_step(heap, session, &accounts, answer, self.done, Some(lock))
+        hear(&mut session, &accounts, self.before)?;
+        let expected = Expected {
+            done: self.done,
+            due: Some(lock),
+        };
+        check_line(heap, refusal, &mut session, &accounts, "QUIT", &expected)
     }
 }
 
@@ -35,20 +37,29 @@ struct Removed {
 
 impl Scenario for Removed {
     fn run(&self, heap: Heap, refusal: Refusal) -> Result<(), Fail> {
+        let commit = ticket(9)?;
         let accounts = accounts(heap)?;
-        let (mut session, _) = logged_in(heap, &accounts)?;
-        let _ = session.line(&accounts, &whole("DELE 1")?)?;
-        let _ = session.line(&accounts, &whole("QUIT")?)?;
+        let mut session = quitting(heap, &accounts)?;
         let outcome = if self.is_holder {
             Outcome::Done
         } else {
             Outcome::NotHolder
         };
-        heap.refuse(refusal);
-        let answer = session.answer(ticket(9)?, &outcome);
-        heap.grant_all();
-        check_step(heap, session, &accounts, answer, self.done, None)
+        let expected = Expected {
+            done: self.done,
+            due: None,
+        };
+        let answer = (commit, &outcome);
+        check_answer(heap, refusal, &mut session, &accounts, answer, &expected)
     }
+}
+
+/// A session that awaits the answer to the Commit of its QUIT.
+fn quitting<'h>(heap: Heap<'h>, accounts: &Accounts<Heap<'h>>) -> Result<Session<Heap<'h>>, Fail> {
+    let (mut session, _) = logged_in(heap, accounts)?;
+    hear(&mut session, accounts, "DELE 1")?;
+    hear(&mut session, accounts, "QUIT")?;
+    Ok(session)
 }
 
 #[test]

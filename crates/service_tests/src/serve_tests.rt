@@ -1,10 +1,11 @@
 //! Whole sessions through `serve`.
 
 use crate::desks::{desk_of_two, lone_stamp};
-use apop::Accounts;
+use crate::sessions::{accounts, taken};
 use maildrop::{Op, Outcome};
 use refusing::Refusal;
-use samples::{Heap, Scenario, alice, check, requests};
+use samples::{Heap, Scenario, check, requests};
+use server::LoneDesk;
 use session::{End, OpenGate, Transcript, serve};
 use std::test::Fail;
 
@@ -38,35 +39,68 @@ fn locks_of(transcript: &Transcript<Heap>) -> (usize, usize) {
     (got, given)
 }
 
-impl Scenario for Served {
-    fn run(&self, heap: Heap, refusal: Refusal) -> Result<(), Fail> {
-        let accounts = Accounts::read(heap, b"alice pass s\n")?;
-        let mut desk = desk_of_two(heap)?;
-        let mut room = [0u8; 300];
-        let mut output: &mut [u8] = &mut room;
+/// No lock is held: what the session took it gave back.
+fn check_locks<'h>(
+    desk: &mut LoneDesk<Heap<'h>>,
+    transcript: &Transcript<Heap<'h>>,
+) -> Result<(), Fail> {
+    let (got, given) = locks_of(transcript);
+    check(got == given, "a lock is not given back")?;
+    let (_, outcome) = taken(desk)?;
+    check(
+        matches!(&outcome, Outcome::Taken(_)),
+        "the desk holds a lock",
+    )
+}
+
+impl Served {
+    /// Serves the session, some of whose requests for memory may be refused.
+    fn serve<'h>(
+        &self,
+        heap: Heap<'h>,
+        refusal: Refusal,
+        desk: &mut LoneDesk<Heap<'h>>,
+        mut output: &mut [u8],
+    ) -> Result<Transcript<Heap<'h>>, Fail> {
+        let stamp = lone_stamp()?;
+        let accounts = accounts(heap)?;
         heap.refuse(refusal);
         let transcript = serve(
             heap,
             &mut self.lines.as_bytes(),
             &mut output,
             &accounts,
-            lone_stamp()?,
-            &mut desk,
+            stamp,
+            desk,
             &mut OpenGate,
         );
         heap.grant_all();
+        Ok(transcript)
+    }
+
+    /// What is written is a front of the replies, as long as the transcript says.
+    fn check_written(
+        &self,
+        heap: Heap,
+        transcript: &Transcript<Heap>,
+        room: &[u8],
+    ) -> Result<(), Fail> {
         let count = usize::try_from(transcript.count).ok().ok_or("too many")?;
         let (written, rest) = room.split_at_checked(count).ok_or("too many")?;
         let is_front = self.replies.as_bytes().starts_with(written)
             && rest.iter().all(|byte| *byte == 0)
             && is_end(heap, transcript.end, count == self.replies.len());
-        let (got, given) = locks_of(&transcript);
-        let (_, outcome) = desk.perform(alice()?, Op::Take).ok_or("no ticket")?;
-        let is_free = matches!(&outcome, Outcome::Taken(_));
-        drop(outcome);
-        check(is_front, "other replies, or another end")?;
-        check(got == given, "a lock is not given back")?;
-        check(is_free, "the desk holds a lock")
+        check(is_front, "other replies, or another end")
+    }
+}
+
+impl Scenario for Served {
+    fn run(&self, heap: Heap, refusal: Refusal) -> Result<(), Fail> {
+        let mut room = [0u8; 300];
+        let mut desk = desk_of_two(heap)?;
+        let transcript = self.serve(heap, refusal, &mut desk, &mut room)?;
+        self.check_written(heap, &transcript, &room)?;
+        check_locks(&mut desk, &transcript)
     }
 }
 
