@@ -60,37 +60,55 @@ impl Doomed {
             None => self.settle(),
         }
     }
+
+    /// All these happen.
+    fn happen_all(&mut self, alloc: Global, happenings: &[Happening]) -> Result<(), Fail> {
+        for happening in happenings {
+            self.happen(alloc, *happening)?;
+        }
+        Ok(())
+    }
 }
 
 /// The service before the run, a node of which stops before the event at this place.
 fn doomed_service(alloc: Global, number: u8, place: usize) -> Result<Doomed, Fail> {
-    let world = new_service(alloc)?;
     let node = node(number)?;
     Ok(Doomed {
-        world,
+        world: new_service(alloc)?,
         node,
         left: Some(place),
     })
 }
 
-/// The service behind the run, where a node stops before the event at this place.
-fn after_crash(alloc: Global, number: u8, place: usize) -> Result<World, Fail> {
-    let mut doomed = doomed_service(alloc, number, place)?;
-    for happening in RUN {
-        doomed.happen(alloc, *happening)?;
+fn check_told(world: &World, is_whole: bool) -> Result<(), Fail> {
+    if is_whole {
+        check_whole(world)
+    } else {
+        check_front(world)
     }
-    Ok(doomed.world)
+}
+
+/// The session is told no more where a node stops before the event at this place, and all where it stops behind the last.
+fn check_crash(alloc: Global, number: u8, place: usize, events: usize) -> Result<(), Fail> {
+    let mut doomed = doomed_service(alloc, number, place)?;
+    doomed.happen_all(alloc, RUN)?;
+    check_told(&doomed.world, place == events)
+}
+
+/// How many events the run has.
+fn count_events(alloc: Global) -> Result<usize, Fail> {
+    let events = events_of(alloc)?;
+    Ok(events.len())
 }
 
 #[test]
 fn a_session_is_told_no_more_than_before_a_crash(rt: HostRuntime) -> Result<(), Fail> {
     let alloc = rt.alloc();
-    let events = events_of(alloc)?.len();
+    let events = count_events(alloc)?;
     for number in 1..=2 {
-        for place in 0..events {
-            check_front(&after_crash(alloc, number, place)?)?;
+        for place in 0..=events {
+            check_crash(alloc, number, place, events)?;
         }
-        check_whole(&after_crash(alloc, number, events)?)?;
     }
     Ok(())
 }

@@ -73,16 +73,16 @@ pub fn session() -> SessionId {
     SessionId::new(1)
 }
 
-/// The accounts of the two users.
-fn accounts<A: Allocator + Copy>(alloc: A) -> Result<Accounts<A>, Fail> {
-    Ok(Accounts::read(alloc, b"alice pass s3\nbob pass s4\n")?)
+/// The accounts of these rows.
+fn accounts_of<A: Allocator + Copy>(alloc: A, rows: &[u8]) -> Result<Accounts<A>, Fail> {
+    Ok(Accounts::read(alloc, rows)?)
 }
 
 /// What the service begins with.
 pub fn config<A: Allocator + Copy>(alloc: A) -> Result<Config<A>, Fail>
     ensures { IfOk result (λ config. config.window ≡ 10) }
 {
-    let accounts = accounts(alloc)?;
+    let accounts = accounts_of(alloc, b"alice pass s3\nbob pass s4\n")?;
     let limits = Limits::new(1_000, 1_000_000, 1_000_000).ok_or("no limits")?;
     let cluster = Cluster::new(3).ok_or("no cluster")?;
     Ok(Config {
@@ -108,8 +108,8 @@ pub fn event_of<A: Allocator + Copy>(
         Happening::Crash(number) => Event::Crash(node(number)?),
         Happening::Campaign(number) => Event::Campaign(node(number)?),
         Happening::Mail(number, user, lines) => mail_of(alloc, number, user, lines)?,
-        Happening::Connect(number) => connect_of(number)?,
-        Happening::Line(words) => line_of(words)?,
+        Happening::Connect(number) => connect_of(session(), number)?,
+        Happening::Line(words) => line_of(session(), words)?,
         Happening::Hangup => Event::Hangup { session: session() },
         Happening::Settle(_) => return Ok(None),
     }))
@@ -129,17 +129,19 @@ fn mail_of<A: Allocator + Copy>(
     })
 }
 
-fn connect_of<A: Allocator>(number: u8) -> Result<Event<A>, Fail> {
+/// A client connects to a node.
+pub fn connect_of<A: Allocator>(session: SessionId, number: u8) -> Result<Event<A>, Fail> {
     Ok(Event::Connect {
-        session: session(),
+        session,
         node: node(number)?,
         stamp: stamp(b"n.1", b"mail.test").ok_or("no stamp")?,
     })
 }
 
-fn line_of<A: Allocator>(words: &str) -> Result<Event<A>, Fail> {
+/// A client sends a line.
+pub fn line_of<A: Allocator>(session: SessionId, words: &str) -> Result<Event<A>, Fail> {
     Ok(Event::Line {
-        session: session(),
+        session,
         line: Line::Whole(LineBytes::new(words.as_bytes()).ok_or("no line")?),
     })
 }

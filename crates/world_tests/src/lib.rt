@@ -7,6 +7,8 @@ mod crash_tests;
 #[cfg(test)]
 mod happenings;
 #[cfg(test)]
+mod lost_tests;
+#[cfg(test)]
 mod memory_tests;
 #[cfg(test)]
 mod refusals;

@@ -1,6 +1,6 @@
 //! The run, whose requests for memory are refused in turn.
 
-use crate::happenings::{LIMIT, RUN, config, event_of};
+use crate::happenings::{Happening, LIMIT, RUN, config, event_of};
 use crate::refusals::is_of_what_is_gone;
 use crate::told::{check_front, check_whole};
 use refusing::Refusal;
@@ -17,11 +17,21 @@ struct Stepped;
 /// The events of the run in order; none where all comes that comes by itself.
 type Events<'h> = Vec<Option<Event<Heap<'h>>>, Heap<'h>>;
 
+fn add<'h>(heap: Heap<'h>, events: &mut Events<'h>, happening: Happening) -> Result<(), Fail> {
+    let event = event_of(heap, happening)?;
+    Ok(events.push(event)?)
+}
+
+fn add_all<'h>(heap: Heap<'h>, events: &mut Events<'h>, run: &[Happening]) -> Result<(), Fail> {
+    for happening in run {
+        add(heap, events, *happening)?;
+    }
+    Ok(())
+}
+
 fn events_of<'h>(heap: Heap<'h>) -> Result<Events<'h>, Fail> {
     let mut events = Vec::new(heap);
-    for happening in RUN {
-        events.push(event_of(heap, *happening)?)?;
-    }
+    add_all(heap, &mut events, RUN)?;
     Ok(events)
 }
 
@@ -43,30 +53,51 @@ fn settle<'h>(heap: Heap<'h>, world: &mut World<Heap<'h>>) -> Result<(), Fail> {
     }
 }
 
+fn happen<'h>(
+    heap: Heap<'h>,
+    world: &mut World<Heap<'h>>,
+    event: Option<Event<Heap<'h>>>,
+) -> Result<(), Fail> {
+    match event {
+        Some(event) => pass(heap, world.step(event)),
+        None => settle(heap, world),
+    }
+}
+
 /// All events happen, what is refused behind a refused request is passed over.
 fn play<'h>(heap: Heap<'h>, world: &mut World<Heap<'h>>, events: Events<'h>) -> Result<(), Fail> {
     for event in events {
-        match event {
-            Some(event) => pass(heap, world.step(event))?,
-            None => settle(heap, world)?,
-        }
+        happen(heap, world, event)?;
     }
     Ok(())
 }
 
+/// The session was told all, or how that begins where a request was refused.
+fn check_told<'h>(heap: Heap<'h>, world: &World<Heap<'h>>) -> Result<(), Fail> {
+    if heap.has_refused() {
+        check_front(world)
+    } else {
+        check_whole(world)
+    }
+}
+
+fn check_run<'h>(
+    heap: Heap<'h>,
+    mut world: World<Heap<'h>>,
+    events: Events<'h>,
+) -> Result<(), Fail> {
+    play(heap, &mut world, events)?;
+    check_told(heap, &world)
+}
+
 impl Scenario for Stepped {
     fn run(&self, heap: Heap, refusal: Refusal) -> Result<(), Fail> {
-        let config = config(heap)?;
         let events = events_of(heap)?;
+        let config = config(heap)?;
         heap.refuse(refusal);
-        let Ok(mut world) = World::new(heap, config) else {
-            return check(heap.has_refused(), "there is no service");
-        };
-        play(heap, &mut world, events)?;
-        if heap.has_refused() {
-            check_front(&world)
-        } else {
-            check_whole(&world)
+        match World::new(heap, config) {
+            Ok(world) => check_run(heap, world, events),
+            Err(_) => check(heap.has_refused(), "there is no service"),
         }
     }
 }

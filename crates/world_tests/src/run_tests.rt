@@ -78,14 +78,24 @@ fn note_all(world: &mut World, events: &mut Vec<Event>) -> Result<(), Fail> {
     Err("events come by themselves without end")?
 }
 
+/// The run happens, and is noted.
+fn note_run(
+    alloc: Global,
+    world: &mut World,
+    events: &mut Vec<Event>,
+    happenings: &[Happening],
+) -> Result<(), Fail> {
+    for happening in happenings {
+        note(alloc, world, events, *happening)?;
+    }
+    check_whole(world)
+}
+
 /// The events of the run.
 pub fn events_of(alloc: Global) -> Result<Vec<Event>, Fail> {
     let mut world = new_service(alloc)?;
     let mut events = Vec::new(alloc);
-    for happening in RUN {
-        note(alloc, &mut world, &mut events, *happening)?;
-    }
-    check_whole(&world)?;
+    note_run(alloc, &mut world, &mut events, RUN)?;
     Ok(events)
 }
 
@@ -101,12 +111,17 @@ fn step(alloc: Global, world: &mut World, happening: Happening) -> Result<(), Fa
     )
 }
 
+fn step_all(alloc: Global, world: &mut World, happenings: &[Happening]) -> Result<(), Fail> {
+    for happening in happenings {
+        step(alloc, world, *happening)?;
+    }
+    Ok(())
+}
+
 /// The service behind these.
 fn service_behind(alloc: Global, happenings: &[Happening]) -> Result<World, Fail> {
     let mut world = new_service(alloc)?;
-    for happening in happenings {
-        step(alloc, &mut world, *happening)?;
-    }
+    step_all(alloc, &mut world, happenings)?;
     Ok(world)
 }
 
@@ -114,12 +129,17 @@ fn check_node(world: &World, number: u8) -> Result<(), Fail> {
     check_performed(world.performed(node(number)?).ok_or("the node is down")?)
 }
 
+/// The session was told all, and nodes 1 and 2 have performed all.
+fn check_run(world: &World) -> Result<(), Fail> {
+    check_whole(world)?;
+    check_node(world, 1)?;
+    check_node(world, 2)
+}
+
 #[test]
 fn a_service_takes_the_run_event_by_event(rt: HostRuntime) -> Result<(), Fail> {
     let world = service_behind(rt.alloc(), RUN)?;
-    check_whole(&world)?;
-    check_node(&world, 1)?;
-    check_node(&world, 2)
+    check_run(&world)
 }
 
 fn check_replies(runs: &Runs) -> Result<(), Fail> {
@@ -160,9 +180,13 @@ fn check_last_ticket(world: &World, user: &str, expected: Option<Ticket>) -> Res
     )
 }
 
+fn check_tickets(world: &World) -> Result<(), Fail> {
+    check_last_ticket(world, "alice", Some(node_ticket(2, 2)?))?;
+    check_last_ticket(world, "bob", None)
+}
+
 #[test]
 fn a_crash_forgets_no_ticket(rt: HostRuntime) -> Result<(), Fail> {
     let world = service_behind(rt.alloc(), STOPPED)?;
-    check_last_ticket(&world, "alice", Some(node_ticket(2, 2)?))?;
-    check_last_ticket(&world, "bob", None)
+    check_tickets(&world)
 }

@@ -101,20 +101,29 @@ fn step<'h>(heap: Heap<'h>, world: &mut World<Heap<'h>>, happening: Happening) -
     }
 }
 
-/// The service behind these.
-fn service_behind<'h>(heap: Heap<'h>, before: &[Happening]) -> Result<World<Heap<'h>>, Fail> {
-    let mut world = World::new(heap, config(heap)?)?;
-    for happening in before {
-        step(heap, &mut world, *happening)?;
+fn step_all<'h>(
+    heap: Heap<'h>,
+    world: &mut World<Heap<'h>>,
+    happenings: &[Happening],
+) -> Result<(), Fail> {
+    for happening in happenings {
+        step(heap, world, *happening)?;
     }
+    Ok(())
+}
+
+/// The service behind these.
+pub fn service_behind<'h>(heap: Heap<'h>, before: &[Happening]) -> Result<World<Heap<'h>>, Fail> {
+    let mut world = World::new(heap, config(heap)?)?;
+    step_all(heap, &mut world, before)?;
     Ok(world)
 }
 
-/// The node tells how much it performed and its last ticket, or neither.
-fn check_told<A: Allocator + Copy>(
-    world: &World<A>,
-    expected: Option<(usize, u64)>,
-) -> Result<(), Fail> {
+/// How many commands a node has performed, and the number of its last ticket for alice.
+type Told = (usize, u64);
+
+/// The node tells this, or nothing.
+fn check_told<A: Allocator + Copy>(world: &World<A>, expected: Option<Told>) -> Result<(), Fail> {
     let node = node(STOPPING)?;
     let performed = world.performed(node).map(|performed| performed.len());
     let ticket = world
@@ -126,28 +135,60 @@ fn check_told<A: Allocator + Copy>(
     )
 }
 
-impl Scenario for Last {
-    fn run(&self, heap: Heap, refusal: Refusal) -> Result<(), Fail> {
-        let told = Some((self.performed, self.ticket));
-        let mut world = service_behind(heap, self.before)?;
-        let event = match event_of(heap, self.event)? {
-            Some(event) => event,
-            None => world.next_oldest(0).ok_or("nothing comes by itself")?,
-        };
+/// The event that happens; of what comes by itself the oldest.
+fn next_event<'h>(
+    heap: Heap<'h>,
+    world: &World<Heap<'h>>,
+    happening: Happening,
+) -> Result<Event<Heap<'h>>, Fail> {
+    match event_of(heap, happening)? {
+        Some(event) => Ok(event),
+        None => Ok(world.next_oldest(0).ok_or("nothing comes by itself")?),
+    }
+}
+
+/// The node has told this, and tells it once it has crashed.
+fn check_crash<A: Allocator + Copy>(world: &mut World<A>, told: Told) -> Result<(), Fail> {
+    check_told(world, Some(told))?;
+    match world.step(Event::Crash(node(STOPPING)?)) {
+        Ok(()) | Err(Refused::Down) => check_told(world, Some(told)),
+        Err(reason) => Err(reason)?,
+    }
+}
+
+/// The node tells this behind the event, or nothing where there was no memory.
+fn check_behind<A: Allocator + Copy>(
+    world: &mut World<A>,
+    happened: Result<(), Refused>,
+    told: Told,
+) -> Result<(), Fail> {
+    match happened {
+        Ok(()) => check_crash(world, told),
+        Err(Refused::Memory) => check_told(world, None),
+        Err(reason) => Err(reason)?,
+    }
+}
+
+impl Last {
+    /// The event happens, some of whose requests may be refused.
+    fn happen<'h>(
+        &self,
+        heap: Heap<'h>,
+        refusal: Refusal,
+        world: &mut World<Heap<'h>>,
+    ) -> Result<(), Fail> {
+        let event = next_event(heap, world, self.event)?;
         heap.refuse(refusal);
         let happened = world.step(event);
         heap.grant_all();
-        match happened {
-            Ok(()) => {
-                check_told(&world, told)?;
-                match world.step(Event::Crash(node(STOPPING)?)) {
-                    Ok(()) | Err(Refused::Down) => check_told(&world, told),
-                    Err(reason) => Err(reason)?,
-                }
-            }
-            Err(Refused::Memory) => check_told(&world, None),
-            Err(reason) => Err(reason)?,
-        }
+        check_behind(world, happened, (self.performed, self.ticket))
+    }
+}
+
+impl Scenario for Last {
+    fn run(&self, heap: Heap, refusal: Refusal) -> Result<(), Fail> {
+        let mut world = service_behind(heap, self.before)?;
+        self.happen(heap, refusal, &mut world)
     }
 }
 

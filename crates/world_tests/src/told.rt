@@ -4,10 +4,11 @@ use crate::happenings::{TOLD, session};
 use samples::check;
 use std::alloc::Allocator;
 use std::test::Fail;
-use world::World;
+use world::{SessionId, World};
 
-fn told<A: Allocator + Copy>(world: &World<A>) -> &[u8] {
-    match world.replies(session()) {
+/// All that a session was told.
+pub fn told<A: Allocator + Copy>(world: &World<A>, session: SessionId) -> &[u8] {
+    match world.replies(session) {
         Some(bytes) => bytes,
         None => b"",
     }
@@ -15,13 +16,16 @@ fn told<A: Allocator + Copy>(world: &World<A>) -> &[u8] {
 
 /// The session was told all.
 pub fn check_whole<A: Allocator + Copy>(world: &World<A>) -> Result<(), Fail> {
-    check(told(world) == TOLD, "the session is told something else")
+    check(
+        told(world, session()) == TOLD,
+        "the session is told something else",
+    )
 }
 
 /// The session was told how that begins.
 pub fn check_front<A: Allocator + Copy>(world: &World<A>) -> Result<(), Fail> {
     check(
-        TOLD.starts_with(told(world)),
+        TOLD.starts_with(told(world, session())),
         "the session is told something that isn't how the run's replies begin",
     )
 }
