@@ -88,11 +88,19 @@ fn check_told(world: &World, is_whole: bool) -> Result<(), Fail> {
     }
 }
 
-/// The session is told no more where a node stops before the event at this place, and all where it stops behind the last.
+/// The session is told no more where a node stops before the event at this place, and all where there is no such event.
 fn check_crash(alloc: Global, number: u8, place: usize, events: usize) -> Result<(), Fail> {
     let mut doomed = doomed_service(alloc, number, place)?;
     doomed.happen_all(alloc, RUN)?;
     check_told(&doomed.world, place == events)
+}
+
+/// A node stops before each event of the run in turn, and in one more run not at all.
+fn check_crashes(alloc: Global, number: u8, events: usize) -> Result<(), Fail> {
+    for place in 0..=events {
+        check_crash(alloc, number, place, events)?;
+    }
+    Ok(())
 }
 
 /// How many events the run has.
@@ -106,9 +114,7 @@ fn a_session_is_told_no_more_than_before_a_crash(rt: HostRuntime) -> Result<(), 
     let alloc = rt.alloc();
     let events = count_events(alloc)?;
     for number in 1..=2 {
-        for place in 0..=events {
-            check_crash(alloc, number, place, events)?;
-        }
+        check_crashes(alloc, number, events)?;
     }
     Ok(())
 }

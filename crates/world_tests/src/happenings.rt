@@ -29,7 +29,7 @@ pub enum Happening {
     Line(&'static str),
     /// The client is gone.
     Hangup,
-    /// All comes that comes by itself, which is so many events.
+    /// So many events come by themselves: in the run all that do.
     Settle(u64),
 }
 

@@ -157,14 +157,15 @@ fn check_crash<A: Allocator + Copy>(world: &mut World<A>, told: Told) -> Result<
 }
 
 /// The node tells this behind the event, or nothing where there was no memory.
-fn check_behind<A: Allocator + Copy>(
-    world: &mut World<A>,
+fn check_behind<'h>(
+    heap: Heap<'h>,
+    world: &mut World<Heap<'h>>,
     happened: Result<(), Refused>,
     told: Told,
 ) -> Result<(), Fail> {
     match happened {
         Ok(()) => check_crash(world, told),
-        Err(Refused::Memory) => check_told(world, None),
+        Err(Refused::Memory) if heap.has_refused() => check_told(world, None),
         Err(reason) => Err(reason)?,
     }
 }
@@ -181,7 +182,7 @@ impl Last {
         heap.refuse(refusal);
         let happened = world.step(event);
         heap.grant_all();
-        check_behind(world, happened, (self.performed, self.ticket))
+        check_behind(heap, world, happened, (self.performed, self.ticket))
     }
 }
 
