@@ -205,11 +205,20 @@ fn performed(alloc: Global, office: &mut Office, kind: Kind, number: u64) -> Res
     Ok(perform(office, &command)?)
 }
 
-/// The outcome is the same as its copy, and none of the earlier ones.
+/// The copy is what is expected, as the outcome is.
+fn check_copy(outcome: &Outcome, copy: &Outcome, expected: Short) -> Result<(), Fail> {
+    let is_expected = in_short(outcome) == expected && in_short(copy) == expected;
+    check(is_expected, "another outcome")?;
+    let are_same = outcome.same(copy) && copy.same(outcome);
+    check(are_same, "another copy")
+}
+
+/// The outcome is the expected one, the same as its copy, and none of the earlier ones.
 fn check_outcome(outcome: &Outcome, earlier: &[Outcome], expected: Short) -> Result<(), Fail> {
-    check(in_short(outcome) == expected, "another outcome")?;
-    check(outcome.same(&outcome.copy()?), "another copy")?;
-    let is_new = earlier.iter().all(|other| !outcome.same(other));
+    check_copy(outcome, &outcome.copy()?, expected)?;
+    let is_new = earlier
+        .iter()
+        .all(|other| !outcome.same(other) && !other.same(outcome));
     check(is_new, "an earlier outcome")
 }
 
