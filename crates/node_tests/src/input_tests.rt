@@ -5,8 +5,7 @@ use maildrop::{Command, Op, Shared, SharedCommand};
 use node::{Input, Node, Outputs, Stopped};
 use refusing::Refusal;
 use samples::{
-    Heap, Scenario, alice, ballot, check, limits, name, node, node_ticket, refuse, requests, slot,
-    three,
+    Heap, Scenario, alice, ballot, check, limits, name, node, node_ticket, requests, slot, three,
 };
 use std::test::Fail;
 

@@ -11,7 +11,7 @@ use session::{Session, SessionError, Step};
 use std::test::Fail;
 
 /// A line of the client.
-pub fn whole(line: &str) -> Result<Line, Fail> {
+fn whole(line: &str) -> Result<Line, Fail> {
     Ok(Line::Whole(LineBytes::new(line.as_bytes()).ok_or("too long")?))
 }
 
@@ -115,7 +115,7 @@ pub enum Done {
 }
 
 /// Whether a session did this.
-pub fn is_done(done: Done, step: &Step<Heap>) -> bool {
+fn is_done(done: Done, step: &Step<Heap>) -> bool {
     match (step, done) {
         (Step::Say(bytes), Done::Says(reply)) => bytes.get() == reply.as_bytes(),
         (Step::SayAndClose(bytes), Done::SaysAndCloses(reply)) => bytes.get() == reply.as_bytes(),
