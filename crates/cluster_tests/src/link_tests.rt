@@ -3,7 +3,8 @@ ghost use Rattle.std.specs.Prelude.{◌≡◌, IsTrue};
 ghost use Rattle.maildrop.specs.Name.{are_different};
 
 use crate::services::{
-    Flag, alone, deliver, desk_of, end_watch, new_flag, node, setup_of, start_watch, wait_for,
+    Flag, alone, desk_of, end_watch, mail_to_leader, new_flag, node, setup_of, start_watch,
+    wait_for,
 };
 use ballot::{Envelope, Message, NodeId};
 use cluster::{Cluster, Deployment, Link, NodeDesk, Setup};
@@ -123,7 +124,7 @@ fn end_postman<R: Threads + Wait>(rt: &R, postman: Postman) {
     postman.thread.join(rt);
 }
 
-/// Node 1 leads, and a message is stored there.
+/// Node 1 leads, and a message is stored there, while the postman carries parcels.
 fn mail<
     D: Deployment + Send + Sync + 'static,
     R: Threads + Wait + Clock + Copy + Send + Sync + 'static,
@@ -133,10 +134,8 @@ fn mail<
     cluster: &Cluster<D, R, Posted<R>>,
     parcels: Receiver<Parcel>,
 ) -> Result<(), Fail> {
-    let mut desk = desk_of(cluster, 1)?;
-    let postman = start_postman(rt, alloc, &desk, parcels)?;
-    desk.campaign();
-    let outcome = deliver(alloc, &mut desk, "alice", &["hi"], 1);
+    let postman = start_postman(rt, alloc, &desk_of(cluster, 1)?, parcels)?;
+    let outcome = mail_to_leader(alloc, cluster);
     end_postman(&rt, postman);
     outcome
 }

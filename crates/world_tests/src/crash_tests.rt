@@ -3,7 +3,7 @@
 use crate::happenings::{Happening, LIMIT, RUN, event_of, new_service};
 use crate::refusals::is_of_what_is_gone;
 use crate::run_tests::events_of;
-use crate::told::{check_front, check_whole};
+use crate::told::check_told;
 use ballot::NodeId;
 use samples::node;
 use std::alloc::Global;
@@ -78,14 +78,6 @@ fn doomed_service(alloc: Global, number: u8, place: usize) -> Result<Doomed, Fai
         node,
         left: Some(place),
     })
-}
-
-fn check_told(world: &World, is_whole: bool) -> Result<(), Fail> {
-    if is_whole {
-        check_whole(world)
-    } else {
-        check_front(world)
-    }
 }
 
 /// The session is told no more where a node stops before the event at this place, and all where there is no such event.

@@ -2,7 +2,7 @@
 
 use crate::happenings::{Happening, LIMIT, RUN, config, event_of};
 use crate::refusals::is_of_what_is_gone;
-use crate::told::{check_front, check_whole};
+use crate::told::check_told;
 use refusing::Refusal;
 use samples::{Heap, Scenario, check, requests};
 use std::test::Fail;
@@ -72,22 +72,14 @@ fn play<'h>(heap: Heap<'h>, world: &mut World<Heap<'h>>, events: Events<'h>) -> 
     Ok(())
 }
 
-/// The session was told all, or how that begins where a request was refused.
-fn check_told<'h>(heap: Heap<'h>, world: &World<Heap<'h>>) -> Result<(), Fail> {
-    if heap.has_refused() {
-        check_front(world)
-    } else {
-        check_whole(world)
-    }
-}
-
+/// The session is told all, or how that begins where a request is refused.
 fn check_run<'h>(
     heap: Heap<'h>,
     mut world: World<Heap<'h>>,
     events: Events<'h>,
 ) -> Result<(), Fail> {
     play(heap, &mut world, events)?;
-    check_told(heap, &world)
+    check_told(&world, !heap.has_refused())
 }
 
 impl Scenario for Stepped {

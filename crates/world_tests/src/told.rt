@@ -23,9 +23,18 @@ pub fn check_whole<A: Allocator + Copy>(world: &World<A>) -> Result<(), Fail> {
 }
 
 /// The session was told how that begins.
-pub fn check_front<A: Allocator + Copy>(world: &World<A>) -> Result<(), Fail> {
+fn check_front<A: Allocator + Copy>(world: &World<A>) -> Result<(), Fail> {
     check(
         TOLD.starts_with(told(world, session())),
         "the session is told something that isn't how the run's replies begin",
     )
+}
+
+/// The session was told all or, where that isn't asked for, how it begins.
+pub fn check_told<A: Allocator + Copy>(world: &World<A>, is_whole: bool) -> Result<(), Fail> {
+    if is_whole {
+        check_whole(world)
+    } else {
+        check_front(world)
+    }
 }
