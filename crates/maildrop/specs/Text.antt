@@ -38,3 +38,8 @@ pub record IsText (block : List ℕ) (dots : Bool) : Type 0 where
   pub whole : block ≡ block_of (lines_of block)
   pub are_lines : All IsLine (lines_of block)
   pub dotted : dots ≡ list_any begins_with_dot (lines_of block)
+
+-- a text to which lines are still added, and its room: so many octets of lines are added without asking for memory
+pub record UnfinishedText : Type 0 where
+  pub lines : List (List ℕ)
+  pub room : ℕ

@@ -1,5 +1,5 @@
 //! The texts of messages.
-ghost use Rattle.std.specs.Prelude.{◌≡◌, ◌↔◌, ◌<◌, ◌^◌, length, All, IsTrue, IsSome, IsOk, IfSome, IfOk};
+ghost use Rattle.std.specs.Prelude.{◌≡◌, ◌↔◌, ◌<◌, ◌≤◌, ◌^◌, length, All, IsTrue, IsSome, IsOk, IfSome, IfOk};
 ghost use Rattle.std.specs.List.{list_any};
 ghost use Rattle.maildrop.specs.Same.{same_text};
 ghost use Rattle.maildrop.specs.Text.{IsLine, IsText, begins_with_dot, block_of, lines_of, octets_of};
@@ -115,7 +115,9 @@ fn are_lines<A: Allocator>(lines: &[Items<u8, A>]) -> bool
 }
 
 /// The octets of these lines, each with its CR and LF, as far as a number can tell them.
-fn octets_in<A: Allocator>(lines: &[Items<u8, A>]) -> usize {
+fn octets_in<A: Allocator>(lines: &[Items<u8, A>]) -> usize
+    ensures { result ≤ octets_of lines.now }
+{
     let mut octets = 0usize;
     for line in lines {
         octets = octets.saturating_add(line.len()).saturating_add(2);
@@ -128,7 +130,7 @@ fn text_of<A: Allocator + Copy>(alloc: A, lines: &[Items<u8, A>]) -> Result<Text
     ensures { IfOk result (λ text. text ≡ lines.now) }
 {
     let mut text = TextBuilder::new(alloc);
-    text.reserve(octets_in(lines));
+    text.reserve(octets_in(lines))?;
     for line in lines {
         text.push_line(line.get())?;
     }

@@ -12,7 +12,7 @@ use std::marker::Model;
 /// isn't part of its text.
 #[derive(Drop)]
 pub(crate) struct OpenText<A: Allocator = Global> {
-    lines: TextBuilder<A>,
+    text: TextBuilder<A>,
     holds_empty: bool,
 }
 
@@ -22,9 +22,9 @@ impl<A: Allocator> Model for OpenText<A> {
 
     ghost Value = { List (List ℕ) };
 
-    ghost view = { λ t. if t.holds_empty then t.lines ++ [] ∷ [] else t.lines };
+    ghost view = { λ t. if t.holds_empty then t.text.lines ++ [] ∷ [] else t.text.lines };
 
-    ghost invariant = { λ t. t.holds_empty ≡ false → without_last_empty t.lines ≡ t.lines };
+    ghost invariant = { λ t. t.holds_empty ≡ false → without_last_empty t.text.lines ≡ t.text.lines };
 }
 
 impl<A: Allocator + Copy> OpenText<A> {
@@ -32,10 +32,11 @@ impl<A: Allocator + Copy> OpenText<A> {
     pub(crate) fn new(alloc: A, octets: usize) -> Self
         ensures { result ≡ [] }
     {
-        let mut lines = TextBuilder::new(alloc);
-        lines.reserve(octets);
+        let mut text = TextBuilder::new(alloc);
+        // A guess, so a text for which there isn't as much room grows with its lines.
+        let _ = text.reserve(octets);
         OpenText {
-            lines,
+            text,
             holds_empty: false,
         }
     }
@@ -46,13 +47,13 @@ impl<A: Allocator + Copy> OpenText<A> {
         ensures { OnOk result (self.new ≡ self.old ++ line.now ∷ []) }
     {
         if self.holds_empty {
-            self.lines.push_line(b"")?;
+            self.text.push_line(b"")?;
         }
         if line.is_empty() {
             self.holds_empty = true;
             return Ok(());
         }
-        self.lines.push_line(line)?;
+        self.text.push_line(line)?;
         self.holds_empty = false;
         Ok(())
     }
@@ -61,6 +62,6 @@ impl<A: Allocator + Copy> OpenText<A> {
     pub(crate) fn finish(self) -> Result<Text<A>, Memory>
         ensures { IfOk result (λ text. text ≡ without_last_empty self) }
     {
-        self.lines.finish()
+        self.text.finish()
     }
 }

@@ -83,7 +83,7 @@ fn text_of<A: Allocator + Copy>(alloc: A, stuffed: &[u8]) -> Result<Text<A>, Mem
     ensures value { IfOk result (λ text. stuffed.now ≡ flat_map wire_line text) }
 {
     let mut text = TextBuilder::new(alloc);
-    text.reserve(stuffed.len());
+    text.reserve(stuffed.len())?;
     let mut left = stuffed;
     while let Some((line, rest)) = cut_at_line_end(left) {
         text.push_line(without_dot(line))?;

@@ -36,7 +36,7 @@ pub fn text_of<A: Allocator + Copy>(alloc: A, written: &Rest<'_>) -> Result<Text
 {
     let mut text = TextBuilder::new(alloc);
     let mut rest = written.get();
-    text.reserve(octets_of(rest));
+    text.reserve(octets_of(rest))?;
     while let Some((line, behind)) = cut_at_bar(rest) {
         text.push_line(line)?;
         rest = behind;

@@ -98,7 +98,7 @@ fn message_of<A: Allocator + Copy>(alloc: A) -> Result<Option<Text<A>>, Memory> 
     }
 }
 
-/// A message that is written in one line. A request that only gives memory back may be refused without an error.
+/// A message that is written in one line. It takes a request for its bytes and one to be shared.
 #[derive(Clone, Copy)]
 struct Mail;
 
@@ -118,7 +118,7 @@ impl Scenario for Mail {
 
 #[test]
 fn a_message_is_made_or_refused(rt: HostRuntime) -> Result<(), Fail> {
-    let count = requests(rt.alloc(), &Mail, 6)?;
+    let count = requests(rt.alloc(), &Mail, 2)?;
     println!(rt; "text_of: {count}")?;
     Ok(())
 }

@@ -7,8 +7,8 @@ use Rattle.pop3_wire.proofs.unstuffing.text_of.Given as goal
 -- the lines so far, and those that are left
 abbrev pub invariant-loop-line : goal.invariant-loop-line
 invariant-loop-line g l = record {
-  are_lines : All IsLine l.text;
-  read : l.stuffed ≡ flat_map wire_line l.text ++ l.left;
+  are_lines : All IsLine l.text.lines;
+  read : l.stuffed ≡ flat_map wire_line l.text.lines ++ l.left;
   more : AreStuffed l.left;
 }
 

@@ -6,7 +6,7 @@ use Rattle.script.proofs.mail_text.text_of.Given as goal
 -- the lines so far, and those that are left, are all
 abbrev pub invariant-loop-line : goal.invariant-loop-line
 invariant-loop-line g l = record {
-  lines : lines_of l.written ≡ l.text ++ lines_of l.rest;
+  lines : lines_of l.written ≡ l.text.lines ++ lines_of l.rest;
   line : IsLine l.rest;
 }
 

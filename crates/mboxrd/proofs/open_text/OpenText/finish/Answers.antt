@@ -11,5 +11,5 @@ held false lines none = none refl
 
 pub returns : goal.returns
 returns g c =
-    let all = ap without_last_empty (sym c.self.view_is) ∙ held c.self.inside.holds_empty c.self.inside.lines c.self.invariant in
+    let all = ap without_last_empty (sym c.self.view_is) ∙ held c.self.inside.holds_empty c.self.inside.text.lines c.self.invariant in
     IfOk-weaker c.finish.result _ _ (λ text is. is ∙ sym all) c.finish.ensures
