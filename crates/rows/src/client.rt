@@ -39,6 +39,24 @@ impl Read for Hasty<'_> {
     }
 }
 
+/// Gives what another reader gives, but each read is first interrupted.
+#[derive(Drop)]
+pub struct Interrupted<R> {
+    pub reader: R,
+    pub interrupts_next: bool,
+}
+
+impl<R: Read> Read for Interrupted<R> {
+    fn read(&mut self, buf: &mut [u8]) -> io::Result<usize> {
+        let interrupts = self.interrupts_next;
+        self.interrupts_next = !interrupts;
+        if interrupts {
+            return Err(io::Error::from(io::ErrorKind::Interrupted));
+        }
+        self.reader.read(buf)
+    }
+}
+
 /// A client that sends a line only once it has the replies to those before, but for so many bytes of it, which come with
 /// the line before. Where replies are missing, its input fails.
 #[derive(Drop)]

@@ -1,8 +1,9 @@
 //! Plays a case by `lone_run`, over a plain writer or one that gathers, or by `sim_run`: with a client that awaits each
-//! reply, with one that doesn't, in pieces, and with faults of its reader and writer.
+//! reply, with one that doesn't, in pieces, and with faults of its reader and writer; a script also with
+//! reads that are interrupted.
 
 use crate::case::Case;
-use crate::client::{Hasty, Patient};
+use crate::client::{Hasty, Interrupted, Patient};
 use crate::run::{AT_ONCE, BYTE_BY_BYTE, Run, Taking, Wanted, run_case};
 use std::alloc::{AllocError, Global};
 use std::cell::RefCell;
@@ -220,11 +221,32 @@ fn difference_of(alloc: Global, case: &Case, gathers: bool) -> Result<Option<Str
     torn(alloc, case, gathers)
 }
 
-/// What the runs of a case first do that is not wanted. A session is played once more with its replies gathered.
+/// What a run of a script does that is not wanted where each read is first interrupted.
+fn interrupted(alloc: Global, case: &Case) -> Result<Option<String>, AllocError> {
+    let mut reader = Interrupted {
+        reader: hasty(case, 1),
+        interrupts_next: true,
+    };
+    let wanted = wanted_of(case);
+    played(
+        alloc,
+        "with interrupted reads",
+        case,
+        &mut reader,
+        AT_ONCE,
+        &wanted,
+    )
+}
+
+/// What the runs of a case first do that is not wanted. A session is played once more with its replies gathered, and a
+/// script with reads that are interrupted.
 pub fn difference(alloc: Global, case: &Case) -> Result<Option<String>, AllocError> {
     let found = difference_of(alloc, case, false)?;
-    if found.is_some() || case.is_script {
+    if found.is_some() {
         return Ok(found);
+    }
+    if case.is_script {
+        return interrupted(alloc, case);
     }
     match difference_of(alloc, case, true)? {
         None => Ok(None),

@@ -1,4 +1,5 @@
 pub mod FirstLine
+pub mod Parts
 pub mod Playing
 pub mod Ending
 pub mod Telling

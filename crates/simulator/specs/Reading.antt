@@ -1,5 +1,5 @@
 -- Lines that are read from a reader whose bytes are known. Only private contracts cite this.
-use Rattle.std.specs.Prelude.{◌≡◌, ℕ, ◌+◌, ◌<◌, List, length, nat_lt, Bool, Option, Some}
+use Rattle.std.specs.Prelude.{◌≡◌, ℕ, ◌+◌, ◌<◌, List, ◌++◌, length, nat_lt, Bool, if◌then◌else◌, Option, Some}
 use Rattle.std.specs.Io.BufRead.{take_through, drop_through}
 use Rattle.std.specs.Str.Lines.{lines}
 use Rattle.script.specs.Scripts.{Script}
@@ -12,6 +12,26 @@ pub record IsRead (bytes line : List ℕ) (now : Option (List ℕ)) (there : Boo
   pub first : line ≡ take_through 10 bytes
   pub rest : now ≡ Some (drop_through 10 bytes)
   pub more : there ≡ nat_lt 0 (length line)
+
+-- what was read of the first line of the bytes, and what stands behind that; the line feed is among it, or it goes on
+pub record IsPart (bytes part rest : List ℕ) (whole : Bool) : Type 0 where
+  pub taken : take_through 10 bytes ≡ (if whole then part else part ++ take_through 10 rest)
+  pub dropped : drop_through 10 bytes ≡ (if whole then rest else drop_through 10 rest)
+
+-- what was read of the first line of the bytes was added to a line
+pub record IsPartTaken (bytes line line_now : List ℕ) (now : Option (List ℕ)) (whole : Bool) : Type 0 where
+  pub part : List ℕ
+  pub rest : List ℕ
+  pub added : line_now ≡ line ++ part
+  pub known : now ≡ Some rest
+  pub is : IsPart bytes part rest whole
+
+-- a line of which a part was read: its bytes are that part, and what the rest begins with
+pub record IsBegun (bytes line : List ℕ) (now : Option (List ℕ)) : Type 0 where
+  pub rest : List ℕ
+  pub known : now ≡ Some rest
+  pub taken : take_through 10 bytes ≡ line ++ take_through 10 rest
+  pub dropped : drop_through 10 bytes ≡ drop_through 10 rest
 
 -- as far as the first fault goes, these bytes, from a line and a script on, are the same as those
 pub record IsPlayed (bytes : List ℕ) (number : ℕ) (script : Script) (now : Option (List ℕ)) (later : ℕ) (script_now : Script) : Type 0 where

@@ -1,12 +1,12 @@
 //! `maildropd sim`: plays a script against a whole service, and writes what comes of each line.
 #![tactic(auto)]
 
-mod bounded;
 mod deliveries;
 mod events;
 mod fault;
 mod operations;
 mod play;
+mod reading;
 mod refusal;
 mod report;
 mod run;

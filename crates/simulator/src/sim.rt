@@ -1,19 +1,19 @@
 //! Plays a script, from a reader to a writer.
-ghost use Rattle.std.specs.Prelude.{◌≡◌, ◌≤◌, ◌⊎◌, ℕ, List, [], None, Some, OnOk, IfOk, IfErr, IfSome, is_some, true};
+ghost use Rattle.std.specs.Prelude.{◌≡◌, ◌≤◌, ℕ, List, [], None, Some, OnOk, IfErr, IfSome, is_some, true};
 ghost use Rattle.std.specs.Io.Buffered.{reader_remaining};
 ghost use Rattle.std.specs.Io.KnownBytes.{Appends};
 ghost use Rattle.std.specs.Str.Lines.{lines};
-ghost use Rattle.simulator.specs.Reading.{IsRead, IsPlayedLine, IsStopAt};
+ghost use Rattle.simulator.specs.Reading.{IsPlayedLine, IsStopAt};
 ghost use Rattle.simulator.specs.Statuses as spec;
 
-use crate::bounded::{Bounded, MOST_READS};
 use crate::fault::Fault;
+use crate::reading::{MOST_READS, read_line};
 use crate::report::Report;
 use crate::run::Run;
 use maildrop::next_line;
 use script::ScriptFault;
 use std::alloc::Global;
-use std::io::{BufRead, BufReader, ErrorKind, Read, Write};
+use std::io::{BufReader, Read, Write};
 
 /// From so many bytes on output is written, also where the next line is there already.
 const GATHERED: usize = 65_536;
@@ -55,19 +55,6 @@ fn fault_at(number: u64, fault: ScriptFault) -> Fault
     }
 }
 
-/// Reads the next line into `line`, with its line feed. Gives whether there was one.
-fn read_line<B: BufRead>(reader: &mut B, line: &mut Vec<u8>) -> Result<bool, Fault>
-    ensures known { (bytes : List ℕ) → B.remaining reader.old ≡ Some bytes → IfOk result (λ more. IsRead bytes line.new.items (B.remaining reader.new) more) }
-    ensures fault { IfErr result (λ fault. (fault ≡ Fault.Memory) ⊎ (fault ≡ Fault.Read)) }
-{
-    line.clear();
-    match reader.read_until(b'\n', line) {
-        Ok(count) => Ok(count > 0),
-        Err(error) if error.kind() == ErrorKind::OutOfMemory => Err(Fault::Memory),
-        Err(_) => Err(Fault::Read),
-    }
-}
-
 /// Plays a line of this number, which has its line feed unless it is the last.
 fn play_line(alloc: Global, run: &mut Run, number: u64, line: &[u8]) -> Result<(), Fault>
     ensures goes_on { OnOk result (IsPlayedLine line.now number run.old.script run.new.script) }
@@ -82,7 +69,7 @@ fn play_line(alloc: Global, run: &mut Run, number: u64, line: &[u8]) -> Result<(
     }
 }
 
-/// Plays the lines of a script. What came of them is written before more input is awaited.
+/// Plays the lines of a script, in at most 4,294,967,295 reads. What came of them is written before more input is awaited.
 fn play_lines<R: Read, W: Write>(
     alloc: Global,
     run: &mut Run,
@@ -93,9 +80,10 @@ fn play_lines<R: Read, W: Write>(
     ensures line { IfErr result (λ fault. (bytes : List ℕ) (number : ℕ) → reader_remaining R.remaining reader.old ≡ Some bytes → fault ≡ Fault.Line number → spec.fault_from (lines bytes) 1 run.old.script ≡ Some number) }
 {
     let mut line = Vec::new(alloc);
+    let mut reads_left = MOST_READS;
     for number in 1..u64::MAX {
         write_due(writer, &mut run.report, !reader.buffer().contains(&b'\n'))?;
-        if !read_line(reader, &mut line)? {
+        if !read_line(reader, &mut reads_left, &mut line)? {
             return Ok(());
         }
         if let Err(fault) = play_line(alloc, run, number, line.as_slice()) {
@@ -105,16 +93,12 @@ fn play_lines<R: Read, W: Write>(
     Err(Fault::Read)
 }
 
-/// Plays a script, in at most 4,294,967,295 reads, and writes also what came of it before a fault.
+/// Plays a script, and writes also what came of it before a fault.
 fn run<R: Read, W: Write>(alloc: Global, reader: &mut R, writer: &mut W) -> Result<(), Fault>
     ensures sound { OnOk result (IfSome (R.remaining reader.old) (λ input. spec.first_fault input ≡ None)) }
     ensures line { IfErr result (λ fault. (number : ℕ) → fault ≡ Fault.Line number → IfSome (R.remaining reader.old) (λ input. spec.first_fault input ≡ Some number)) }
 {
-    let bounded = Bounded {
-        reader,
-        left: MOST_READS,
-    };
-    let Ok(mut lines) = BufReader::new(alloc, bounded) else {
+    let Ok(mut lines) = BufReader::new(alloc, reader) else {
         return Err(Fault::Memory);
     };
     let mut run = Run::new(alloc);
