@@ -1,7 +1,7 @@
 -- What stands at the slots 1, 2, .. without a gap, before what stands ahead of it.
 use Rattle.std.proofs.Common.{◌≡◌, ◌≢◌, ℕ, zero, suc, ◌+◌, ◌-◌, ◌<◌, ◌≤◌, List, [], ◌∷◌, ◌++◌, length, Bool, true, false, Option, Some, None, is_some, refl, sym, ap, ◌∙◌, subst, ⊎_elim, arith, cond}
 use Rattle.std.specs.List.{enumerate_from, slice_get}
-use Rattle.std.specs.Ordering.{MatchOrdering, match_ordering, nat_cmp, is_eq}
+use Rattle.std.specs.Ordering.{MatchOrdering, nat_cmp, is_eq}
 use Rattle.std.specs.declared.cmp.Ordering.{Ordering}
 use Rattle.std.specs.declared.cmp.Ordering.TheVariants.{Less, Equal, Greater}
 use Rattle.std.proofs.lemmas.Bool.{cases_eq, cases_lt, true≢false}

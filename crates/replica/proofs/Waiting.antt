@@ -1,11 +1,10 @@
 -- Whether something is awaited that isn't there: taking answers doesn't change that.
-use Rattle.std.proofs.Common.{◌≡◌, List, [], ◌∷◌, map, Bool, true, false, Option, Some, None, is_none, ◌⊎◌, inl, inr, refl, sym, ap, ◌∙◌, cond}
+use Rattle.std.proofs.Common.{◌≡◌, List, [], ◌∷◌, Bool, true, false, Option, Some, None, is_none, inl, inr, refl, sym, ap, cond}
 use Rattle.std.specs.Prelude.{◌||◌}
 use Rattle.std.specs.Map.{lookup}
 use Rattle.std.specs.BTreeMap.{is_at}
 use Rattle.std.specs.Cmp.{IsTotalOrder}
 use Rattle.std.specs.Ordering.{is_eq}
-use Rattle.std.proofs.lemmas.Bool.{true≢false}
 use Rattle.std.proofs.lemmas.Cmp.{tied_itself}
 use Rattle.replica.specs.Replicas.{Rules, ReplicaState, is_waiting}
 use Rattle.replica.specs.Calls.{awaited_for, Ascend}

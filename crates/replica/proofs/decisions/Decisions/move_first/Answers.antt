@@ -1,5 +1,5 @@
-use Rattle.std.proofs.Common.{◌≡◌, ◌+◌, ◌∙◌, ap, subst, sym, rules, arith, length, ℕ, List, [], ◌∷◌, ◌++◌, None}
-use Rattle.std.specs.List.{slice_get, enumerate_from}
+use Rattle.std.proofs.Common.{◌≡◌, ◌+◌, ◌∙◌, ap, subst, sym, rules, arith, length, List, [], ◌∷◌, ◌++◌, None}
+use Rattle.std.specs.List.{enumerate_from}
 use Rattle.replica.specs.Replicas.{at_slot, IsAhead}
 use Rattle.replica.proofs.Gapless.{moves, left_ahead}
 use Rattle.replica.proofs.decisions.Decisions.move_first.Goals as goal
