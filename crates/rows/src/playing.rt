@@ -173,6 +173,20 @@ fn cramped(
     Ok(None)
 }
 
+/// The first difference of the runs whose writer is full at each place.
+fn cramped_anywhere(
+    alloc: Global,
+    case: &Case,
+    gathers: bool,
+) -> Result<Option<String>, AllocError> {
+    for room in 0..case.wanted.len() {
+        if let Some(found) = cramped(alloc, case, gathers, room)? {
+            return Ok(Some(found));
+        }
+    }
+    Ok(None)
+}
+
 /// The first difference of the runs that cut, break or cramp the session at each place.
 fn torn(alloc: Global, case: &Case, gathers: bool) -> Result<Option<String>, AllocError> {
     for at in 0..case.sent.len() {
@@ -180,12 +194,7 @@ fn torn(alloc: Global, case: &Case, gathers: bool) -> Result<Option<String>, All
             return Ok(Some(found));
         }
     }
-    for room in 0..case.wanted.len() {
-        if let Some(found) = cramped(alloc, case, gathers, room)? {
-            return Ok(Some(found));
-        }
-    }
-    Ok(None)
+    cramped_anywhere(alloc, case, gathers)
 }
 
 /// What the runs of a case first do that is not wanted, where the replies are gathered or not.
@@ -238,6 +247,15 @@ fn interrupted(alloc: Global, case: &Case) -> Result<Option<String>, AllocError>
     )
 }
 
+/// What the runs that are for scripts alone first do that is not wanted: a write that fails comes before a line at fault.
+fn script_difference(alloc: Global, case: &Case) -> Result<Option<String>, AllocError> {
+    let found = interrupted(alloc, case)?;
+    if found.is_some() || case.status == 0 || case.only.is_some() || size_of(case) > SHORT {
+        return Ok(found);
+    }
+    cramped_anywhere(alloc, case, false)
+}
+
 /// What the runs of a case first do that is not wanted. A session is played once more with its replies gathered, and a
 /// script with reads that are interrupted.
 pub fn difference(alloc: Global, case: &Case) -> Result<Option<String>, AllocError> {
@@ -246,7 +264,7 @@ pub fn difference(alloc: Global, case: &Case) -> Result<Option<String>, AllocErr
         return Ok(found);
     }
     if case.is_script {
-        return interrupted(alloc, case);
+        return script_difference(alloc, case);
     }
     match difference_of(alloc, case, true)? {
         None => Ok(None),
