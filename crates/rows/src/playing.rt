@@ -1,6 +1,6 @@
 //! Plays a case by `lone_run`, over a plain writer or one that gathers, or by `sim_run`: with a client that awaits each
-//! reply, with one that doesn't, in pieces, and with faults of its reader and writer; a script also with
-//! reads that are interrupted.
+//! reply, with one that doesn't, in pieces, and with faults of its reader and writer; a script also with reads that are
+//! interrupted, and one with a line at fault with a full writer.
 
 use crate::case::Case;
 use crate::client::{Hasty, Interrupted, Patient};
@@ -257,7 +257,7 @@ fn script_difference(alloc: Global, case: &Case) -> Result<Option<String>, Alloc
 }
 
 /// What the runs of a case first do that is not wanted. A session is played once more with its replies gathered, and a
-/// script with reads that are interrupted.
+/// script in the ways that are for scripts alone.
 pub fn difference(alloc: Global, case: &Case) -> Result<Option<String>, AllocError> {
     let found = difference_of(alloc, case, false)?;
     if found.is_some() {
