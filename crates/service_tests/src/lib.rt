@@ -1,20 +1,19 @@
-//! Tests of sessions that no case of text can say: requests for memory that are refused, what a gate sees, what a
-//! transcript keeps, and which replies go out together. There is nothing here but tests.
+//! Tests of the service over TCP, with both ends in one process. There is nothing here but tests.
 #![tactic(auto)]
 
 #[cfg(test)]
-mod desks;
+mod clients;
 #[cfg(test)]
-mod gate_tests;
+mod hostile_tests;
 #[cfg(test)]
-mod gathering_tests;
+mod operator_tests;
 #[cfg(test)]
-mod line_tests;
+mod plays;
 #[cfg(test)]
-mod login_tests;
+mod running;
 #[cfg(test)]
-mod quit_tests;
+mod session_tests;
 #[cfg(test)]
-mod serve_tests;
+mod start_tests;
 #[cfg(test)]
-mod sessions;
+mod text_tests;
