@@ -1,10 +1,8 @@
 //! Scripts that are read line by line.
 
-use ballot::Memory;
-use maildrop::{Text, next_line};
 use refusing::Refusal;
 use samples::{Heap, Scenario, check, requests};
-use script::{Command, Script, ScriptFault, Statement, parse, text_of};
+use script::{Script, ScriptFault};
 use std::alloc::Allocator;
 use std::test::Fail;
 
@@ -22,18 +20,16 @@ struct Read {
 }
 
 /// How many commands there are, or the first fault.
-fn commands_of<A: Allocator + Copy>(script: &mut Script<A>, text: &[u8]) -> Result<u64, At> {
-    let mut rest = text;
+fn commands_of<A: Allocator + Copy>(script: &mut Script<A>, text: &str) -> Result<u64, At> {
     let mut number: u64 = 0;
     let mut commands: u64 = 0;
-    while let Some((line, behind)) = next_line(rest) {
+    for line in text.lines() {
         number = number.saturating_add(1);
-        match script.read(line) {
+        match script.read(line.as_bytes()) {
             Ok(None) => {}
             Ok(Some(_)) => commands = commands.saturating_add(1),
             Err(fault) => return Err((number, fault)),
         }
-        rest = behind;
     }
     Ok(commands)
 }
@@ -42,7 +38,7 @@ impl Scenario for Read {
     fn run(&self, heap: Heap, refusal: Refusal) -> Result<(), Fail> {
         let mut script = Script::new(heap);
         heap.refuse(refusal);
-        let answer = commands_of(&mut script, self.text.as_bytes());
+        let answer = commands_of(&mut script, self.text);
         heap.grant_all();
         let rows = script.settings().account_rows();
         let is_right = match (&answer, self.answer) {
@@ -81,44 +77,5 @@ fn a_script_is_refused_or_read_whole(rt: HostRuntime) -> Result<(), Fail> {
         let count = requests(rt.alloc(), &Read { text, answer }, most)?;
         println!(rt; "Script::read, {text:?}: {count}")?;
     }
-    Ok(())
-}
-
-/// The message of the one line of a script.
-fn message_of<A: Allocator + Copy>(alloc: A) -> Result<Option<Text<A>>, Memory> {
-    let Some((line, _)) = next_line(b"mail 1 alice Subject: x||.hi") else {
-        return Ok(None);
-    };
-    match parse(line) {
-        Ok(Some(Statement::Command(command))) => match &command {
-            Command::Mail { written, .. } => Ok(Some(text_of(alloc, written)?)),
-            _ => Ok(None),
-        },
-        _ => Ok(None),
-    }
-}
-
-/// A message that is written in one line. It takes a request for its bytes and one to be shared.
-#[derive(Clone, Copy)]
-struct Mail;
-
-impl Scenario for Mail {
-    fn run(&self, heap: Heap, refusal: Refusal) -> Result<(), Fail> {
-        heap.refuse(refusal);
-        let answer = message_of(heap);
-        heap.grant_all();
-        let is_right = match &answer {
-            Err(_) => heap.has_refused(),
-            Ok(None) => false,
-            Ok(Some(text)) => text.block() == b"Subject: x\r\n\r\n.hi\r\n".as_slice(),
-        };
-        check(is_right, "another message")
-    }
-}
-
-#[test]
-fn a_message_is_made_or_refused(rt: HostRuntime) -> Result<(), Fail> {
-    let count = requests(rt.alloc(), &Mail, 2)?;
-    println!(rt; "text_of: {count}")?;
     Ok(())
 }
