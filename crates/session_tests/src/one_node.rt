@@ -1,13 +1,14 @@
-//! The service.
+//! A service of one node, which is handed its own messages, and which sessions ask.
 use ballot::Envelope;
 use maildrop::{Name, Op, Outcome, Shared, SharedCommand, Ticket};
 use node::{Input, Node, Stopped};
 use samples::{alice, cluster, limits, node};
+use session::{Desk, DeskStopped};
 use std::alloc::Allocator;
 use std::collections::VecDeque;
 use std::test::Fail;
 
-/// How many messages the node is handed at most until an answer is there.
+/// How many messages the node is handed at most after an input.
 const MOST_MESSAGES: u32 = 100;
 
 /// The only node of its cluster, and what it has sent itself, the oldest first.
@@ -38,7 +39,7 @@ impl<A: Allocator + Copy> OneNode<A> {
     }
 
     /// The node takes an input, and what it sends waits for it.
-    pub fn take(&mut self, input: Input<A>) -> Result<Option<Ticket>, Stopped> {
+    fn take(&mut self, input: Input<A>) -> Result<Option<Ticket>, Stopped> {
         let outputs = self.node.step(input)?;
         for envelope in outputs.sends.into_vec() {
             if self.sent.push_back(envelope).is_err() {
@@ -48,35 +49,41 @@ impl<A: Allocator + Copy> OneNode<A> {
         Ok(outputs.ticket)
     }
 
-    /// Hands the node its oldest message, if there is one.
-    fn hand(&mut self) -> Option<()> {
-        let envelope = self.sent.pop_front()?;
-        let _ = self.take(Input::Arrive(envelope)).ok()?;
-        Some(())
-    }
-
-    /// Hands the node its messages until the answer is there, and takes it.
-    pub fn await_answer(&mut self, name: Name, ticket: Ticket) -> Option<Outcome<A>> {
-        for _ in 0..MOST_MESSAGES {
-            let answer = self.node.take_answer(name, ticket);
-            if answer.is_some() {
-                return answer;
-            }
-            self.hand()?;
-        }
-        None
-    }
-
-    /// Has an operation submitted. Gives its ticket, or nothing where the node has stopped.
+    /// Has an operation submitted. Returns its ticket, or nothing if the node has stopped.
     pub fn submit(&mut self, name: Name, op: Op<A>) -> Option<Ticket> {
         let op = Shared::new(self.alloc, op).ok()?;
         self.take(Input::Submit(name, op)).ok()?
     }
 
-    /// Has an operation performed, and awaits its outcome.
-    pub fn perform(&mut self, name: Name, op: Op<A>) -> Option<(Ticket, Outcome<A>)> {
-        let ticket = self.submit(name, op)?;
-        let outcome = self.await_answer(name, ticket)?;
-        Some((ticket, outcome))
+    /// Hands the node its messages, until none waits.
+    pub fn settle(&mut self) {
+        for _ in 0..MOST_MESSAGES {
+            let Some(envelope) = self.sent.pop_front() else {
+                return;
+            };
+            let _untold = self.take(Input::Arrive(envelope));
+        }
+    }
+}
+
+impl<A: Allocator + Copy> Desk<Op<A>, Outcome<A>> for OneNode<A> {
+    // Nothing is promised of what it gives: the tests look.
+    ghost gives = { λ _ _ _. Unit {0} };
+
+    fn ask(&mut self, name: Name, op: Op<A>) -> Result<(Ticket, Outcome<A>), DeskStopped> {
+        let Some(ticket) = self.submit(name, op) else {
+            return Err(DeskStopped { ticket: None });
+        };
+        self.settle();
+        match self.node.take_answer(name, ticket) {
+            Some(outcome) => Ok((ticket, outcome)),
+            None => Err(DeskStopped {
+                ticket: Some(ticket),
+            }),
+        }
+    }
+
+    fn tell(&mut self, name: Name, op: Op<A>) -> Result<Ticket, DeskStopped> {
+        self.submit(name, op).ok_or(DeskStopped { ticket: None })
     }
 }
