@@ -1,8 +1,8 @@
 //! What is left of a few sessions at nodes in one thread.
 
+use crate::happenings::{accounts, new_stamp};
 use crate::nodes::{Nodes, new_nodes};
-use apop::{Accounts, stamp};
-use audit::{AuditError, Event, audit};
+use audit::{AuditError, audit};
 use node::NodeLog;
 use session::{OpenGate, Transcript, serve};
 use std::alloc::{Allocator, Global};
@@ -14,6 +14,12 @@ pub struct Run<A: Allocator + Copy = Global> {
     pub logs: Vec<NodeLog<A>, A>,
     pub transcripts: Vec<Transcript<A>, A>,
 }
+
+/// A client that takes its maildrop, and gives it back.
+pub const LINES: &str = "USER alice\r\nPASS s3\r\nSTAT\r\nQUIT\r\n";
+
+/// A client that takes its maildrop, and is gone.
+pub const GONE: &str = "USER alice\r\nPASS s3\r\n";
 
 /// How many nodes there are, how many operations are asked before one crashes, and what clients of alice say one after
 /// another, each at a node.
@@ -29,8 +35,8 @@ fn served<A: Allocator + Copy>(
     nodes: &mut Nodes<A>,
     lines: &str,
 ) -> Result<Transcript<A>, Fail> {
-    let accounts = Accounts::read(alloc, b"alice pass s3\n")?;
-    let stamp = stamp(b"n.1", b"mail.test").ok_or("no stamp")?;
+    let stamp = new_stamp()?;
+    let accounts = accounts(alloc)?;
     let mut replies = Vec::new(alloc);
     Ok(serve(
         alloc,
@@ -66,9 +72,4 @@ pub fn play<A: Allocator + Copy>(alloc: A, plan: Plan) -> Result<Run<A>, Fail> {
 /// Why an audit gives no events, if it doesn't.
 pub fn audited<A: Allocator + Copy>(alloc: A, run: &Run<A>) -> Option<AuditError> {
     audit(alloc, &run.logs, &run.transcripts).err()
-}
-
-/// The events of a legal order.
-pub fn events_of(alloc: Global, run: &Run) -> Result<Vec<Event>, Fail> {
-    Ok(audit(alloc, &run.logs, &run.transcripts)?)
 }

@@ -1,13 +1,10 @@
 //! Audits whose requests for memory are refused in turn.
 
-use crate::runs::{Plan, audited, play};
+use crate::runs::{GONE, Plan, audited, play};
 use audit::AuditError;
 use refusing::Refusal;
 use samples::{Heap, Scenario, check, requests};
 use std::test::Fail;
-
-/// A client that takes its maildrop, and is gone.
-const LINES: &str = "USER alice\r\nPASS s3\r\n";
 
 /// How many requests for memory an audit makes at most.
 const MOST: u64 = 81;
@@ -18,7 +15,7 @@ struct Audited;
 const PLAN: Plan = Plan {
     nodes: 1,
     lives: 9,
-    sessions: &[(0, LINES)],
+    sessions: &[(0, GONE)],
 };
 
 impl Scenario for Audited {
