@@ -7,22 +7,16 @@ mod audits;
 #[cfg(test)]
 mod clients;
 #[cfg(test)]
-mod crash_tests;
-#[cfg(test)]
 mod end_tests;
 #[cfg(test)]
-mod gate_tests;
-#[cfg(test)]
-mod inbox_tests;
-#[cfg(test)]
 mod link_tests;
+#[cfg(test)]
+mod links;
+#[cfg(test)]
+mod lives;
 #[cfg(test)]
 mod orders;
 #[cfg(test)]
 mod services;
 #[cfg(test)]
 mod session_tests;
-#[cfg(test)]
-mod takeover_tests;
-#[cfg(test)]
-mod thread_tests;
