@@ -54,7 +54,7 @@ fn check_crash<
     check(is_down, "it stands as if it were up")
 }
 
-/// The second of two sessions alone is served.
+/// Only the second of two sessions is served.
 fn check_served<
     D: Deployment + Send + Sync + 'static,
     R: Threads + Wait + Clock + Copy + Send + Sync + 'static,

@@ -1,5 +1,5 @@
-//! Tests of nodes and sessions on threads: what no clause can say of them. Where one could wait for ever, it crashes its nodes
-//! behind a bound; one that doesn't end even so is ended by its runner, and has failed. There is nothing here but tests.
+//! Tests of nodes and sessions on threads: what no clause can say of them. If one could wait for ever, it crashes its nodes
+//! after a time; one that doesn't end even so is ended by its runner, and has failed. There is nothing here but tests.
 #![tactic(auto)]
 
 #[cfg(test)]

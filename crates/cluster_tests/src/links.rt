@@ -1,4 +1,4 @@
-//! A link that holds whoever sends, and what comes to nodes behind it.
+//! A link that holds whoever sends, and what comes to its node.
 
 use crate::services::{Flag, wait_a_turn, wait_for};
 use ballot::{Ballot, Envelope, Message};

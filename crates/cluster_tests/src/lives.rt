@@ -81,7 +81,7 @@ fn tick_on<D: Deployment, R: Wait + Clock>(rt: &R, desk: &DeskOf<D, R>, course: 
 }
 
 /// Crashes a node, twice, once its moment has come, and then ticks another one. Returns whether that came, and the node was up
-/// the first time alone.
+/// only the first time.
 fn operate<D: Deployment, R: Wait + Clock>(
     rt: &R,
     crashing: &DeskOf<D, R>,

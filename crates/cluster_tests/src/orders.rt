@@ -29,7 +29,7 @@ fn first_of(coming: &mut Coming, place: usize) -> Result<Event, Fail> {
     Ok(events.pop_front().ok_or("it has nothing to come")?)
 }
 
-/// What a turn of the order is in a service of so many nodes, where session i is that of transcript i.
+/// What a turn of the order is in a service of so many nodes, if session i is that of transcript i.
 fn event_of(coming: &mut Coming, nodes: usize, turn: Turn) -> Result<Event, Fail> {
     Ok(match turn {
         Turn::Connect { session, node } => Event::Connect {

@@ -15,8 +15,8 @@ use std::thread::{JoinHandle, Threads};
 use std::time::{Clock, Duration};
 
 /// For how many seconds at least a test waits for anything before it gives up, so that none waits for ever: nearly the minute
-/// after which its runner ends it. A wait for what a right program does ends when that is done, so only where the whole test
-/// takes about its minute does one come near this bound. Where one reaches it the test has failed, or the runner ends it.
+/// after which its runner ends it. A wait for what a right program does ends when that is done, so one comes near this bound
+/// only if the whole test takes about its minute. If one reaches it, the test has failed, or the runner ends it.
 pub const SECONDS: u64 = 50;
 
 /// As many turns, each of which takes a millisecond or more.
@@ -68,7 +68,7 @@ pub fn wait_a_turn<R: Clock>(rt: &R) {
     thread::sleep(rt, Duration::from_millis(1));
 }
 
-/// Waits until the flag is set, or the turns are over. Gives whether it is set.
+/// Waits until the flag is set, or the turns are over. Returns whether it is set.
 pub fn wait_for<R: Wait + Clock>(rt: &R, flag: &Flag) -> bool {
     for _ in 0..TURNS {
         if *flag.lock(rt) {
@@ -79,7 +79,7 @@ pub fn wait_for<R: Wait + Clock>(rt: &R, flag: &Flag) -> bool {
     false
 }
 
-/// Crashes the nodes of the desks where the flag isn't set in time, so that nobody waits for them any more.
+/// Crashes the nodes of the desks if the flag isn't set in time, so that nobody waits for them any more.
 fn crash_when_late<D: Deployment, R: Wait + Clock, L: Link>(
     rt: &R,
     done: &Flag,
@@ -92,7 +92,7 @@ fn crash_when_late<D: Deployment, R: Wait + Clock, L: Link>(
     }
 }
 
-/// A thread that crashes all nodes where a test takes too long.
+/// A thread that crashes all nodes if a test takes too long.
 #[derive(Drop)]
 pub struct Watch {
     done: Flag,

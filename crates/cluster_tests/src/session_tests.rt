@@ -146,7 +146,7 @@ fn lives_and_is_changed<
 }
 
 /// The client gets the very bytes that a lone server of its user gives, without a tick, an audit finds nothing wrong, and a
-/// service as a value that takes the audit's order tells the client the same bytes, each time. The audit finds something where
+/// service as a value that takes the audit's order tells the client the same bytes, each time. The audit finds something if
 /// a log or an outcome is changed.
 #[test]
 fn a_session_over_three_nodes(rt: HostRuntime) -> Result<(), Fail> {

@@ -6,7 +6,7 @@ use server::LoneDesk;
 use std::alloc::Allocator;
 use std::test::Fail;
 
-/// The table of alice alone.
+/// The account of alice, the only one.
 pub fn accounts<A: Allocator + Copy>(alloc: A) -> Result<Accounts<A>, Fail> {
     Ok(Accounts::read(alloc, b"alice pass s\n")?)
 }

@@ -63,8 +63,8 @@ impl Write for Replies<'_> {
     }
 }
 
-/// The desk of two messages. Only while a line is heard, or at a hangup, it is asked or told anything, so its letters
-/// show when a line is heard.
+/// The desk of two messages. It is asked only while a line is heard, or at a hangup, so its letters show when a line is
+/// heard.
 #[derive(Drop)]
 struct NotedDesk<'a> {
     events: &'a Events,

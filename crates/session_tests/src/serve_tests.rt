@@ -15,10 +15,10 @@ struct Served {
     replies: &'static str,
 }
 
-/// Whether a session ended rightly: with all replies, or for want of memory.
+/// Whether a session ended rightly: with all replies, or out of memory.
 fn is_end(heap: Heap, end: End, is_whole: bool) -> bool {
     match end {
-        // A list that is collected asks for less where its first request is refused.
+        // A list that is collected asks for less if its first request is refused.
         End::Closed => is_whole,
         End::Memory | End::DeskStopped => heap.has_refused(),
         _ => false,

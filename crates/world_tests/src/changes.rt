@@ -1,4 +1,4 @@
-//! Logs and transcripts that tell something else than what happened.
+//! Changes of what a run leaves, so that logs or transcripts say something else than what happened.
 
 use crate::runs::Run;
 use ballot::{Envelope, Items, Message};

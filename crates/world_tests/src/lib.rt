@@ -1,6 +1,5 @@
 //! Tests of services as values and of audits: one run in each way in which a service takes events, with a crash before each
-//! event, and with requests for memory that are refused; nodes in one thread, and logs and transcripts that tell something else
-//! than what happened. There is nothing here but tests.
+//! event, and with requests for memory that are refused; nodes in one thread, and logs and transcripts that were changed. There is nothing here but tests.
 #![tactic(auto)]
 
 #[cfg(test)]

@@ -46,8 +46,8 @@ const TOLD: &[u8] = b"+OK POP3 server ready <n.1@mail.test>\r\n\
 +OK maildrop has 1 messages (20 octets)\r\n";
 
 /// Lines that the session answers by itself, each with how many requests for memory it makes at the least: one for its
-/// reply, two for a list; one more where the lines of the session outgrow their room, as its fifth and its ninth do; and one
-/// where its replies outgrow theirs, as the first message does.
+/// reply, two for a list; one more if the lines of the session outgrow their room, as its fifth and its ninth do; and one if
+/// its replies outgrow theirs, as the first message does.
 const LINES: &[(&str, u64)] = &[
     ("NOOP", 1),
     ("STAT", 1),
@@ -89,7 +89,7 @@ fn check_again<'h>(heap: Heap<'h>, world: &mut World<Heap<'h>>) -> Result<(), Fa
     )
 }
 
-/// The session was told a reply or, if there was no memory, it alone is lost.
+/// The session was told a reply or, if there was no memory, only it is lost.
 fn check_heard<'h>(
     heap: Heap<'h>,
     world: &mut World<Heap<'h>>,

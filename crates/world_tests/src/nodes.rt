@@ -61,7 +61,7 @@ fn new_node<A: Allocator + Copy>(alloc: A, number: u8, count: u8) -> Result<Node
 }
 
 impl<A: Allocator + Copy> Nodes<A> {
-    /// A node takes an input, and what it sends waits. Gives the ticket, if there is one; nothing where the node stopped.
+    /// A node takes an input, and what it sends waits. Returns the ticket, if there is one, or nothing if the node stopped.
     fn take(&mut self, place: usize, input: Input<A>) -> Option<Option<Ticket>> {
         let outputs = self.nodes.get_mut(place)?.step(input).ok()?;
         let ticket = outputs.ticket;
@@ -82,7 +82,7 @@ impl<A: Allocator + Copy> Nodes<A> {
         }
     }
 
-    /// The node of the session is asked. Gives nothing where it stopped.
+    /// The node of the session is asked. Returns nothing if it stopped.
     fn submit(&mut self, name: Name, op: Op<A>) -> Option<Ticket> {
         if self.lives == 0 {
             let _untold = self.take(self.seat, Input::Crash);

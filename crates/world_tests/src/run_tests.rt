@@ -13,7 +13,7 @@ use world::{Event, Runs, SessionId, World, run};
 type Performed = (u64, &'static str, u8, u64);
 
 /// What nodes 1 and 2 perform. Of the two messages that come in together the one comes first of which the leader hears
-/// first; bob's second waits behind alice's second, whose Propose was sent before it.
+/// first; bob's second comes after alice's second, whose Propose was sent before it.
 const PERFORMED: &[Performed] = &[
     (1, "alice", 1, 1),
     (2, "bob", 2, 1),

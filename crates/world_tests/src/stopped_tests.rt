@@ -1,4 +1,4 @@
-//! What a node tells that has stopped: one that has crashed all that it did before, and one that found no memory nothing.
+//! What a stopped node reports: all that it did before if it has crashed, and nothing if it found no memory.
 
 use crate::happenings::{Happening, config, event_of, step_all};
 use refusing::Refusal;
@@ -92,7 +92,7 @@ const EVENTS: &[Last] = &[
 /// How many commands a node has performed, and the number of its last ticket for alice.
 type Told = (usize, u64);
 
-/// The node tells this, or nothing.
+/// The node reports this, or nothing.
 fn check_told<A: Allocator + Copy>(world: &World<A>, expected: Option<Told>) -> Result<(), Fail> {
     let node = node(STOPPING)?;
     let performed = world.performed(node).map(|performed| performed.len());
@@ -117,7 +117,7 @@ fn next_event<'h>(
     }
 }
 
-/// The node has told this, and tells it once it has crashed.
+/// The node reports this, also once it has crashed.
 fn check_crash<A: Allocator + Copy>(world: &mut World<A>, told: Told) -> Result<(), Fail> {
     check_told(world, Some(told))?;
     match world.step(Event::Crash(node(STOPPING)?)) {
@@ -126,7 +126,7 @@ fn check_crash<A: Allocator + Copy>(world: &mut World<A>, told: Told) -> Result<
     }
 }
 
-/// The node tells this behind the event, or nothing where there was no memory.
+/// The node reports this after the event, or nothing if there was no memory.
 fn check_behind<'h>(
     heap: Heap<'h>,
     world: &mut World<Heap<'h>>,

@@ -1,4 +1,4 @@
-//! What an audit finds where logs or transcripts tell something else than what happened.
+//! What an audit finds if logs or transcripts were changed.
 
 use crate::changes::{Change, make_change};
 use crate::runs::{LINES, Plan, audited, play};
