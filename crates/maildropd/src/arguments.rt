@@ -1,34 +1,72 @@
 //! Options of the command line.
 
-use clap::{Arg, ArgAction, ArgMatches, value_parser};
+use clap::{Arg, ArgAction, ArgMatches, Command, Error, value_parser};
 use std::alloc::Global;
 
-/// An option with a value of the user's, which may begin with a hyphen.
-pub(crate) fn option<'a>(alloc: Global, name: &'a str, value: &'a str, help: &'a str) -> Arg<'a> {
-    Arg::new(alloc, name)
-        .long(name)
-        .value_name(value)
-        .help(help)
-        .allow_hyphen_values(true)
-        .action(ArgAction::Set)
+/// What the value of an option is.
+#[derive(Clone, Copy)]
+pub(crate) enum Kind {
+    /// Any text. It may begin with a hyphen.
+    Text,
+    /// A number of 64 bits.
+    Number,
 }
 
-/// An option with a number of 64 bits.
-pub(crate) fn number<'a>(alloc: Global, name: &'a str, value: &'a str, help: &'a str) -> Arg<'a> {
-    Arg::new(alloc, name)
-        .long(name)
-        .value_name(value)
-        .help(help)
-        .value_parser(value_parser!(u64))
-        .action(ArgAction::Set)
+/// Whether an option must be given, and what it is if it isn't.
+#[derive(Clone, Copy)]
+pub(crate) enum Presence {
+    Required,
+    Optional,
+    Default(&'static str),
 }
 
-/// The text of an option, or none where it has none.
+/// An option of a command, with a value.
+#[derive(Clone, Copy)]
+pub(crate) struct Choice {
+    /// Its name, without the two hyphens.
+    pub name: &'static str,
+    /// What `--help` shows for its value.
+    pub value: &'static str,
+    pub kind: Kind,
+    pub presence: Presence,
+    pub help: &'static str,
+}
+
+fn arg_of<'a>(alloc: Global, choice: Choice) -> Arg<'a> {
+    let arg = Arg::new(alloc, choice.name)
+        .long(choice.name)
+        .value_name(choice.value)
+        .help(choice.help)
+        .action(ArgAction::Set);
+    let arg = match choice.kind {
+        Kind::Text => arg.allow_hyphen_values(true),
+        Kind::Number => arg.value_parser(value_parser!(u64)),
+    };
+    match choice.presence {
+        Presence::Required => arg.required(true),
+        Presence::Optional => arg,
+        Presence::Default(value) => arg.default_value(value),
+    }
+}
+
+/// The command with these options.
+pub(crate) fn with_options<'a>(
+    alloc: Global,
+    mut command: Command<'a>,
+    choices: &[Choice],
+) -> Result<Command<'a>, Error> {
+    for choice in choices {
+        command = command.arg(arg_of(alloc, *choice))?;
+    }
+    Ok(command)
+}
+
+/// The text of an option, or none if it wasn't given.
 pub(crate) fn text_of<'a>(matches: &ArgMatches<'a>, name: &str) -> &'a str {
     matches.get_str(name).unwrap_or("")
 }
 
-/// The bytes of an option, or none where it has none.
+/// The bytes of an option, or none if it wasn't given.
 pub(crate) fn bytes_of<'a>(matches: &ArgMatches<'a>, name: &str) -> &'a [u8] {
     text_of(matches, name).as_bytes()
 }

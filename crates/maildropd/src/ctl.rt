@@ -1,6 +1,6 @@
 //! `maildropd ctl`.
 
-use crate::arguments::{number, number_of};
+use crate::arguments::{Choice, Kind, Presence, number_of, with_options};
 use clap::{Arg, ArgAction, ArgMatches, Command, Error};
 use service::ctl_run;
 use std::alloc::Global;
@@ -20,27 +20,30 @@ The status is 0 after an answer, 3 where that is `bad request`, `bad mbox` or `d
 Example:
   maildropd ctl --port 11999 deliver 1 alice mail.mbox";
 
+/// The options of `ctl`.
+const OPTIONS: &[Choice] = &[Choice {
+    name: "port",
+    value: "PORT",
+    kind: Kind::Number,
+    presence: Presence::Required,
+    help: "The port of 127.0.0.1 at which the service takes operators' requests",
+}];
+
+/// The command `ctl` of the command line.
 pub(crate) fn ctl<'a>(alloc: Global) -> Result<Command<'a>, Error> {
-    let port = number(
-        alloc,
-        "port",
-        "PORT",
-        "The port of 127.0.0.1 at which the service takes operators' requests",
-    );
     let words = Arg::new(alloc, "words")
         .value_name("REQUEST")
         .help("The request, as below")
+        .required(true)
         .num_args(1..)
-        // Behind the first word nothing is an option: a user's name, a file or a key may begin with a hyphen.
+        // After the first word nothing is an option: a user's name, a file or a key may begin with a hyphen.
         .trailing_var_arg(true)
         .allow_hyphen_values(true)
         .action(ArgAction::Append);
     let ctl = Command::new(alloc, "ctl")
         .about("Makes an operator's request to a service on this machine, and prints the answer")
-        .after_help(REQUESTS)
-        .arg(port.required(true))?
-        .arg(words.required(true))?;
-    Ok(ctl)
+        .after_help(REQUESTS);
+    Ok(with_options(alloc, ctl, OPTIONS)?.arg(words)?)
 }
 
 pub(crate) fn run_ctl<

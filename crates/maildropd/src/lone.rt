@@ -1,6 +1,6 @@
 //! `maildropd lone`.
 
-use crate::arguments::{bytes_of, option};
+use crate::arguments::{Choice, Kind, Presence, bytes_of, with_options};
 use clap::{ArgMatches, Command, Error};
 use server::{Fault, LoneOptions, lone_run};
 use std::alloc::Global;
@@ -16,56 +16,61 @@ const EXAMPLE: &str = "Example, which serves a mailbox file at port 1100:
   socat TCP-LISTEN:1100,bind=127.0.0.1,reuseaddr,fork EXEC:\"maildropd lone --user alice --secret s --mbox mail.mbox\"
 At a terminal it answers line by line.";
 
+/// The options of `lone`.
+const OPTIONS: &[Choice] = &[
+    Choice {
+        name: "user",
+        value: "NAME",
+        kind: Kind::Text,
+        presence: Presence::Required,
+        help: "The user's name: 1 to 40 visible ASCII characters",
+    },
+    Choice {
+        name: "secret",
+        value: "TEXT",
+        kind: Kind::Text,
+        presence: Presence::Required,
+        help: "The user's secret: 1 to 255 bytes, spaces included, no control characters",
+    },
+    Choice {
+        name: "method",
+        value: "METHOD",
+        kind: Kind::Text,
+        presence: Presence::Default("pass"),
+        help: "What the user logs in by: pass (USER and PASS) or apop",
+    },
+    Choice {
+        name: "mbox",
+        value: "FILE",
+        kind: Kind::Text,
+        presence: Presence::Optional,
+        help: "A mailbox file (mboxrd), whose messages the maildrop holds; the file itself is only read. The maildrop holds at most 10,000 messages of 50,000,000 octets together, under unique ids up to 1,000,000,000",
+    },
+    Choice {
+        name: "nonce",
+        value: "TEXT",
+        kind: Kind::Text,
+        presence: Presence::Default("1.1"),
+        help: "What the greeting's timestamp has before its @",
+    },
+    Choice {
+        name: "host",
+        value: "NAME",
+        kind: Kind::Text,
+        presence: Presence::Default("localhost"),
+        help: "What the greeting's timestamp has after its @",
+    },
+];
+
+/// The command `lone` of the command line.
 pub(crate) fn lone<'a>(alloc: Global) -> Result<Command<'a>, Error> {
-    let user = option(
-        alloc,
-        "user",
-        "NAME",
-        "The user's name: 1 to 40 visible ASCII characters",
-    );
-    let secret = option(
-        alloc,
-        "secret",
-        "TEXT",
-        "The user's secret: 1 to 255 bytes, spaces included, no control characters",
-    );
-    let method = option(
-        alloc,
-        "method",
-        "METHOD",
-        "What the user logs in by: pass (USER and PASS) or apop",
-    );
-    let mbox = option(
-        alloc,
-        "mbox",
-        "FILE",
-        "A mailbox file (mboxrd), whose messages the maildrop holds; the file itself is only read. The maildrop holds at most 10,000 messages of 50,000,000 octets together, under unique ids up to 1,000,000,000",
-    );
-    let nonce = option(
-        alloc,
-        "nonce",
-        "TEXT",
-        "What the greeting's timestamp has before its @",
-    );
-    let host = option(
-        alloc,
-        "host",
-        "NAME",
-        "What the greeting's timestamp has behind its @",
-    );
     let lone = Command::new(alloc, "lone")
         .about("Serves one POP3 session over one user's maildrop on standard input and output")
-        .after_help(EXAMPLE)
-        .arg(user.required(true))?
-        .arg(secret.required(true))?
-        .arg(method.default_value("pass"))?
-        .arg(mbox)?
-        .arg(nonce.default_value("1.1"))?
-        .arg(host.default_value("localhost"))?;
-    Ok(lone)
+        .after_help(EXAMPLE);
+    with_options(alloc, lone, OPTIONS)
 }
 
-/// Tells a fault on standard error. Gives its status.
+/// Reports a fault on standard error. Returns its status.
 fn tell<R: Eprint>(rt: &R, fault: Fault) -> u8 {
     let _ = eprintln!(rt; "maildropd: {fault}");
     fault.status()

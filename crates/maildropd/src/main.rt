@@ -23,7 +23,7 @@ use std::sync::Wait;
 use std::thread::Threads;
 use std::time::Clock;
 
-/// What `--version` tells behind the program's name.
+/// What `--version` prints after the program's name.
 const VERSION: &str = "0.1.0";
 
 fn command<'a>(alloc: Global) -> Result<Command<'a>, Error> {
@@ -64,7 +64,7 @@ fn run<
     }
 }
 
-/// Says why nothing was run, and gives the exit status: 0 after a help text, 1 for want of memory, else 2.
+/// Reports why nothing was run, and returns the exit status: 0 after a help text, 1 if out of memory, else 2.
 fn refused<R: Print + Eprint>(rt: &R, error: &Error) -> u8 {
     match error.kind() {
         ErrorKind::OutOfMemory => {
@@ -88,7 +88,7 @@ fn words_of(rt: &HostRuntime) -> io::Result<Vec<String>> {
     Ok(words)
 }
 
-/// Says why the words can't be read, and gives the exit status: 1 for want of memory, else 2.
+/// Reports why the words can't be read, and returns the exit status: 1 if out of memory, else 2.
 fn unreadable<R: Eprint>(rt: &R, error: &io::Error) -> u8 {
     if error.kind() == io::ErrorKind::OutOfMemory {
         let _ = eprintln!(rt; "maildropd: no memory");

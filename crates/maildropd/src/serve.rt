@@ -1,6 +1,6 @@
 //! `maildropd serve`.
 
-use crate::arguments::{bytes_of, number, number_of, option, text_of};
+use crate::arguments::{Choice, Kind, Presence, bytes_of, number_of, text_of, with_options};
 use clap::{ArgMatches, Command, Error};
 use service::{ServeOptions, serve_run};
 use std::alloc::Global;
@@ -19,94 +19,86 @@ Node 1 takes POP3 connections at 127.0.0.1:11001, node 2 at 11002, node 3 at 110
 `maildropd ctl --port 11999 stop` ends it. Then it tells what an audit finds: `audit ok` with the status 0, or what is wrong with the status 1.
 All mail lies in memory, and is gone when the process ends.";
 
-/// The options that say where the service is.
-fn places<'a>(alloc: Global, serve: Command<'a>) -> Result<Command<'a>, Error> {
-    let accounts = option(
-        alloc,
-        "accounts",
-        "FILE",
-        "The accounts: a line `NAME METHOD SECRET` each, with the method pass or apop",
-    );
-    let pop_port = number(
-        alloc,
-        "pop-port",
-        "PORT",
-        "Node N takes POP3 connections at 127.0.0.1, at the port N above this one",
-    );
-    let ctl_port = number(
-        alloc,
-        "ctl-port",
-        "PORT",
-        "The port of 127.0.0.1 that takes the operator's requests",
-    );
-    let host = option(
-        alloc,
-        "host",
-        "NAME",
-        "What the greetings' timestamps have behind their @",
-    );
-    let serve = serve
-        .arg(accounts.required(true))?
-        .arg(pop_port.required(true))?
-        .arg(ctl_port.required(true))?
-        .arg(host.default_value("localhost"))?;
-    Ok(serve)
-}
+/// The options of `serve`: where the service is, its nodes, and the limits of each maildrop.
+const OPTIONS: &[Choice] = &[
+    Choice {
+        name: "accounts",
+        value: "FILE",
+        kind: Kind::Text,
+        presence: Presence::Required,
+        help: "The accounts: a line `NAME METHOD SECRET` each, with the method pass or apop",
+    },
+    Choice {
+        name: "pop-port",
+        value: "PORT",
+        kind: Kind::Number,
+        presence: Presence::Required,
+        help: "Node N takes POP3 connections at 127.0.0.1, at the port N above this one",
+    },
+    Choice {
+        name: "ctl-port",
+        value: "PORT",
+        kind: Kind::Number,
+        presence: Presence::Required,
+        help: "The port of 127.0.0.1 that takes the operator's requests",
+    },
+    Choice {
+        name: "host",
+        value: "NAME",
+        kind: Kind::Text,
+        presence: Presence::Default("localhost"),
+        help: "What the greetings' timestamps have after their @",
+    },
+    Choice {
+        name: "nodes",
+        value: "COUNT",
+        kind: Kind::Number,
+        presence: Presence::Default("3"),
+        help: "How many nodes there are, 1 to 9",
+    },
+    Choice {
+        name: "window",
+        value: "COUNT",
+        kind: Kind::Number,
+        presence: Presence::Default("10"),
+        help: "How many operations a node proposes at a time, 1 to 1000",
+    },
+    Choice {
+        name: "tick-ms",
+        value: "MILLISECONDS",
+        kind: Kind::Number,
+        presence: Presence::Default("200"),
+        help: "How much time lies at least between two ticks of a node, which sends again what is lost: 1 to 1000000",
+    },
+    Choice {
+        name: "messages",
+        value: "COUNT",
+        kind: Kind::Number,
+        presence: Presence::Default("10000"),
+        help: "How many messages a maildrop holds, at most 999999999",
+    },
+    Choice {
+        name: "octets",
+        value: "COUNT",
+        kind: Kind::Number,
+        presence: Presence::Default("50000000"),
+        help: "How many octets the messages of a maildrop have together, at most 2^40",
+    },
+    Choice {
+        name: "ids",
+        value: "COUNT",
+        kind: Kind::Number,
+        presence: Presence::Default("1000000000"),
+        help: "The highest unique id that a maildrop gives, at most 2^63",
+    },
+];
 
-/// The options of the nodes.
-fn nodes<'a>(alloc: Global, serve: Command<'a>) -> Result<Command<'a>, Error> {
-    let nodes = number(alloc, "nodes", "COUNT", "How many nodes there are, 1 to 9");
-    let window = number(
-        alloc,
-        "window",
-        "COUNT",
-        "How many operations a node proposes at a time, 1 to 1000",
-    );
-    let tick_ms = number(
-        alloc,
-        "tick-ms",
-        "MILLISECONDS",
-        "How much time lies at least between two ticks of a node, which sends again what is lost: 1 to 1000000",
-    );
-    let serve = serve
-        .arg(nodes.default_value("3"))?
-        .arg(window.default_value("10"))?
-        .arg(tick_ms.default_value("200"))?;
-    Ok(serve)
-}
-
-/// The limits of each maildrop.
-fn limits<'a>(alloc: Global, serve: Command<'a>) -> Result<Command<'a>, Error> {
-    let messages = number(
-        alloc,
-        "messages",
-        "COUNT",
-        "How many messages a maildrop holds, at most 999999999",
-    );
-    let octets = number(
-        alloc,
-        "octets",
-        "COUNT",
-        "How many octets the messages of a maildrop have together, at most 2^40",
-    );
-    let ids = number(
-        alloc,
-        "ids",
-        "COUNT",
-        "The highest unique id that a maildrop gives, at most 2^63",
-    );
-    let serve = serve
-        .arg(messages.default_value("10000"))?
-        .arg(octets.default_value("50000000"))?
-        .arg(ids.default_value("1000000000"))?;
-    Ok(serve)
-}
-
+/// The command `serve` of the command line.
 pub(crate) fn serve<'a>(alloc: Global) -> Result<Command<'a>, Error> {
     let serve = Command::new(alloc, "serve")
         .about("Serves POP3 over maildrops that one to nine nodes in this process agree on")
         .after_help(EXAMPLE);
-    limits(alloc, nodes(alloc, places(alloc, serve)?)?)
+    with_options(alloc, serve, OPTIONS)
 }
 
 pub(crate) fn run_serve<

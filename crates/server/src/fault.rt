@@ -4,7 +4,7 @@ ghost use Rattle.server.specs.Lone.{status_at};
 
 use thiserror::Error;
 
-/// Why a run ends before its end. Its text is what the program says on standard error.
+/// Why a run ends before its end. Its text is what the program reports on standard error.
 #[derive(Clone, Copy, Debug, PartialEq, Eq, Error)]
 pub enum Fault {
     /// The user is no name, the method none of the two, or the secret none that an account may have.

@@ -1,4 +1,4 @@
-//! The program `maildropd`, as calls over any reader and writer.
+//! The command `maildropd lone`, which serves one session over one maildrop, as calls over any reader and writer.
 #![tactic(auto)]
 
 mod fault;

@@ -50,7 +50,7 @@ fn ended(end: End) -> Result<(), Fault>
         End::Closed | End::HungUp => Ok(()),
         End::ReadFault => Err(Fault::Read),
         End::WriteFault => Err(Fault::Write),
-        // The desk of a lone session stops for want of memory alone.
+        // The desk of a lone session stops only for want of memory.
         End::DeskStopped | End::Memory => Err(Fault::Memory),
     }
 }
@@ -120,9 +120,9 @@ fn run<R: Read, W: Write>(
 
 /// Serves one POP3 session (RFC 1939) over the maildrop of one user, which holds the messages of the mailbox file, from
 /// a reader to a writer, and answers each line as it comes. The writer is flushed before more is read and at the end, so
-/// one that gathers what it takes sends the replies to lines that came together in one piece. Gives the exit status: 0 at
+/// one that gathers what it takes sends the replies to lines that came together in one piece. Returns the exit status: 0 at
 /// the end of the session or of the input, 1 after a fault of memory, reading or writing, 2 for options that are none, 3
-/// where the maildrop refuses a message of the file. A fault is told on standard error; after 2 and 3 nothing was written.
+/// if the maildrop refuses a message of the file. A fault is reported on standard error; after 2 and 3 nothing was written.
 pub fn lone_run<H: AllocGlobal + Eprint, R: Read, W: Write>(
     rt: &H,
     reader: &mut R,

@@ -28,8 +28,8 @@ impl<A: Allocator + Copy> LoneDesk<A> {
         Ok(LoneDesk { office, next: 1 })
     }
 
-    /// Performs an operation under the next ticket of node 1. Gives the ticket and the outcome, or nothing where there
-    /// is no memory or no ticket more, and then nothing has changed.
+    /// Performs an operation under the next ticket of node 1. Returns the ticket and the outcome, or nothing if
+    /// there is no memory or no ticket left; then nothing has changed.
     pub fn perform(&mut self, user: Name, op: Op<A>) -> Option<(Ticket, Outcome<A>)>
         ensures ticket { IfSome result (λ answer. answer.0 ≡ ticket_of self.old.next) }
         ensures outcome { IfSome result (λ answer. answer.1

@@ -20,7 +20,7 @@ pub struct LoneOptions<'a> {
     pub secret: &'a [u8],
     /// What stands before the `@` of the greeting's timestamp.
     pub nonce: &'a [u8],
-    /// What stands behind it.
+    /// What stands after it.
     pub host: &'a [u8],
     /// A mailbox file, whose messages are in the maildrop when the session begins.
     pub mbox: Option<&'a [u8]>,

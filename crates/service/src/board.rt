@@ -84,7 +84,7 @@ impl Board {
     }
 
     /// The timestamp of a new session's greeting: 16 random hexadecimal digits, a dot and the number of the session,
-    /// counted from 1, before the service's host. Nothing where the system gives no random bytes.
+    /// counted from 1, before the service's host. Returns nothing if the system has no random bytes.
     pub(crate) fn new_stamp<R: RandomSource + Wait>(&self, rt: &R, alloc: Global) -> Option<Stamp> {
         let number = self.next_number(rt);
         let mut bytes = [0u8; 8];
@@ -111,7 +111,7 @@ impl Board {
         }
     }
 
-    /// The transcripts of the sessions that have ended, or nothing where there was no memory for one of them.
+    /// The transcripts of the sessions that have ended, or nothing if there was no memory for one of them.
     pub(crate) fn take_transcripts<R: Wait>(
         &self,
         rt: &R,
@@ -130,7 +130,7 @@ impl Board {
         !matches!(*self.stage.lock(rt), Stage::Serving)
     }
 
-    /// Waits so long, or until the sessions have ended. Gives whether they have.
+    /// Waits so long, or until the sessions have ended. Returns whether they have.
     pub(crate) fn pauses<R: Wait + Clock>(&self, rt: &R, time: Duration) -> bool {
         let guard = self.stage.lock(rt);
         let (stage, _) = self
@@ -159,7 +159,7 @@ impl Board {
     }
 }
 
-/// Wakes who listens at a port, by a connection. Where there is no descriptor for one it is tried again, since who
+/// Wakes who listens at a port, by a connection. If there is no descriptor for one it is tried again, since who
 /// listens has none either, or may get the next.
 fn wake<R: Net + Wait + Clock>(rt: &R, port: u16) {
     for _ in rt.forever() {

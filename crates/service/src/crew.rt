@@ -17,7 +17,7 @@ pub(crate) type Ended = Arc<Mutex<Vec<usize>>>;
 /// A connection until it has been served. Then there is nothing, so that it is closed although its thread isn't joined yet.
 type Held = Arc<Mutex<Option<Arc<TcpStream>>>>;
 
-/// A thread, and its connection where that is to be cut at the end.
+/// A thread, and its connection if that is to be cut at the end.
 #[derive(Drop)]
 struct Post {
     thread: JoinHandle<()>,
@@ -25,7 +25,7 @@ struct Post {
 }
 
 /// The threads of a port's connections, at most so many at a time. One that has served its connection waits for another,
-/// or ends. Each has a place, which it tells as its last act, so that it is joined and its place is used again.
+/// or ends. Each has a place, which it reports as its last act, so that it is joined and its place is used again.
 #[derive(Drop)]
 pub(crate) struct Crew {
     posts: Vec<Option<Post>>,
@@ -40,7 +40,7 @@ pub(crate) struct Crew {
 struct Worker<H: Handler> {
     host: H,
     seat: Seat,
-    /// What its post has of the connection, where that is to be cut at the end.
+    /// What its post has of the connection, if that is to be cut at the end.
     held: Option<Held>,
     ended: Ended,
     place: usize,
@@ -124,7 +124,7 @@ impl Crew {
         Some(count)
     }
 
-    /// Has a connection served by a thread that waits for one, or by a new one. Where there is none, the connection is
+    /// Has a connection served by a thread that waits for one, or by a new one. If there is none, the connection is
     /// closed without a word.
     pub(crate) fn take<
         R: Threads + Wait + Copy + Send + 'static,
@@ -161,7 +161,7 @@ impl Crew {
         }
     }
 
-    /// Starts the thread of a place. Nothing where no thread or no memory is to be had.
+    /// Starts the thread of a place. Returns nothing if no thread or no memory is to be had.
     fn start<R: Threads + Wait + Copy + Send + 'static, H: Handler + Send + Drop + 'static>(
         &self,
         rt: R,

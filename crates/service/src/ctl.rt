@@ -14,13 +14,13 @@ use std::net::{Net, Shutdown, TcpListener, TcpStream};
 use std::rt::Files;
 use std::time::Duration;
 
-/// The exit status where what was asked wasn't done.
+/// The exit status if what was asked wasn't done.
 const REFUSED: u8 = 3;
 
-/// How long the service may leave a request unanswered that no node has to decide. Then it is told as a fault of reading.
+/// How long the service may leave a request unanswered that no node has to decide. Then a fault of reading is reported.
 const LONGEST_PAUSE_SECONDS: u64 = 60;
 
-/// What is sent to the operator's port: a line, and what stands behind it.
+/// What is sent to the operator's port: a line, and what comes after it.
 #[derive(Drop)]
 struct Message {
     line: Vec<u8>,
@@ -93,7 +93,7 @@ fn awaits_nodes(instruction: &Instruction<'_>) -> bool {
     }
 }
 
-/// How an answer to an instruction ends whose last line this is, without its line feed.
+/// How an answer to an instruction ends, by its last line without the line feed.
 fn ending_by(instruction: &Instruction<'_>, line: &[u8]) -> Ending
     ensures { result ≡ spec.ending_by instruction.now line.now }
 {
@@ -151,7 +151,7 @@ fn send(stream: &TcpStream, message: &Message) {
     let _closed = stream.shutdown(Shutdown::Write);
 }
 
-/// Prints the lines of the answer to an instruction. Gives how it ends. A service without memory closes the connection
+/// Prints the lines of the answer to an instruction. Returns how it ends. A service without memory closes the connection
 /// without an answer.
 fn print_answer<W: Write>(
     alloc: Global,
@@ -180,7 +180,7 @@ fn print_answer<W: Write>(
     Ok(Ending::Broken)
 }
 
-/// Asks the service, and prints its answer. Gives the exit status that it brings.
+/// Asks the service, and prints its answer. Returns the exit status that it brings.
 fn ask<R: Net<Listener = TcpListener, Stream = TcpStream> + Files, W: Write>(
     rt: &R,
     alloc: Global,
@@ -233,9 +233,9 @@ fn run<R: Net<Listener = TcpListener, Stream = TcpStream> + Files, W: Write>(
 }
 
 /// Makes an operator's request to the service at a port of this machine, and prints its answer: `deliver NODE USER FILE`,
-/// with a key behind it or without, `break NODE USER`, `crash NODE`, `status` or `stop`. Gives the exit status: 0 after
-/// a whole answer, 3 where that says `bad request`, `bad mbox` or `down`, 1 where it breaks off or after another fault of
-/// memory, reading, writing or the network, 2 for words or a port that are none. A fault is told on standard error.
+/// with a key after it or without, `break NODE USER`, `crash NODE`, `status` or `stop`. Returns the exit status: 0 after
+/// a whole answer, 3 if that says `bad request`, `bad mbox` or `down`, 1 if it breaks off or after another fault of
+/// memory, reading, writing or the network, 2 for words or a port that are none. A fault is reported on standard error.
 pub fn ctl_run<R: Net<Listener = TcpListener, Stream = TcpStream> + Files + Eprint, W: Write>(
     rt: &R,
     alloc: Global,

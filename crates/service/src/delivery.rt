@@ -19,12 +19,12 @@ const PIECE: usize = 4096;
 pub(crate) enum Unreadable {
     /// The file isn't one.
     Mailbox,
-    /// There are fewer bytes than were told.
+    /// There are fewer bytes than were announced.
     Short,
 }
 
 impl Unreadable {
-    /// The line that tells it.
+    /// The line that reports it.
     pub(crate) fn line(self) -> &'static [u8] {
         match self {
             Unreadable::Mailbox => b"bad mbox\n",
@@ -90,8 +90,8 @@ fn key_of(prefix: &Option<KeyPrefix>, place: usize) -> Option<Key>
     }
 }
 
-/// Has the texts delivered in order, and tells the outcome of each as soon as it is there. The key of each, if there are
-/// keys, is the prefix with the number of the text behind it, counted from 1. Ends with `down` where the node stops.
+/// Has the texts delivered in order, and reports the outcome of each as soon as it is there. The key of each, if there are
+/// keys, is the prefix with the number of the text after it, counted from 1. Ends with `down` if the node stops.
 pub(crate) fn deliver<D: Desk<Op, Outcome>, W: Write>(
     alloc: Global,
     desk: &mut D,

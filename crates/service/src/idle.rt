@@ -26,7 +26,7 @@ pub(crate) struct Seat {
     receiver: Receiver<Arc<TcpStream>>,
 }
 
-/// Counts one more, unless there are enough. Gives whether it did.
+/// Counts one more, unless there are enough. Returns whether it did.
 fn add(count: &mut usize) -> bool {
     if *count >= MOST_IDLE {
         return false;
@@ -35,7 +35,7 @@ fn add(count: &mut usize) -> bool {
     true
 }
 
-/// Counts one less, if there is one. Gives whether it did.
+/// Counts one less, if there is one. Returns whether it did.
 fn take(count: &mut usize) -> bool {
     if *count == 0 {
         return false;
@@ -63,7 +63,7 @@ impl Idle {
         Ok(Seat { count, receiver })
     }
 
-    /// Hands the connection to a thread that waits. Gives it back where there is none.
+    /// Hands the connection to a thread that waits. Returns it if there is none.
     pub(crate) fn hand<R: Wait>(&self, rt: &R, stream: Arc<TcpStream>) -> Option<Arc<TcpStream>> {
         if !take(&mut *self.count.lock(rt)) {
             return Some(stream);
@@ -79,7 +79,7 @@ impl Idle {
 }
 
 impl Seat {
-    /// Waits for a connection. None where enough threads wait already, and once the port is closed.
+    /// Waits for a connection. None if enough threads wait already, and once the port is closed.
     pub(crate) fn next<R: Wait>(&self, rt: &R) -> Option<Arc<TcpStream>> {
         if !add(&mut *self.count.lock(rt)) {
             return None;

@@ -1,4 +1,4 @@
-//! The service `maildropd serve`, and the operator's `maildropd ctl`.
+//! The commands `maildropd serve`, a service of one to nine nodes, and `maildropd ctl`, an operator's request to it.
 #![tactic(auto)]
 
 mod arrivals;

@@ -15,7 +15,7 @@ use std::thread;
 use std::thread::JoinHandle;
 use std::time::Duration;
 
-/// How many milliseconds are waited before a connection is taken again, where none could be: the system has no
+/// How many milliseconds are waited before a connection is taken again, if none could be: the system has no
 /// descriptor, say.
 const PAUSE_MS: u64 = 10;
 

@@ -40,7 +40,7 @@ pub(crate) struct OperatorHandler<R, N: ServedNode> {
     pub ports: Arc<Vec<u16>>,
 }
 
-/// Reads up to the line feed into the buffer. Gives how many bytes stand before it, or nothing where these are too many or
+/// Reads up to the line feed into the buffer. Returns how many bytes stand before it, or nothing if these are too many or
 /// there is none.
 fn read_line<S: Read>(reader: &mut S, line: &mut [u8; LONGEST_REQUEST]) -> Option<usize>
     ensures { IfSome result (λ len. len ≤ longest_request) }
@@ -78,7 +78,7 @@ pub(crate) fn say_now<W: Write>(writer: &mut W, line: &[u8]) -> Result<(), Fault
     }
 }
 
-/// The line that tells how a node stands.
+/// The line that reports the state of a node.
 fn standing<N: ServedNode>(alloc: Global, node: &N) -> Result<String, Fault> {
     let number = node.me().get();
     match node.status() {
@@ -91,7 +91,7 @@ fn standing<N: ServedNode>(alloc: Global, node: &N) -> Result<String, Fault> {
     }
 }
 
-/// Has a user's lock broken, and tells the outcome.
+/// Has a user's lock broken, and reports the outcome.
 fn break_lock<D: Desk<Op, Outcome>, W: Write>(
     desk: &mut D,
     user: Name,
@@ -132,7 +132,7 @@ impl<R: Net + Wait + Clock + Copy, N: ServedNode + Desk<Op, Outcome> + Drop> Ope
         }
     }
 
-    /// Has the messages of the mailbox file that follows delivered, and tells their outcomes.
+    /// Has the messages of the mailbox file that follows delivered, and reports their outcomes.
     fn deliver_mail<S: Read, W: Write>(
         &self,
         number: NodeId,
@@ -152,7 +152,7 @@ impl<R: Net + Wait + Clock + Copy, N: ServedNode + Desk<Op, Outcome> + Drop> Ope
         }
     }
 
-    /// Has a user's lock broken, and tells the outcome.
+    /// Has a user's lock broken, and reports the outcome.
     fn break_at<W: Write>(&self, number: NodeId, user: Name, writer: &mut W) -> Result<(), Fault> {
         match self.desk(number)? {
             Some(mut desk) => break_lock(&mut desk, user, writer),
@@ -160,7 +160,7 @@ impl<R: Net + Wait + Clock + Copy, N: ServedNode + Desk<Op, Outcome> + Drop> Ope
         }
     }
 
-    /// Stops the service, and tells so. Who listens is woken last, as that may have to wait for descriptors.
+    /// Stops the service, and reports it. Listeners are woken last, since that may have to wait for descriptors.
     fn stop<W: Write>(&self, writer: &mut W) -> Result<(), Fault> {
         self.board.begin_stop(&self.rt);
         let said = say_now(writer, b"stopping\n");
@@ -224,7 +224,7 @@ impl<R: Net + Wait + Clock + Copy, N: ServedNode + Desk<Op, Outcome> + Drop> Ope
 impl<R: Net + Wait + Clock + Copy, N: ServedNode + Desk<Op, Outcome> + Drop> Handler
     for OperatorHandler<R, N> {
     fn serve(&mut self, stream: &TcpStream) {
-        // An outcome is told as soon as it is there.
+        // An outcome is reported as soon as it is there.
         let _slower = stream.set_nodelay(true);
         let pause = Some(Duration::from_secs(LONGEST_PAUSE_SECONDS));
         let _reads = stream.set_read_timeout(pause);

@@ -37,7 +37,7 @@ pub struct ServeOptions<'a> {
     pub octets: u64,
     /// The highest unique id that a maildrop may give: at most 2^63.
     pub ids: u64,
-    /// What stands behind the `@` of the greetings' timestamps.
+    /// What stands after the `@` of the greetings' timestamps.
     pub host: &'a [u8],
     /// How many milliseconds lie between two ticks of a node at least: 1 to 1,000,000.
     pub tick_ms: u64,
@@ -52,7 +52,7 @@ pub(crate) struct Settings {
     pub window: u64,
     /// The limits of each maildrop.
     pub limits: Limits,
-    /// What stands behind the `@` of the greetings' timestamps.
+    /// What stands after the `@` of the greetings' timestamps.
     pub host: Items<u8>,
     /// The ports of the nodes lie above this one: port `pop_port` + n is node n's.
     pub pop_port: u16,
@@ -79,7 +79,7 @@ fn are_in_range(options: &ServeOptions<'_>) -> bool
         && options.pop_port <= LAST_PORT - options.nodes
 }
 
-/// What the options say, or `Value` where one is out of its range.
+/// What the options say, or `Value` if one is out of its range.
 pub(crate) fn settings_of(alloc: Global, options: &ServeOptions<'_>) -> Result<Settings, Fault>
     ensures value { IsErrOf result Fault.Value ↔ ¬ spec.AreGood options.now }
     ensures cluster { IfOk result (λ settings. settings.cluster ≡ options.now.nodes) }

@@ -49,7 +49,7 @@ impl<R: RandomSource + Wait + Copy, N: ServedNode + Desk<Op, Outcome> + Drop> Ha
             &mut self.node,
             &mut OpenGate,
         );
-        // Nothing is written behind a write that failed.
+        // Nothing is written after a write that failed.
         let (_stream, unsaid) = writer.into_parts();
         drop(unsaid);
         self.board.keep(&self.rt, transcript);

@@ -37,7 +37,7 @@ use std::time::{Clock, Duration};
 /// The node that asks to lead as soon as the service starts.
 const FIRST_LEADER: u8 = 1;
 
-/// What is told of an accounts file that is refused.
+/// The fault of an accounts file that is refused.
 fn fault_of(error: AccountsError) -> Fault
     ensures { result ≡ faults.fault_of error }
 {
@@ -131,7 +131,7 @@ fn serve_cluster<D: Deployment + Send + Sync + 'static, R: System>(
     }
 }
 
-/// Waits until the sessions have ended, and then stops the nodes. Gives their logs. Operators who wait for a node until
+/// Waits until the sessions have ended, and then stops the nodes. Returns their logs. Operators who wait for a node until
 /// then are told that it has stopped.
 fn end_of<D: Deployment + Send + Sync + 'static, R: System>(
     rt: &R,
@@ -182,7 +182,7 @@ fn run<R: System + Files>(
     }
 }
 
-/// Writes the line that tells a verdict, and gives the exit status.
+/// Writes the line that reports a verdict, and returns the exit status.
 fn tell<W: Write>(alloc: Global, writer: &mut W, verdict: &Verdict) -> Result<u8, Fault>
     ensures status { IfOk result (λ status. status ≡ verdicts.status_of verdict.now) }
     ensures written { OnOk result (Appends (W.contents writer.old) (W.contents writer.new) (verdicts.text_of verdict.now ++ 10 ∷ [])) }
@@ -194,9 +194,9 @@ fn tell<W: Write>(alloc: Global, writer: &mut W, verdict: &Verdict) -> Result<u8
 
 /// Serves POP3 (RFC 1939) at a port of each node, and an operator's requests at a port of their own, until an operator
 /// stops it: then no connection is taken any more, the sessions go on to their ends, the nodes stop, and what an audit
-/// says of all that they did is written. Gives the exit status: 0 where that is `audit ok`, 1 where it is something else
+/// says of all that they did is written. Returns the exit status: 0 if that is `audit ok`, 1 if it is something else
 /// and after a fault of memory, reading, writing or the network, 2 for options or an accounts file that are none. A fault
-/// is told on standard error.
+/// is reported on standard error.
 pub fn serve_run<
     R: Net<Listener = TcpListener, Stream = TcpStream>
         + Threads
@@ -214,7 +214,7 @@ pub fn serve_run<
     ensures values { (¬ spec.AreGood options.now) → result ≡ 2 }
     ensures statuses { result ≤ 2 }
 
-    // The status 0 comes only behind the line that tells of an audit which found all in order.
+    // The status 0 comes only after the line which reports that an audit found all in order.
     ensures told { result ≡ 0 → Appends (W.contents writer.old) (W.contents writer.new) (verdicts.text_of Legal ++ 10 ∷ []) }
 {
     let fault = match run(rt, alloc, options) {

@@ -13,7 +13,7 @@ pub trait ServedNode {
     where
         Self: Sized;
 
-    /// The node stops, for good. Gives whether it was up until now.
+    /// Stops the node for good. Returns whether it was up until now.
     fn crash(&self) -> bool;
 
     /// Time has passed for the node.

@@ -66,7 +66,7 @@ pub(crate) struct ServiceThreads {
     pub(crate) operators: Vec<JoinHandle<()>>,
 }
 
-/// Serves the nodes at their ports. Where a thread can't be had, those that run are told to stop.
+/// Serves the nodes at their ports. If a thread can't be had, those that run are told to stop.
 pub(crate) fn start<R: System, N: ServedNode + Desk<Op, Outcome> + Send + Sync + Drop + 'static>(
     rt: R,
     alloc: Global,

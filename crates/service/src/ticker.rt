@@ -21,7 +21,7 @@ struct Watched<N: ServedNode> {
 }
 
 impl<N: ServedNode> Watched<N> {
-    /// Time has passed for the node. Where it has waited in vain for long enough, it asks to lead.
+    /// Time has passed for the node. If it has waited in vain for long enough, it asks to lead.
     fn tick(&mut self) {
         self.node.tick();
         if let Some(status) = self.node.status() {
@@ -55,7 +55,7 @@ pub(crate) fn start<
     }
 }
 
-/// A tick has the nodes send again whatever awaits an answer, and behind a change of the leader that is all that was ever
+/// A tick has the nodes send again whatever awaits an answer, and after a change of the leader that is all that was ever
 /// decided. So it is put off while something that was sent waits to be heard: the answer may lie there, and a node that
 /// has much to hear doesn't wait in vain. Nodes at rest need no time, and their logs don't grow by it.
 fn run<R: Wait + Clock, N: ServedNode + Drop>(
@@ -69,7 +69,7 @@ fn run<R: Wait + Clock, N: ServedNode + Drop>(
         if board.pauses(rt, every) {
             return;
         }
-        // Whoever makes a long step has its lock, for which this waits.
+        // A thread that makes a long step holds the lock, and this waits for it.
         let are_at_rest = are_at_rest(&nodes);
         if put_off < MOST_PUT_OFF && has_unheard(&nodes) {
             put_off += 1;

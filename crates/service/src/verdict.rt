@@ -1,4 +1,4 @@
-//! What is told of a run once it has ended.
+//! The verdict on a run once it has ended.
 ghost use Rattle.std.specs.Prelude.{◌≡◌, ◌++◌, ◌∷◌, [], string_bytes, IfOk};
 ghost use Rattle.service.specs.Verdicts as spec;
 ghost use Rattle.service.specs.Verdicts.{IsVerdict};
@@ -9,7 +9,7 @@ use node::NodeLog;
 use session::Transcript;
 use std::alloc::{AllocError, Global};
 
-/// What is told of a run once it has ended.
+/// The verdict on a run once it has ended.
 #[derive(Clone, Copy, Debug, PartialEq, Eq)]
 pub enum Verdict {
     /// What the nodes logged and the sessions were told can have come in an order that is legal.
@@ -24,7 +24,7 @@ pub enum Verdict {
 }
 
 impl Verdict {
-    /// The line that tells it, with its line feed.
+    /// The line that reports it, with its line feed.
     pub fn line(&self, alloc: Global) -> Result<String, Memory>
         ensures { IfOk result (λ line. string_bytes line ≡ spec.text_of self.now ++ 10 ∷ []) }
     {
@@ -41,7 +41,7 @@ impl Verdict {
         }
     }
 
-    /// The exit status: 0 where the audit found all in order, else 1.
+    /// The exit status: 0 if the audit found all in order, else 1.
     pub fn status(&self) -> u8
         ensures { result ≡ spec.status_of self.now }
     {
@@ -52,7 +52,7 @@ impl Verdict {
     }
 }
 
-/// What is told after an audit that found no legal order.
+/// The verdict after an audit that found no legal order.
 fn verdict_by(error: AuditError) -> Verdict
     ensures { result ≡ spec.verdict_by error }
 {

@@ -11,7 +11,7 @@ use crate::undelivered::Route;
 pub(crate) struct Mark {
     /// The route.
     pub route: Route,
-    /// The place, of those at which messages were sent, or the one behind them.
+    /// The place, of those at which messages were sent, or the one after them.
     pub place: usize,
 }
 
@@ -23,7 +23,7 @@ fn find(marks: &[Mark], route: &Route) -> Option<usize>
     marks.iter().position(|mark| mark.route.is_same(route))
 }
 
-/// A place before which all messages of a route have arrived, as far as the marks tell.
+/// A place before which all messages of a route have arrived, as far as the marks show.
 pub(crate) fn place_of(marks: &[Mark], route: &Route) -> usize
     ensures { (sent : List (Sent Global)) → AreMarks sent marks.now → HaveArrived route.now result sent }
 {
@@ -33,7 +33,7 @@ pub(crate) fn place_of(marks: &[Mark], route: &Route) -> usize
     }
 }
 
-/// All messages of the route before this place have arrived. Where there is no memory for its mark that is forgotten.
+/// All messages of the route before this place have arrived. If there is no memory for its mark, this is forgotten.
 pub(crate) fn keep(marks: &mut Vec<Mark>, route: Route, place: usize)
     ensures { (sent : List (Sent Global)) → AreMarks sent marks.old.items → HaveArrived route place sent → AreMarks sent marks.new.items }
 {

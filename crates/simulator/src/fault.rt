@@ -5,10 +5,10 @@ ghost use Rattle.simulator.specs.Statuses.{status_at};
 use ballot::Memory;
 use thiserror::Error;
 
-/// Why a script isn't played to its end. Its text is what the program says on standard error.
+/// Why a script isn't played to its end. Its text is what the program reports on standard error.
 #[derive(Clone, Copy, Debug, PartialEq, Eq, Error)]
 pub(crate) enum Fault {
-    /// The line of this number, counted from 1, is none of the language, or stands where it may not.
+    /// The line of this number, counted from 1, is none of the language, or may not come at its place.
     #[error("script line {0}")]
     Line(u64),
     #[error("no memory")]

@@ -81,7 +81,7 @@ impl Play {
         }
     }
 
-    /// Gives the service an event. Why it is refused is written, or else what its session is told.
+    /// Hands the service an event. Writes why it is refused, or else what its session is told.
     fn give(&mut self, event: Event, report: &mut Report) -> Result<(), Memory>
         ensures { OnOk result (spec.IsWritten (spec.given self.old event) self.new report.old report.new) }
     {
@@ -127,7 +127,7 @@ impl Play {
     {
         for _ in 0..self.sessions.len() {
             let world = self.service.world();
-            // No message stands behind the last one, so what comes next is an answer.
+            // No message comes after the last one, so what comes next is an answer.
             let behind = world.sent().len();
             let Some(event) = world.next_oldest(behind) else {
                 return Ok(());

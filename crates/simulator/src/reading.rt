@@ -25,7 +25,7 @@ fn part_of_line(bytes: &[u8]) -> (usize, bool)
     }
 }
 
-/// Moves what is held of the line to `line`. Gives whether its line feed is among it; if not, nothing is held any more.
+/// Moves what is held of the line to `line`. Returns whether its line feed is among it; if not, nothing is held any more.
 /// After `Memory` all is as it was.
 fn take_held<R: Read>(reader: &mut BufReader<R>, line: &mut Vec<u8>) -> Result<bool, Fault>
     ensures known { (bytes : List ℕ) → reader_remaining R.remaining reader.old ≡ Some bytes →
@@ -44,7 +44,7 @@ fn take_held<R: Read>(reader: &mut BufReader<R>, line: &mut Vec<u8>) -> Result<b
     Ok(is_whole)
 }
 
-/// Reads once. Gives whether more may come: not at the end of the input.
+/// Reads once. Returns whether more may come: false at the end of the input.
 fn read_more<R: Read>(reader: &mut BufReader<R>, reads_left: &mut u32) -> Result<bool, Fault>
     requires empty { reader_buffer reader.old ≡ [] }
     ensures counted { OnOk result (reads_left.old ≡ reads_left.new + 1) }
@@ -67,8 +67,8 @@ fn read_more<R: Read>(reader: &mut BufReader<R>, reads_left: &mut u32) -> Result
     }
 }
 
-/// Reads the next line into `line`, with its line feed, in at most as many reads as are left, and in none where it is
-/// held. Gives whether there was one. At a fault what was read of the line is lost.
+/// Reads the next line into `line`, with its line feed, in at most as many reads as are left, and in none if it is
+/// held. Returns whether there was one. At a fault what was read of the line is lost.
 pub(crate) fn read_line<R: Read>(
     reader: &mut BufReader<R>,
     reads_left: &mut u32,

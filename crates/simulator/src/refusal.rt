@@ -1,4 +1,4 @@
-//! Why a service refuses an event, as a script's output tells it.
+//! Why a service refuses an event, as a script's output reports it.
 ghost use Rattle.std.specs.Prelude.{◌≡◌, IfOk, OnOk, OnErr};
 ghost use Rattle.script.specs.Output.{refusal_line};
 ghost use Rattle.simulator.specs.Refusals.{refused_line};
@@ -7,7 +7,7 @@ use ballot::Memory;
 use script::Refusal;
 use world::Refused;
 
-/// The refusal that is told. Want of memory is none that a script goes on behind.
+/// The refusal that is reported. Out of memory is none: the script ends.
 pub(crate) fn refusal_of(refused: Refused) -> Result<Refusal, Memory>
     ensures line { IfOk result (λ refusal. refusal_line refusal ≡ refused_line refused) }
     ensures known { OnOk result (refused ≡ Refused.Memory → ⊥) }

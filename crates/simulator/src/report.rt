@@ -9,7 +9,7 @@ use script::{Refusal, put_outcome, put_performed, put_refusal, put_replies, put_
 use std::alloc::Global;
 use std::marker::Model;
 
-/// Lines of output that are still to be written. After `Memory` no part of a line stands there that isn't whole.
+/// Lines of output that are still to be written. After `Memory` it holds whole lines only.
 #[derive(Drop)]
 pub(crate) struct Report {
     bytes: Vec<u8>,
@@ -68,7 +68,7 @@ impl Report {
         self.bytes.clear();
     }
 
-    /// Takes away what was added behind the first `len` bytes, where not all of it could be.
+    /// Takes away what was added after the first `len` bytes, if not all of it could be.
     fn unless_whole(&mut self, len: usize, added: Result<(), Memory>) -> Result<(), Memory>
         ensures same { result ≡ added }
         ensures kept { OnOk added (self.new ≡ self.old) }

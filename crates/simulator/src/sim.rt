@@ -15,10 +15,10 @@ use script::ScriptFault;
 use std::alloc::Global;
 use std::io::{BufReader, Read, Write};
 
-/// From so many bytes on output is written, also where the next line is there already.
+/// From so many bytes on output is written, even if the next line is there already.
 const GATHERED: usize = 65_536;
 
-/// Writes what is still to be written. It is let go also where that fails, so that no byte of it is written twice.
+/// Writes what is still to be written. It is let go even if that fails, so that no byte of it is written twice.
 fn write_out<W: Write>(writer: &mut W, report: &mut Report) -> Result<(), Fault>
     ensures written { OnOk result (Appends (W.contents writer.old) (W.contents writer.new) report.old) }
     ensures cleared { report.new ≡ [] }
@@ -35,7 +35,7 @@ fn write_out<W: Write>(writer: &mut W, report: &mut Report) -> Result<(), Fault>
     }
 }
 
-/// Writes what is still to be written, before more input is awaited or where it is much.
+/// Writes what is still to be written, before more input is awaited or if it is much.
 fn write_due<W: Write>(writer: &mut W, report: &mut Report, is_awaited: bool) -> Result<(), Fault>
     ensures { IfErr result (λ fault. fault ≡ Fault.Write) }
 {
@@ -93,7 +93,23 @@ fn play_lines<R: Read, W: Write>(
     Err(Fault::Read)
 }
 
-/// Plays a script, and writes also what came of it before a fault.
+/// Plays the lines of a script, and writes also what came of them before a fault. Has one way out: who owns the run ends
+/// with this call, since each way out of that function costs a proof of all that is dropped there.
+fn play_and_write<R: Read, W: Write>(
+    alloc: Global,
+    run: &mut Run,
+    reader: &mut BufReader<R>,
+    writer: &mut W,
+) -> Result<(), Fault>
+    ensures sound { OnOk result ((bytes : List ℕ) → reader_remaining R.remaining reader.old ≡ Some bytes → spec.fault_from (lines bytes) 1 run.old.script ≡ None) }
+    ensures line { IfErr result (λ fault. (bytes : List ℕ) (number : ℕ) → reader_remaining R.remaining reader.old ≡ Some bytes → fault ≡ Fault.Line number → spec.fault_from (lines bytes) 1 run.old.script ≡ Some number) }
+{
+    let played = play_lines(alloc, run, reader, writer);
+    write_out(writer, &mut run.report)?;
+    played
+}
+
+/// Plays a script.
 fn run<R: Read, W: Write>(alloc: Global, reader: &mut R, writer: &mut W) -> Result<(), Fault>
     ensures sound { OnOk result (IfSome (R.remaining reader.old) (λ input. spec.first_fault input ≡ None)) }
     ensures line { IfErr result (λ fault. (number : ℕ) → fault ≡ Fault.Line number → IfSome (R.remaining reader.old) (λ input. spec.first_fault input ≡ Some number)) }
@@ -102,16 +118,14 @@ fn run<R: Read, W: Write>(alloc: Global, reader: &mut R, writer: &mut W) -> Resu
         return Err(Fault::Memory);
     };
     let mut run = Run::new(alloc);
-    let played = play_lines(alloc, &mut run, &mut lines, writer);
-    write_out(writer, &mut run.report)?;
-    played
+    play_and_write(alloc, &mut run, &mut lines, writer)
 }
 
 /// Plays a script of events, from a reader, against a whole service of one to nine nodes, and writes what its sessions
 /// are told, what its Mails and Breaks are answered, which commands are refused, and what nodes have performed, to a
-/// writer. What comes of a line is written before more input is awaited. Gives the exit status: 0 at the end of the
-/// input, 1 after a fault of memory, reading or writing, 2 at a line that is none of the language, or stands where it may
-/// not. A fault is told on standard error, behind the output of what ran before.
+/// writer. What comes of a line is written before more input is awaited. Returns the exit status: 0 at the end of the
+/// input, 1 after a fault of memory, reading or writing, 2 at a line that is none of the language or may not come at its
+/// place. A fault is reported on standard error, after the output of what ran before.
 pub fn sim_run<H: AllocGlobal + Eprint, R: Read, W: Write>(
     rt: &H,
     reader: &mut R,

@@ -44,7 +44,7 @@ impl Route {
         sent.iter().position(|message| self.is_next(message))
     }
 
-    /// The same, where all of them that stand before `from` have arrived.
+    /// The same, if all of them that stand before `from` have arrived.
     pub(crate) fn first_undelivered(&self, sent: &[Sent], from: usize) -> Option<usize>
         requires { spec.HaveArrived self.now from sent.now }
         ensures { result ≡ position (spec.is_next self.now) sent.now }
