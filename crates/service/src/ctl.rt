@@ -5,7 +5,7 @@ ghost use Rattle.service.specs.Options.{is_between, last_port};
 
 use crate::fault::Fault;
 use crate::file::read_file;
-use crate::operator::say;
+use crate::say::say;
 use crate::system::local;
 use script::{Instruction, Request, WordsFault, instruction_of, put_request};
 use std::alloc::Global;

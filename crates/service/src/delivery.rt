@@ -3,7 +3,7 @@ ghost use Rattle.std.specs.Prelude.{◌≡◌};
 ghost use Rattle.service.specs.Keys.{key_at};
 
 use crate::fault::Fault;
-use crate::operator::{say, say_now};
+use crate::say::{say, say_now};
 use maildrop::{Key, Name, Op, Outcome, Text};
 use mboxrd::{MboxError, Reader};
 use script::{KeyPrefix, LAST_MESSAGE, put_outcome};

@@ -12,7 +12,7 @@ const MOST_IDLE: usize = 64;
 /// The threads of a port that wait for their next connection, as who hands out connections sees them. Once this is gone
 /// none waits any more.
 #[derive(Drop)]
-pub(crate) struct Idle {
+pub(crate) struct IdleWorkers {
     /// How many wait to which no connection was handed yet.
     count: Arc<Mutex<usize>>,
     sender: Sender<Arc<TcpStream>>,
@@ -21,7 +21,7 @@ pub(crate) struct Idle {
 
 /// Where a thread waits for its next connection.
 #[derive(Drop)]
-pub(crate) struct Seat {
+pub(crate) struct NextConnection {
     count: Arc<Mutex<usize>>,
     receiver: Receiver<Arc<TcpStream>>,
 }
@@ -44,12 +44,12 @@ fn take(count: &mut usize) -> bool {
     true
 }
 
-impl Idle {
+impl IdleWorkers {
     /// No threads.
     pub(crate) fn new(alloc: Global) -> Result<Self, Memory> {
         let count = Arc::new(alloc, Mutex::new(0))?;
         let (sender, receiver) = unbounded(alloc)?;
-        Ok(Idle {
+        Ok(IdleWorkers {
             count,
             sender,
             receiver,
@@ -57,10 +57,10 @@ impl Idle {
     }
 
     /// Where one more thread waits.
-    pub(crate) fn seat(&self) -> Result<Seat, Memory> {
+    pub(crate) fn connections(&self) -> Result<NextConnection, Memory> {
         let count = Arc::try_clone(&self.count)?;
         let receiver = self.receiver.clone()?;
-        Ok(Seat { count, receiver })
+        Ok(NextConnection { count, receiver })
     }
 
     /// Hands the connection to a thread that waits. Returns it if there is none.
@@ -78,7 +78,7 @@ impl Idle {
     }
 }
 
-impl Seat {
+impl NextConnection {
     /// Waits for a connection. None if enough threads wait already, and once the port is closed.
     pub(crate) fn next<R: Wait>(&self, rt: &R) -> Option<Arc<TcpStream>> {
         if !add(&mut *self.count.lock(rt)) {

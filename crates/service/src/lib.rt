@@ -2,8 +2,6 @@
 #![tactic(auto)]
 
 mod arrivals;
-mod board;
-mod crew;
 mod ctl;
 mod delivery;
 mod fault;
@@ -15,15 +13,19 @@ mod node_desk;
 mod operator;
 mod options;
 mod pop;
+mod say;
 mod serve;
 mod served_node;
-mod serving;
+mod state;
 mod system;
+mod threads;
 mod ticker;
 mod verdict;
+mod workers;
 
 pub use ctl::ctl_run;
 pub use fault::Fault;
 pub use options::ServeOptions;
 pub use serve::serve_run;
+pub use system::System;
 pub use verdict::{Verdict, verdict_of};

@@ -2,12 +2,12 @@
 ghost use Rattle.std.specs.Prelude.{◌≡◌, IfErr};
 
 use crate::arrivals::Arrivals;
-use crate::board::Board;
-use crate::crew::{Crew, Ended};
 use crate::fault::Fault;
 use crate::handler::Handler;
-use crate::idle::Idle;
+use crate::idle::IdleWorkers;
+use crate::state::ServiceState;
 use crate::system::{System, local};
+use crate::workers::{Ended, Workers};
 use std::alloc::Global;
 use std::net::TcpListener;
 use std::sync::{Arc, Mutex};
@@ -46,14 +46,14 @@ impl Port {
         self,
         rt: R,
         alloc: Global,
-        host: H,
-        board: Arc<Board>,
+        handler: H,
+        state: Arc<ServiceState>,
     ) -> Result<JoinHandle<()>, Fault> {
         let ended = Arc::new(alloc, Mutex::new(Vec::new(alloc)))?;
-        let idle = Idle::new(alloc)?;
+        let idle = IdleWorkers::new(alloc)?;
         match thread::spawn(
             &rt,
-            move || take_all(rt, alloc, self, &host, &board, ended, idle),
+            move || take_all(rt, alloc, self, &handler, &state, ended, idle),
         ) {
             Ok(thread) => Ok(thread),
             Err(_) => Err(Fault::Memory),
@@ -66,21 +66,21 @@ fn take_all<R: System, H: Handler + Send + Drop + 'static>(
     rt: R,
     alloc: Global,
     port: Port,
-    host: &H,
-    board: &Board,
+    handler: &H,
+    state: &ServiceState,
     ended: Ended,
-    idle: Idle,
+    idle: IdleWorkers,
 ) {
     let Port { listener, most } = port;
     let mut arrivals = Arrivals::new(alloc, listener);
-    let mut crew = Crew::new(alloc, ended, idle, most);
+    let mut workers = Workers::new(alloc, ended, idle, most);
     for _ in rt.forever() {
         let next = arrivals.next();
-        if board.is_stopping(&rt) {
+        if state.is_stopping(&rt) {
             break;
         }
         match next {
-            Ok(stream) => crew.take(rt, alloc, stream, host),
+            Ok(stream) => workers.take(rt, alloc, stream, handler),
             Err(_) => thread::sleep(&rt, Duration::from_millis(PAUSE_MS)),
         }
         let most = if arrivals.are_waiting() {
@@ -88,8 +88,8 @@ fn take_all<R: System, H: Handler + Send + Drop + 'static>(
         } else {
             usize::MAX
         };
-        crew.reap(&rt, most);
+        workers.reap(&rt, most);
     }
     drop(arrivals);
-    crew.end(&rt);
+    workers.end(&rt);
 }

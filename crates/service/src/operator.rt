@@ -1,13 +1,13 @@
 //! The operator's port.
-ghost use Rattle.std.specs.Prelude.{◌≤◌, IfSome, OnOk};
-ghost use Rattle.std.specs.Io.KnownBytes.{Appends};
+ghost use Rattle.std.specs.Prelude.{◌≤◌, IfSome};
 ghost use Rattle.script.specs.Requests.{longest_request};
 
-use crate::board::Board;
 use crate::delivery::{deliver, texts_in};
 use crate::fault::Fault;
 use crate::handler::Handler;
+use crate::say::{say, say_now};
 use crate::served_node::ServedNode;
+use crate::state::ServiceState;
 use ballot::{Memory, NodeId};
 use maildrop::{Name, Op, Outcome};
 use script::{KeyPrefix, LONGEST_REQUEST, Request, parse_request};
@@ -35,7 +35,7 @@ pub(crate) struct OperatorHandler<R, N: ServedNode> {
     /// The nodes of the service.
     pub nodes: Arc<Vec<N>>,
     /// What all threads of the service see.
-    pub board: Arc<Board>,
+    pub state: Arc<ServiceState>,
     /// All ports of the service, which are woken when it stops.
     pub ports: Arc<Vec<u16>>,
 }
@@ -57,25 +57,6 @@ fn read_line<S: Read>(reader: &mut S, line: &mut [u8; LONGEST_REQUEST]) -> Optio
         *line.get_mut(len)? = byte[0];
     }
     None
-}
-
-/// Says a line.
-pub(crate) fn say<W: Write>(writer: &mut W, line: &[u8]) -> Result<(), Fault>
-    ensures { OnOk result (Appends (W.contents writer.old) (W.contents writer.new) line.now) }
-{
-    match writer.write_all(line) {
-        Ok(()) => Ok(()),
-        Err(_) => Err(Fault::Write),
-    }
-}
-
-/// Says a line at once.
-pub(crate) fn say_now<W: Write>(writer: &mut W, line: &[u8]) -> Result<(), Fault> {
-    say(writer, line)?;
-    match writer.flush() {
-        Ok(()) => Ok(()),
-        Err(_) => Err(Fault::Write),
-    }
 }
 
 /// The line that reports the state of a node.
@@ -162,9 +143,9 @@ impl<R: Net + Wait + Clock + Copy, N: ServedNode + Desk<Op, Outcome> + Drop> Ope
 
     /// Stops the service, and reports it. Listeners are woken last, since that may have to wait for descriptors.
     fn stop<W: Write>(&self, writer: &mut W) -> Result<(), Fault> {
-        self.board.begin_stop(&self.rt);
+        self.state.begin_stop(&self.rt);
         let said = say_now(writer, b"stopping\n");
-        self.board.stop(&self.rt, &self.ports);
+        self.state.stop(&self.rt, &self.ports);
         said
     }
 
@@ -234,13 +215,13 @@ impl<R: Net + Wait + Clock + Copy, N: ServedNode + Desk<Op, Outcome> + Drop> Han
 
     fn share(&self) -> Result<Self, Memory> {
         let nodes = Arc::try_clone(&self.nodes)?;
-        let board = Arc::try_clone(&self.board)?;
+        let state = Arc::try_clone(&self.state)?;
         let ports = Arc::try_clone(&self.ports)?;
         Ok(OperatorHandler {
             rt: self.rt,
             alloc: self.alloc,
             nodes,
-            board,
+            state,
             ports,
         })
     }

@@ -1,8 +1,8 @@
 //! POP3 connections.
 
-use crate::board::Board;
 use crate::handler::Handler;
 use crate::served_node::ServedNode;
+use crate::state::ServiceState;
 use ballot::Memory;
 use maildrop::{Op, Outcome};
 use session::{Desk, OpenGate, serve};
@@ -25,7 +25,7 @@ pub(crate) struct PopHandler<R, N: ServedNode> {
     /// The node that the sessions ask.
     pub node: N,
     /// What all threads of the service see.
-    pub board: Arc<Board>,
+    pub state: Arc<ServiceState>,
 }
 
 impl<R: RandomSource + Wait + Copy, N: ServedNode + Desk<Op, Outcome> + Drop> Handler
@@ -33,7 +33,7 @@ impl<R: RandomSource + Wait + Copy, N: ServedNode + Desk<Op, Outcome> + Drop> Ha
     fn serve(&mut self, stream: &TcpStream) {
         // What is written goes out at once.
         let _slower = stream.set_nodelay(true);
-        let Some(stamp) = self.board.new_stamp(&self.rt, self.alloc) else {
+        let Some(stamp) = self.state.new_stamp(&self.rt, self.alloc) else {
             return;
         };
         let Ok(mut writer) = BufWriter::with_capacity(self.alloc, GATHERED, stream) else {
@@ -44,7 +44,7 @@ impl<R: RandomSource + Wait + Copy, N: ServedNode + Desk<Op, Outcome> + Drop> Ha
             self.alloc,
             &mut reader,
             &mut writer,
-            self.board.accounts(),
+            self.state.accounts(),
             stamp,
             &mut self.node,
             &mut OpenGate,
@@ -52,17 +52,17 @@ impl<R: RandomSource + Wait + Copy, N: ServedNode + Desk<Op, Outcome> + Drop> Ha
         // Nothing is written after a write that failed.
         let (_stream, unsaid) = writer.into_parts();
         drop(unsaid);
-        self.board.keep(&self.rt, transcript);
+        self.state.keep(&self.rt, transcript);
     }
 
     fn share(&self) -> Result<Self, Memory> {
         let node = self.node.share()?;
-        let board = Arc::try_clone(&self.board)?;
+        let state = Arc::try_clone(&self.state)?;
         Ok(PopHandler {
             rt: self.rt,
             alloc: self.alloc,
             node,
-            board,
+            state,
         })
     }
 

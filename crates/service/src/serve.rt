@@ -11,14 +11,14 @@ ghost use Rattle.apop.specs.Accounts as table;
 ghost use Rattle.apop.specs.Accounts.{name_of};
 ghost use Rattle.maildrop.specs.Name.{are_different};
 
-use crate::board::Board;
 use crate::fault::Fault;
 use crate::file::read_file;
-use crate::operator::say;
 use crate::options::{ServeOptions, Settings, settings_of};
-use crate::serving;
-use crate::serving::{Ports, ServiceThreads, join_all};
+use crate::say::say;
+use crate::state::ServiceState;
 use crate::system::System;
+use crate::threads;
+use crate::threads::{Ports, ServiceThreads, join_all};
 use crate::verdict::{Verdict, verdict_of};
 use apop::{Accounts, AccountsError};
 use ballot::{Items, NodeId};
@@ -27,12 +27,9 @@ use node::NodeLog;
 use std::alloc::Global;
 use std::io::{Eprint, Write};
 use std::marker::Brand;
-use std::net::{Net, TcpListener, TcpStream};
-use std::random::RandomSource;
 use std::rt::Files;
-use std::sync::{Arc, Wait};
-use std::thread::Threads;
-use std::time::{Clock, Duration};
+use std::sync::Arc;
+use std::time::Duration;
 
 /// The node that asks to lead as soon as the service starts.
 const FIRST_LEADER: u8 = 1;
@@ -107,7 +104,7 @@ fn serve_cluster<D: Deployment + Send + Sync + 'static, R: System>(
     setup: &Setup,
     settings: &Settings,
     ports: Ports,
-    board: &Arc<Board>,
+    state: &Arc<ServiceState>,
 ) -> Result<Verdict, Fault>
     requires deployment { setup.now ≡ D.setup }
     requires names { IsTrue (are_different setup.now.names) }
@@ -122,10 +119,10 @@ fn serve_cluster<D: Deployment + Send + Sync + 'static, R: System>(
         cluster.campaign(leader);
     }
     let tick = Duration::from_millis(settings.tick_ms);
-    let (threads, started) = serving::start(rt, alloc, desks, ports, board, tick);
-    let logs = end_of(&rt, cluster, threads, board);
+    let (threads, started) = threads::start(rt, alloc, desks, ports, state, tick);
+    let logs = end_of(&rt, cluster, threads, state);
     started?;
-    match board.take_transcripts(&rt, alloc) {
+    match state.take_transcripts(&rt, alloc) {
         Some(transcripts) => Ok(verdict_of(alloc, &logs, &transcripts)),
         None => Ok(Verdict::Memory),
     }
@@ -137,7 +134,7 @@ fn end_of<D: Deployment + Send + Sync + 'static, R: System>(
     rt: &R,
     cluster: Cluster<D, R, InboxLink<R>>,
     threads: ServiceThreads,
-    board: &Board,
+    state: &ServiceState,
 ) -> Vec<NodeLog>
     ensures { All (λ log. IsLogOf D.setup log.opening.me log) result.items }
 {
@@ -147,7 +144,7 @@ fn end_of<D: Deployment + Send + Sync + 'static, R: System>(
         operators,
     } = threads;
     join_all(rt, sessions);
-    board.end(rt);
+    state.end(rt);
     join_all(rt, ticker);
     let logs = cluster.stop();
     join_all(rt, operators);
@@ -165,8 +162,8 @@ fn run_with<R: System + Files>(
     let setup = setup_of(alloc, settings, &accounts)?;
     let ports = Ports::open(&rt, alloc, settings)?;
     let host = settings.host.copy()?;
-    let board = Arc::new(alloc, Board::new(alloc, accounts, host))?;
-    serve_cluster::<Brand, R>(rt, alloc, &setup, settings, ports, &board)
+    let state = Arc::new(alloc, ServiceState::new(alloc, accounts, host))?;
+    serve_cluster::<Brand, R>(rt, alloc, &setup, settings, ports, &state)
 }
 
 fn run<R: System + Files>(
@@ -197,20 +194,12 @@ fn tell<W: Write>(alloc: Global, writer: &mut W, verdict: &Verdict) -> Result<u8
 /// says of all that they did is written. Returns the exit status: 0 if that is `audit ok`, 1 if it is something else
 /// and after a fault of memory, reading, writing or the network, 2 for options or an accounts file that are none. A fault
 /// is reported on standard error.
-pub fn serve_run<
-    R: Net<Listener = TcpListener, Stream = TcpStream>
-        + Threads
-        + Wait
-        + Clock
-        + RandomSource
-        + Copy
-        + Send
-        + Sync
-        + 'static
-        + Files
-        + Eprint,
-    W: Write,
->(rt: R, alloc: Global, writer: &mut W, options: &ServeOptions<'_>) -> u8
+pub fn serve_run<R: System + Files + Eprint, W: Write>(
+    rt: R,
+    alloc: Global,
+    writer: &mut W,
+    options: &ServeOptions<'_>,
+) -> u8
     ensures values { (¬ spec.AreGood options.now) → result ≡ 2 }
     ensures statuses { result ≤ 2 }
 

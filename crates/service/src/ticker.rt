@@ -1,8 +1,8 @@
 //! The time of the nodes.
 
-use crate::board::Board;
 use crate::fault::Fault;
 use crate::served_node::ServedNode;
+use crate::state::ServiceState;
 use cluster::Patience;
 use std::alloc::Global;
 use std::sync::{Arc, Wait};
@@ -40,7 +40,7 @@ pub(crate) fn start<
     rt: R,
     alloc: Global,
     nodes: &[N],
-    board: Arc<Board>,
+    state: Arc<ServiceState>,
     every: Duration,
 ) -> Result<JoinHandle<()>, Fault> {
     let mut watched = Vec::new(alloc);
@@ -49,7 +49,7 @@ pub(crate) fn start<
         let node = node.share()?;
         watched.push(Watched { node, patience })?;
     }
-    match thread::spawn(&rt, move || run(&rt, watched, &board, every)) {
+    match thread::spawn(&rt, move || run(&rt, watched, &state, every)) {
         Ok(thread) => Ok(thread),
         Err(_) => Err(Fault::Memory),
     }
@@ -61,12 +61,12 @@ pub(crate) fn start<
 fn run<R: Wait + Clock, N: ServedNode + Drop>(
     rt: &R,
     mut nodes: Vec<Watched<N>>,
-    board: &Board,
+    state: &ServiceState,
     every: Duration,
 ) {
     let mut put_off = 0;
     for _ in rt.forever() {
-        if board.pauses(rt, every) {
+        if state.pauses(rt, every) {
             return;
         }
         // A thread that makes a long step holds the lock, and this waits for it.

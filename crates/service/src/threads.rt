@@ -2,13 +2,13 @@
 ghost use Rattle.std.specs.Prelude.{IfErr};
 ghost use Rattle.service.specs.Faults.{IsPortFault};
 
-use crate::board::Board;
 use crate::fault::Fault;
 use crate::listener::Port;
 use crate::operator::OperatorHandler;
 use crate::options::Settings;
 use crate::pop::PopHandler;
 use crate::served_node::ServedNode;
+use crate::state::ServiceState;
 use crate::system::System;
 use crate::ticker;
 use maildrop::{Op, Outcome};
@@ -72,7 +72,7 @@ pub(crate) fn start<R: System, N: ServedNode + Desk<Op, Outcome> + Send + Sync +
     alloc: Global,
     nodes: Arc<Vec<N>>,
     ports: Ports,
-    board: &Arc<Board>,
+    state: &Arc<ServiceState>,
     tick: Duration,
 ) -> (ServiceThreads, Result<(), Fault>) {
     let mut threads = ServiceThreads {
@@ -81,13 +81,13 @@ pub(crate) fn start<R: System, N: ServedNode + Desk<Op, Outcome> + Send + Sync +
         operators: Vec::new(alloc),
     };
     let Ports { numbers, pop, ctl } = ports;
-    let started = start_sessions(rt, alloc, &nodes, pop, board, tick, &mut threads);
+    let started = start_sessions(rt, alloc, &nodes, pop, state, tick, &mut threads);
     let started = match started {
-        Ok(()) => start_operators(rt, alloc, nodes, &numbers, ctl, board, &mut threads),
+        Ok(()) => start_operators(rt, alloc, nodes, &numbers, ctl, state, &mut threads),
         Err(fault) => Err(fault),
     };
     if started.is_err() {
-        board.stop(&rt, &numbers);
+        state.stop(&rt, &numbers);
     }
     (threads, started)
 }
@@ -98,12 +98,12 @@ fn start_sessions<R: System, N: ServedNode + Desk<Op, Outcome> + Send + Sync + D
     alloc: Global,
     nodes: &[N],
     ports: Vec<Port>,
-    board: &Arc<Board>,
+    state: &Arc<ServiceState>,
     tick: Duration,
     threads: &mut ServiceThreads,
 ) -> Result<(), Fault> {
     threads.ticker.reserve(1)?;
-    let ticker = ticker::start(rt, alloc, nodes, Arc::try_clone(board)?, tick)?;
+    let ticker = ticker::start(rt, alloc, nodes, Arc::try_clone(state)?, tick)?;
     threads.ticker.push_reserved(ticker);
     for (node, port) in nodes.iter().zip(ports) {
         threads.sessions.reserve(1)?;
@@ -111,9 +111,9 @@ fn start_sessions<R: System, N: ServedNode + Desk<Op, Outcome> + Send + Sync + D
             rt,
             alloc,
             node: node.share()?,
-            board: Arc::try_clone(board)?,
+            state: Arc::try_clone(state)?,
         };
-        let listener = port.start(rt, alloc, handler, Arc::try_clone(board)?)?;
+        let listener = port.start(rt, alloc, handler, Arc::try_clone(state)?)?;
         threads.sessions.push_reserved(listener);
     }
     Ok(())
@@ -126,7 +126,7 @@ fn start_operators<R: System, N: ServedNode + Desk<Op, Outcome> + Send + Sync + 
     nodes: Arc<Vec<N>>,
     numbers: &Arc<Vec<u16>>,
     port: Port,
-    board: &Arc<Board>,
+    state: &Arc<ServiceState>,
     threads: &mut ServiceThreads,
 ) -> Result<(), Fault> {
     threads.operators.reserve(1)?;
@@ -134,10 +134,10 @@ fn start_operators<R: System, N: ServedNode + Desk<Op, Outcome> + Send + Sync + 
         rt,
         alloc,
         nodes,
-        board: Arc::try_clone(board)?,
+        state: Arc::try_clone(state)?,
         ports: Arc::try_clone(numbers)?,
     };
-    let listener = port.start(rt, alloc, handler, Arc::try_clone(board)?)?;
+    let listener = port.start(rt, alloc, handler, Arc::try_clone(state)?)?;
     threads.operators.push_reserved(listener);
     Ok(())
 }

@@ -1,7 +1,7 @@
 //! The threads of a port's connections.
 
 use crate::handler::Handler;
-use crate::idle::{Idle, Seat};
+use crate::idle::{IdleWorkers, NextConnection};
 use ballot::Memory;
 use std::alloc::Global;
 use std::net::{Shutdown, TcpStream};
@@ -19,7 +19,7 @@ type Held = Arc<Mutex<Option<Arc<TcpStream>>>>;
 
 /// A thread, and its connection if that is to be cut at the end.
 #[derive(Drop)]
-struct Post {
+struct RunningWorker {
     thread: JoinHandle<()>,
     held: Option<Held>,
 }
@@ -27,20 +27,20 @@ struct Post {
 /// The threads of a port's connections, at most so many at a time. One that has served its connection waits for another,
 /// or ends. Each has a place, which it reports as its last act, so that it is joined and its place is used again.
 #[derive(Drop)]
-pub(crate) struct Crew {
-    posts: Vec<Option<Post>>,
+pub(crate) struct Workers {
+    running: Vec<Option<RunningWorker>>,
     free: Vec<usize>,
     ended: Ended,
-    idle: Idle,
+    idle: IdleWorkers,
     most: usize,
 }
 
 /// What a thread serves connections by.
 #[derive(Drop)]
 struct Worker<H: Handler> {
-    host: H,
-    seat: Seat,
-    /// What its post has of the connection, if that is to be cut at the end.
+    handler: H,
+    connections: NextConnection,
+    /// What its worker has of the connection, if that is to be cut at the end.
     held: Option<Held>,
     ended: Ended,
     place: usize,
@@ -49,7 +49,7 @@ struct Worker<H: Handler> {
 impl<H: Handler> Worker<H> {
     /// Serves a connection to its end, and closes it: a client that still sends what nobody reads is not to wait for ever.
     fn serve<R: Wait>(&mut self, rt: &R, stream: Arc<TcpStream>) {
-        self.host.serve(&stream);
+        self.handler.serve(&stream);
         // First, so that its end reaches the client before the reset that a close with unread bytes sends.
         let _closed = stream.shutdown(Shutdown::Both);
         if let Some(held) = &self.held {
@@ -59,10 +59,10 @@ impl<H: Handler> Worker<H> {
 
     /// The next connection. One that is to be cut at the end has a thread of its own.
     fn next<R: Wait>(&self, rt: &R) -> Option<Arc<TcpStream>> {
-        if self.host.is_cut_at_the_end() {
+        if self.handler.is_cut_at_the_end() {
             return None;
         }
-        self.seat.next(rt)
+        self.connections.next(rt)
     }
 
     /// Serves this connection, and those that are handed to it then.
@@ -80,11 +80,11 @@ impl<H: Handler> Worker<H> {
     }
 }
 
-impl Crew {
+impl Workers {
     /// No threads. Takes no memory.
-    pub(crate) fn new(alloc: Global, ended: Ended, idle: Idle, most: usize) -> Self {
-        Crew {
-            posts: Vec::new(alloc),
+    pub(crate) fn new(alloc: Global, ended: Ended, idle: IdleWorkers, most: usize) -> Self {
+        Workers {
+            running: Vec::new(alloc),
             free: Vec::new(alloc),
             ended,
             idle,
@@ -98,8 +98,8 @@ impl Crew {
             let Some(place) = self.ended.lock(rt).pop() else {
                 return;
             };
-            if let Some(post) = self.posts.get_mut(place).and_then(Option::take) {
-                post.thread.join(rt);
+            if let Some(worker) = self.running.get_mut(place).and_then(Option::take) {
+                worker.thread.join(rt);
                 // There is room: it was made with the place.
                 let _full = self.free.push(place);
             }
@@ -111,16 +111,16 @@ impl Crew {
         if let Some(place) = self.free.pop() {
             return Some(place);
         }
-        let count = self.posts.len();
+        let count = self.running.len();
         if count >= self.most {
             self.reap(rt, count);
             return self.free.pop();
         }
         let room = count + 1;
-        self.posts.reserve(1).ok()?;
+        self.running.reserve(1).ok()?;
         self.free.reserve(room).ok()?;
         self.ended.lock(rt).reserve(room).ok()?;
-        self.posts.push_reserved(None);
+        self.running.push_reserved(None);
         Some(count)
     }
 
@@ -129,12 +129,12 @@ impl Crew {
     pub(crate) fn take<
         R: Threads + Wait + Copy + Send + 'static,
         H: Handler + Send + Drop + 'static,
-    >(&mut self, rt: R, alloc: Global, stream: TcpStream, host: &H) {
+    >(&mut self, rt: R, alloc: Global, stream: TcpStream, handler: &H) {
         let Ok(stream) = Arc::new(alloc, stream) else {
             return;
         };
         if let Some(stream) = self.idle.hand(&rt, stream) {
-            self.add(rt, alloc, stream, host);
+            self.add(rt, alloc, stream, handler);
         }
     }
 
@@ -144,15 +144,15 @@ impl Crew {
         rt: R,
         alloc: Global,
         stream: Arc<TcpStream>,
-        host: &H,
+        handler: &H,
     ) {
         let Some(place) = self.place(&rt) else {
             return;
         };
-        match self.start(rt, alloc, stream, host, place) {
-            Some(post) => {
-                if let Some(slot) = self.posts.get_mut(place) {
-                    *slot = Some(post);
+        match self.start(rt, alloc, stream, handler, place) {
+            Some(worker) => {
+                if let Some(slot) = self.running.get_mut(place) {
+                    *slot = Some(worker);
                 }
             }
             None => {
@@ -167,18 +167,18 @@ impl Crew {
         rt: R,
         alloc: Global,
         stream: Arc<TcpStream>,
-        host: &H,
+        handler: &H,
         place: usize,
-    ) -> Option<Post> {
-        let (held, theirs) = if host.is_cut_at_the_end() {
+    ) -> Option<RunningWorker> {
+        let (held, theirs) = if handler.is_cut_at_the_end() {
             let (held, theirs) = hold(alloc, &stream).ok()?;
             (Some(held), Some(theirs))
         } else {
             (None, None)
         };
         let mut worker = Worker {
-            host: host.share().ok()?,
-            seat: self.idle.seat().ok()?,
+            handler: handler.share().ok()?,
+            connections: self.idle.connections().ok()?,
             held: theirs,
             ended: Arc::try_clone(&self.ended).ok()?,
             place,
@@ -187,29 +187,29 @@ impl Crew {
             .stack_size(STACK)
             .spawn(&rt, move || worker.run(&rt, stream))
             .ok()?;
-        Some(Post { thread, held })
+        Some(RunningWorker { thread, held })
     }
 
     /// Joins all threads. Connections that are to be cut are shut for reading first.
     pub(crate) fn end<R: Threads + Wait>(self, rt: &R) {
-        let Crew {
-            posts,
+        let Workers {
+            running,
             free: _,
             ended: _,
             idle,
             most: _,
         } = self;
         drop(idle);
-        cut(rt, &posts);
-        for post in posts {
-            if let Some(post) = post {
-                post.thread.join(rt);
+        cut(rt, &running);
+        for worker in running {
+            if let Some(worker) = worker {
+                worker.thread.join(rt);
             }
         }
     }
 }
 
-/// A connection that is to be cut at the end, for its post and for its thread.
+/// A connection that is to be cut at the end, for its worker and for its thread.
 fn hold(alloc: Global, stream: &Arc<TcpStream>) -> Result<(Held, Held), Memory> {
     let stream = Arc::try_clone(stream)?;
     let held = Arc::new(alloc, Mutex::new(Some(stream)))?;
@@ -225,10 +225,10 @@ fn cut_one<R: Wait>(rt: &R, held: &Held) {
 }
 
 /// Shuts the connections for reading that are to be cut.
-fn cut<R: Wait>(rt: &R, posts: &[Option<Post>]) {
-    for post in posts {
-        if let Some(post) = post {
-            if let Some(held) = &post.held {
+fn cut<R: Wait>(rt: &R, running: &[Option<RunningWorker>]) {
+    for worker in running {
+        if let Some(worker) = worker {
+            if let Some(held) = &worker.held {
                 cut_one(rt, held);
             }
         }

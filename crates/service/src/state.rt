@@ -1,6 +1,6 @@
 //! What all threads of a service share.
 ghost use Rattle.std.specs.Prelude.{◌≡◌};
-ghost use Rattle.service.specs.declared.board.Stage.TheVariants as spec;
+ghost use Rattle.service.specs.declared.state.Stage.TheVariants as spec;
 
 use crate::system::local;
 use apop::{Accounts, Stamp, stamp};
@@ -51,7 +51,7 @@ impl Stage {
 
 /// What all threads of a service share: who may log in, how far the service has come, and what its sessions left.
 #[derive(Drop)]
-pub(crate) struct Board {
+pub(crate) struct ServiceState {
     accounts: Accounts,
     host: Items<u8>,
     stage: Mutex<Stage>,
@@ -61,14 +61,14 @@ pub(crate) struct Board {
     kept: Mutex<Kept>,
 }
 
-impl Board {
+impl ServiceState {
     /// Of a service that has seen nobody yet. Takes no memory.
     pub(crate) fn new(alloc: Global, accounts: Accounts, host: Items<u8>) -> Self {
         let kept = Kept {
             transcripts: Vec::new(alloc),
             is_short: false,
         };
-        Board {
+        ServiceState {
             accounts,
             host,
             stage: Mutex::new(Stage::Serving),
