@@ -1,20 +1,12 @@
 //! What all threads of a service share.
-ghost use Rattle.std.specs.Prelude.{◌≡◌};
-ghost use Rattle.service.specs.declared.state.Stage.TheVariants as spec;
 
-use crate::system::local;
+use crate::stages::Stages;
 use apop::{Accounts, Stamp, stamp};
 use ballot::Items;
 use session::Transcript;
 use std::alloc::Global;
-use std::net::Net;
 use std::random::RandomSource;
-use std::sync::{Condvar, Mutex, Wait};
-use std::time::{Clock, Duration};
-use std::{io, thread};
-
-/// How many milliseconds are waited before a port is tried again.
-const PAUSE_MS: u64 = 10;
+use std::sync::{Mutex, Wait};
 
 /// The transcripts of the sessions that have ended.
 #[derive(Drop)]
@@ -25,37 +17,12 @@ struct Kept {
     is_short: bool,
 }
 
-/// How far a service has come.
-#[derive(Clone, Copy, Debug, PartialEq, Eq)]
-enum Stage {
-    /// Connections are taken.
-    Serving,
-    /// No connection is taken any more, and the sessions go on to their ends, for which their nodes need time.
-    Stopping,
-    /// All sessions have ended.
-    Ended,
-}
-
-impl Stage {
-    /// A service that serves stops. One that stops or has ended stays so, however late another request to stop comes.
-    fn stop(&mut self)
-        ensures serving { self.old ≡ spec.Serving → self.new ≡ spec.Stopping }
-        ensures stopping { self.old ≡ spec.Stopping → self.new ≡ spec.Stopping }
-        ensures ended { self.old ≡ spec.Ended → self.new ≡ spec.Ended }
-    {
-        if matches!(*self, Stage::Serving) {
-            *self = Stage::Stopping;
-        }
-    }
-}
-
 /// What all threads of a service share: who may log in, how far the service has come, and what its sessions left.
 #[derive(Drop)]
 pub(crate) struct ServiceState {
     accounts: Accounts,
     host: Items<u8>,
-    stage: Mutex<Stage>,
-    ends: Condvar,
+    stages: Stages,
     /// How many sessions were greeted.
     sessions: Mutex<u64>,
     kept: Mutex<Kept>,
@@ -71,8 +38,7 @@ impl ServiceState {
         ServiceState {
             accounts,
             host,
-            stage: Mutex::new(Stage::Serving),
-            ends: Condvar::new(),
+            stages: Stages::new(),
             sessions: Mutex::new(0),
             kept: Mutex::new(kept),
         }
@@ -81,6 +47,11 @@ impl ServiceState {
     /// Who may log in.
     pub(crate) fn accounts(&self) -> &Accounts {
         &self.accounts
+    }
+
+    /// How far the service has come.
+    pub(crate) fn stages(&self) -> &Stages {
+        &self.stages
     }
 
     /// The timestamp of a new session's greeting: 16 random hexadecimal digits, a dot and the number of the session,
@@ -123,50 +94,5 @@ impl ServiceState {
             return None;
         }
         Some(std::mem::replace(&mut kept.transcripts, Vec::new(alloc)))
-    }
-
-    /// Whether the service stops, or has ended.
-    pub(crate) fn is_stopping<R: Wait>(&self, rt: &R) -> bool {
-        !matches!(*self.stage.lock(rt), Stage::Serving)
-    }
-
-    /// Waits so long, or until the sessions have ended. Returns whether they have.
-    pub(crate) fn pauses<R: Wait + Clock>(&self, rt: &R, time: Duration) -> bool {
-        let guard = self.stage.lock(rt);
-        let (stage, _) = self
-            .ends
-            .wait_timeout_while(rt, guard, time, |stage| !matches!(*stage, Stage::Ended));
-        matches!(*stage, Stage::Ended)
-    }
-
-    /// Lets the service stop: who listens finds it at the next connection.
-    pub(crate) fn begin_stop<R: Wait>(&self, rt: &R) {
-        self.stage.lock(rt).stop();
-    }
-
-    /// Lets the service stop, and wakes who listens at these ports.
-    pub(crate) fn stop<R: Net + Wait + Clock>(&self, rt: &R, ports: &[u16]) {
-        self.begin_stop(rt);
-        for port in ports {
-            wake(rt, *port);
-        }
-    }
-
-    /// The sessions of a service that stops have ended: its nodes need no more time.
-    pub(crate) fn end<R: Wait>(&self, rt: &R) {
-        *self.stage.lock(rt) = Stage::Ended;
-        self.ends.notify_all();
-    }
-}
-
-/// Wakes who listens at a port, by a connection. If there is no descriptor for one it is tried again, since who
-/// listens has none either, or may get the next.
-fn wake<R: Net + Wait + Clock>(rt: &R, port: u16) {
-    for _ in rt.forever() {
-        match rt.connect(local(port)) {
-            Ok(_) => return,
-            Err(error) if error.kind() == io::ErrorKind::ConnectionRefused => return,
-            Err(_) => thread::sleep(rt, Duration::from_millis(PAUSE_MS)),
-        }
     }
 }
