@@ -1,12 +1,17 @@
 //! What is done with the connections of a port.
 
 use ballot::Memory;
-use std::net::TcpStream;
+use std::net::SocketAddr;
+use std::sync::Arc;
 
-/// What is done with the connections of a port.
-pub(crate) trait Handler {
-    /// Serves a connection to its end.
-    fn serve(&mut self, stream: &TcpStream);
+/// What is done with the connections of a port, streams of the type `S`.
+pub(crate) trait Handler<S> {
+    /// Serves the connection of a client at this address to its end.
+    fn serve(&mut self, stream: &Arc<S>, peer: SocketAddr);
+
+    /// Serves a connection for which there is no thread, no place or no memory. Returns within a few seconds, and asks for
+    /// no memory.
+    fn serve_briefly(&mut self, stream: &S, peer: SocketAddr);
 
     /// The same for another connection.
     fn share(&self) -> Result<Self, Memory>

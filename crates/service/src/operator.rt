@@ -5,6 +5,7 @@ ghost use Rattle.script.specs.Requests.{longest_request};
 use crate::delivery::{deliver, texts_in};
 use crate::fault::Fault;
 use crate::handler::Handler;
+use crate::operator_stream::OperatorStream;
 use crate::say::{say, say_now};
 use crate::served_node::ServedNode;
 use crate::state::ServiceState;
@@ -14,7 +15,7 @@ use script::{KeyPrefix, LONGEST_REQUEST, Request, parse_request};
 use session::Desk;
 use std::alloc::Global;
 use std::io::{BufReader, BufWriter, Read, Write};
-use std::net::{Net, TcpStream};
+use std::net::{Net, SocketAddr, TcpStream};
 use std::sync::{Arc, Wait};
 use std::time::{Clock, Duration};
 
@@ -36,8 +37,6 @@ pub(crate) struct OperatorHandler<R, N: ServedNode> {
     pub nodes: Arc<Vec<N>>,
     /// What all threads of the service see.
     pub state: Arc<ServiceState>,
-    /// All ports of the service, which are woken when it stops.
-    pub ports: Arc<Vec<u16>>,
 }
 
 /// Reads up to the line feed into the buffer. Returns how many bytes stand before it, or nothing if these are too many or
@@ -141,12 +140,10 @@ impl<R: Net + Wait + Clock + Copy, N: ServedNode + Desk<Op, Outcome> + Drop> Ope
         }
     }
 
-    /// Stops the service, and reports it. Listeners are woken last, since that may have to wait for descriptors.
+    /// Stops the service, and reports it.
     fn stop<W: Write>(&self, writer: &mut W) -> Result<(), Fault> {
-        self.state.begin_stop(&self.rt);
-        let said = say_now(writer, b"stopping\n");
-        self.state.stop(&self.rt, &self.ports);
-        said
+        self.state.stages().stop(&self.rt);
+        say_now(writer, b"stopping\n")
     }
 
     /// Performs a request, and answers it.
@@ -202,9 +199,10 @@ impl<R: Net + Wait + Clock + Copy, N: ServedNode + Desk<Op, Outcome> + Drop> Ope
     }
 }
 
-impl<R: Net + Wait + Clock + Copy, N: ServedNode + Desk<Op, Outcome> + Drop> Handler
+impl<R: Net + Wait + Clock + Copy, N: ServedNode + Desk<Op, Outcome> + Drop> Handler<OperatorStream>
     for OperatorHandler<R, N> {
-    fn serve(&mut self, stream: &TcpStream) {
+    fn serve(&mut self, stream: &Arc<OperatorStream>, _peer: SocketAddr) {
+        let OperatorStream::Tcp(stream) = &**stream;
         // An outcome is reported as soon as it is there.
         let _slower = stream.set_nodelay(true);
         let pause = Some(Duration::from_secs(LONGEST_PAUSE_SECONDS));
@@ -213,16 +211,16 @@ impl<R: Net + Wait + Clock + Copy, N: ServedNode + Desk<Op, Outcome> + Drop> Han
         let _closed = self.respond(stream);
     }
 
+    fn serve_briefly(&mut self, _stream: &OperatorStream, _peer: SocketAddr) {}
+
     fn share(&self) -> Result<Self, Memory> {
         let nodes = Arc::try_clone(&self.nodes)?;
         let state = Arc::try_clone(&self.state)?;
-        let ports = Arc::try_clone(&self.ports)?;
         Ok(OperatorHandler {
             rt: self.rt,
             alloc: self.alloc,
             nodes,
             state,
-            ports,
         })
     }
 

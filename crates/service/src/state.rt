@@ -1,51 +1,20 @@
 //! What all threads of a service share.
 ghost use Rattle.std.specs.Prelude.{◌≡◌, IfOk};
-ghost use Rattle.pop3_wire.specs.Reply.{reply_text};
-ghost use Rattle.pop3_wire.specs.declared.reply.Reply.TheVariants.{InvalidLogin};
-ghost use Rattle.service.specs.declared.state.Stage.TheVariants as spec;
+ghost use Rattle.pop3_wire.specs.Reply.{invalid_login};
 
 use crate::counters::Counters;
 use crate::event_log::EventLog;
 use crate::open_sessions::OpenSessions;
-use crate::system::local;
+use crate::stages::Stages;
 use crate::transcripts::{KeptTranscripts, Transcripts};
 use apop::{Accounts, Stamp, stamp};
 use ballot::{Items, Memory};
 use pop3_wire::Reply;
 use session::Transcript;
 use std::alloc::Global;
-use std::net::Net;
 use std::random::RandomSource;
-use std::sync::{Condvar, Mutex, Wait};
-use std::time::{Clock, Duration};
-use std::{io, thread};
-
-/// How many milliseconds are waited before a port is tried again.
-const PAUSE_MS: u64 = 10;
-
-/// How far a service has come.
-#[derive(Clone, Copy, Debug, PartialEq, Eq)]
-enum Stage {
-    /// Connections are taken.
-    Serving,
-    /// No connection is taken any more, and the sessions go on to their ends, for which their nodes need time.
-    Stopping,
-    /// All sessions have ended.
-    Ended,
-}
-
-impl Stage {
-    /// A service that serves stops. One that stops or has ended stays so, however late another request to stop comes.
-    fn stop(&mut self)
-        ensures serving { self.old ≡ spec.Serving → self.new ≡ spec.Stopping }
-        ensures stopping { self.old ≡ spec.Stopping → self.new ≡ spec.Stopping }
-        ensures ended { self.old ≡ spec.Ended → self.new ≡ spec.Ended }
-    {
-        if matches!(*self, Stage::Serving) {
-            *self = Stage::Stopping;
-        }
-    }
-}
+use std::sync::{Mutex, Wait};
+use std::time::Clock;
 
 /// What all threads of a service share: who may log in, how far the service has come, which sessions are open, and what
 /// those left that have ended.
@@ -56,10 +25,7 @@ pub(crate) struct ServiceState {
     /// What a login that is refused is told.
     refusal: Items<u8>,
     idle_seconds: u64,
-    stage: Mutex<Stage>,
-    ends: Condvar,
-    /// Whether the service ends for want of a majority.
-    has_lost_majority: Mutex<bool>,
+    stages: Stages,
     /// How many sessions were greeted.
     greeted: Mutex<u64>,
     transcripts: Mutex<Transcripts>,
@@ -70,7 +36,7 @@ pub(crate) struct ServiceState {
 
 /// What a login that is refused is told.
 fn refusal_of(alloc: Global) -> Result<Items<u8>, Memory>
-    ensures { IfOk result (λ refusal. refusal ≡ reply_text InvalidLogin) }
+    ensures { IfOk result (λ refusal. refusal ≡ invalid_login) }
 {
     let reply: Reply<'_, Global> = Reply::InvalidLogin;
     let text = reply.text(alloc)?;
@@ -93,9 +59,7 @@ impl ServiceState {
             host,
             refusal,
             idle_seconds,
-            stage: Mutex::new(Stage::Serving),
-            ends: Condvar::new(),
-            has_lost_majority: Mutex::new(false),
+            stages: Stages::new(),
             greeted: Mutex::new(0),
             transcripts: Mutex::new(Transcripts::new(alloc)),
             sessions: OpenSessions::new(alloc),
@@ -117,6 +81,11 @@ impl ServiceState {
     /// For how many seconds a session that is logged in may send no whole line: 0 for ever.
     pub(crate) fn idle_seconds(&self) -> u64 {
         self.idle_seconds
+    }
+
+    /// How far the service has come.
+    pub(crate) fn stages(&self) -> &Stages {
+        &self.stages
     }
 
     /// The sessions that are open.
@@ -183,65 +152,5 @@ impl ServiceState {
         alloc: Global,
     ) -> Option<KeptTranscripts> {
         self.transcripts.lock(rt).take(alloc)
-    }
-
-    /// The service ends for want of a majority.
-    pub(crate) fn lose_majority<R: Wait>(&self, rt: &R) {
-        *self.has_lost_majority.lock(rt) = true;
-    }
-
-    /// Whether the service ends for want of a majority.
-    pub(crate) fn has_lost_majority<R: Wait>(&self, rt: &R) -> bool {
-        *self.has_lost_majority.lock(rt)
-    }
-
-    /// Whether the service stops, or has ended.
-    pub(crate) fn is_stopping<R: Wait>(&self, rt: &R) -> bool {
-        !matches!(*self.stage.lock(rt), Stage::Serving)
-    }
-
-    /// Whether the sessions of a service that stops have ended.
-    pub(crate) fn has_ended<R: Wait>(&self, rt: &R) -> bool {
-        matches!(*self.stage.lock(rt), Stage::Ended)
-    }
-
-    /// Waits so long, or until the sessions have ended. Returns whether they have.
-    pub(crate) fn pauses<R: Wait + Clock>(&self, rt: &R, time: Duration) -> bool {
-        let guard = self.stage.lock(rt);
-        let (stage, _) = self
-            .ends
-            .wait_timeout_while(rt, guard, time, |stage| !matches!(*stage, Stage::Ended));
-        matches!(*stage, Stage::Ended)
-    }
-
-    /// Lets the service stop: who listens finds it at the next connection.
-    pub(crate) fn begin_stop<R: Wait>(&self, rt: &R) {
-        self.stage.lock(rt).stop();
-    }
-
-    /// Lets the service stop, and wakes who listens at these ports.
-    pub(crate) fn stop<R: Net + Wait + Clock>(&self, rt: &R, ports: &[u16]) {
-        self.begin_stop(rt);
-        for port in ports {
-            wake(rt, *port);
-        }
-    }
-
-    /// The sessions of a service that stops have ended: its nodes need no more time.
-    pub(crate) fn end<R: Wait>(&self, rt: &R) {
-        *self.stage.lock(rt) = Stage::Ended;
-        self.ends.notify_all();
-    }
-}
-
-/// Wakes who listens at a port, by a connection. If there is no descriptor for one it is tried again, since who
-/// listens has none either, or may get the next.
-fn wake<R: Net + Wait + Clock>(rt: &R, port: u16) {
-    for _ in rt.forever() {
-        match rt.connect(local(port)) {
-            Ok(_) => return,
-            Err(error) if error.kind() == io::ErrorKind::ConnectionRefused => return,
-            Err(_) => thread::sleep(rt, Duration::from_millis(PAUSE_MS)),
-        }
     }
 }
