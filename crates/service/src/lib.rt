@@ -3,6 +3,7 @@
 
 mod arrivals;
 mod bounded_reader;
+mod connection;
 mod counters;
 mod ctl;
 mod delivery;
@@ -17,21 +18,25 @@ mod login_gate;
 mod node_desk;
 mod open_sessions;
 mod operator;
+mod operator_stream;
 mod options;
 mod pop;
 mod reply_writer;
+mod reserve;
 mod say;
 mod serve;
 mod served_node;
 mod session_bounds;
 mod session_desk;
 mod session_facts;
+mod stages;
 mod state;
 mod system;
 mod threads;
 mod ticker;
 mod transcripts;
 mod verdict;
+mod worker;
 mod workers;
 mod writing;
 

@@ -39,48 +39,23 @@ pub(crate) struct PopHandler<R, N: ServedNode> {
     pub state: Arc<ServiceState>,
 }
 
-/// A node that is up, if it is this one or is active.
-fn node_that<N: ServedNode>(nodes: &[N], wanted: Wanted) -> Option<&N> {
-    nodes.iter().find(|node| is_wanted(*node, wanted))
-}
-
-/// Which node a session is to ask.
-#[derive(Clone, Copy)]
-enum Wanted {
-    /// The one of this number.
-    Number(NodeId),
-    /// One that leads.
-    Active,
-    /// Any.
-    Any,
-}
-
-/// Whether a node is up, and one that is wanted.
-fn is_wanted<N: ServedNode>(node: &N, wanted: Wanted) -> bool {
-    let Some(status) = node.status() else {
-        return false;
-    };
-    status.up
-        && match wanted {
-            Wanted::Number(number) => node.me() == number,
-            Wanted::Active => status.active,
-            Wanted::Any => true,
+/// The node that a session asks: the one of this number if it is up, or else one that leads, or else any that is up.
+fn node_for<N: ServedNode>(nodes: &[N], own: Option<u8>) -> Option<&N> {
+    let mut chosen = None;
+    for node in nodes {
+        match node.status() {
+            Some(status) if status.up => {
+                if own == Some(node.me().get()) {
+                    return Some(node);
+                }
+                if status.active || chosen.is_none() {
+                    chosen = Some(node);
+                }
+            }
+            _ => {}
         }
-}
-
-/// The node that a session asks: the port's own one if it is up, else one that leads, else any that is up.
-fn node_for<N: ServedNode>(nodes: &[N], own: Option<NodeId>) -> Option<&N> {
-    let own = match own {
-        Some(number) => node_that(nodes, Wanted::Number(number)),
-        None => None,
-    };
-    match own {
-        Some(node) => Some(node),
-        None => match node_that(nodes, Wanted::Active) {
-            Some(node) => Some(node),
-            None => node_that(nodes, Wanted::Any),
-        },
     }
+    chosen
 }
 
 impl<R: RandomSource + Wait + Clock + Copy, N: ServedNode + Desk<Op, Outcome> + Drop> PopHandler<
@@ -89,8 +64,14 @@ impl<R: RandomSource + Wait + Clock + Copy, N: ServedNode + Desk<Op, Outcome> + 
 > {
     /// A desk of the node that a session asks, if a node is up.
     fn node(&self) -> Option<N> {
-        let node = node_for(&self.nodes, self.own)?;
-        node.share().ok()
+        let own = match &self.own {
+            Some(number) => Some(number.get()),
+            None => None,
+        };
+        match node_for(&self.nodes, own) {
+            Some(node) => node.share().ok(),
+            None => None,
+        }
     }
 
     /// Lists a session that begins. Returns what is known of it, unless there is no memory for it.
@@ -198,8 +179,9 @@ impl<R: RandomSource + Wait + Clock + Copy, N: ServedNode + Desk<Op, Outcome> + 
     }
 }
 
-impl<R: RandomSource + Wait + Clock + Copy, N: ServedNode + Desk<Op, Outcome> + Drop> Handler
-    for PopHandler<R, N> {
+impl<R: RandomSource + Wait + Clock + Copy, N: ServedNode + Desk<Op, Outcome> + Drop> Handler<
+    TcpStream,
+> for PopHandler<R, N> {
     fn serve(&mut self, stream: &Arc<TcpStream>, peer: SocketAddr) {
         // What is written goes out at once, and a client that takes nothing isn't waited for without an end.
         let _slower = stream.set_nodelay(true);
@@ -210,6 +192,10 @@ impl<R: RandomSource + Wait + Clock + Copy, N: ServedNode + Desk<Op, Outcome> + 
         if let Some((number, stamp)) = self.state.new_stamp(&self.rt, self.alloc) {
             self.serve_at(node, number, stamp, stream, peer);
         }
+    }
+
+    fn serve_briefly(&mut self, _stream: &TcpStream, _peer: SocketAddr) {
+        // It is closed without a word.
     }
 
     fn share(&self) -> Result<Self, Memory> {

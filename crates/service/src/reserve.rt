@@ -39,17 +39,17 @@ pub(crate) struct ReserveWorker<S> {
 
 impl<S: Connection + Send + Sync + Drop + 'static> ReserveWorker<S> {
     /// Starts the thread. Nothing if no thread or no memory is to be had.
-    pub(crate) fn start<
-        R: Threads + Wait + Copy + Send + 'static,
-        H: Handler<S> + Send + Drop + 'static,
-    >(rt: R, alloc: Global, handler: H) -> Result<Self, Memory> {
+    pub(crate) fn start<R: Threads + Wait + Copy + Send + 'static, H: Handler<S> + Send + Drop + 'static>(
+        rt: R,
+        alloc: Global,
+        handler: H,
+    ) -> Result<Self, Memory> {
         let arrivals = Arc::new(alloc, Arrivals::new(alloc, MOST_WAITING)?)?;
         let theirs = Arc::try_clone(&arrivals)?;
         let mut handler = handler;
         match Builder::new()
             .stack_size(STACK)
-            .spawn(&rt, move || run(&rt, &theirs, &mut handler))
-        {
+            .spawn(&rt, move || run(&rt, &theirs, &mut handler)) {
             Ok(thread) => Ok(ReserveWorker { arrivals, thread }),
             Err(_) => Err(Memory),
         }

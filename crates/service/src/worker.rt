@@ -61,7 +61,10 @@ impl<S: Connection + Drop, H: Handler<S>> Worker<S, H> {
 }
 
 /// A connection that is to be cut at the end, for `Workers` and for its thread.
-pub(crate) fn hold<S: Drop>(alloc: Global, stream: &Arc<S>) -> Result<(Held<S>, Held<S>), Memory> {
+pub(crate) fn hold<S: Drop>(
+    alloc: Global,
+    stream: &Arc<S>,
+) -> Result<(Held<S>, Held<S>), Memory> {
     let stream = Arc::try_clone(stream)?;
     let held = Arc::new(alloc, Mutex::new(Some(stream)))?;
     let theirs = Arc::try_clone(&held)?;
