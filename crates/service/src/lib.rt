@@ -2,6 +2,7 @@
 #![tactic(auto)]
 
 mod arrivals;
+mod connection;
 mod ctl;
 mod delivery;
 mod fault;
@@ -9,18 +10,23 @@ mod file;
 mod handler;
 mod idle;
 mod listener;
+mod majority;
 mod node_desk;
 mod operator;
+mod operator_stream;
 mod options;
 mod pop;
 mod say;
 mod serve;
 mod served_node;
+mod stages;
 mod state;
 mod system;
 mod threads;
 mod ticker;
 mod verdict;
+mod verdicts;
+mod worker;
 mod workers;
 
 pub use ctl::ctl_run;

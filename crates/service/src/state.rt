@@ -1,6 +1,7 @@
 //! What all threads of a service share.
 
 use crate::stages::Stages;
+use crate::verdicts::Verdicts;
 use apop::{Accounts, Stamp, stamp};
 use ballot::Items;
 use session::Transcript;
@@ -23,6 +24,7 @@ pub(crate) struct ServiceState {
     accounts: Accounts,
     host: Items<u8>,
     stages: Stages,
+    verdicts: Verdicts,
     /// How many sessions were greeted.
     sessions: Mutex<u64>,
     kept: Mutex<Kept>,
@@ -39,6 +41,7 @@ impl ServiceState {
             accounts,
             host,
             stages: Stages::new(),
+            verdicts: Verdicts::new(),
             sessions: Mutex::new(0),
             kept: Mutex::new(kept),
         }
@@ -52,6 +55,11 @@ impl ServiceState {
     /// How far the service has come.
     pub(crate) fn stages(&self) -> &Stages {
         &self.stages
+    }
+
+    /// The verdict on the run, for those who wait for it.
+    pub(crate) fn verdicts(&self) -> &Verdicts {
+        &self.verdicts
     }
 
     /// The timestamp of a new session's greeting: 16 random hexadecimal digits, a dot and the number of the session,
