@@ -11,3 +11,4 @@ pub mod Written
 pub mod Stats
 pub mod Events
 pub mod SessionExamples
+pub mod Majorities
