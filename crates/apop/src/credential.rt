@@ -2,6 +2,7 @@
 ghost use Rattle.std.specs.Prelude.{◌≡◌};
 ghost use Rattle.apop.specs.Login as spec;
 
+use crate::constant_time::same_bytes;
 use crate::digest::digest_of;
 use crate::method::Method;
 use crate::timestamp::Stamp;
@@ -21,7 +22,7 @@ impl<A: Allocator> Credential<A> {
         ensures { result ≡ spec.admits_secret self.now.method self.now.secret secret.now }
     {
         match self.method {
-            Method::Pass => self.secret.get() == secret,
+            Method::Pass => same_bytes(self.secret.get(), secret),
             Method::Apop => false,
         }
     }
@@ -32,7 +33,7 @@ impl<A: Allocator> Credential<A> {
     {
         match self.method {
             Method::Pass => false,
-            Method::Apop => digest_of(stamp, self.secret.get()).as_slice() == digest,
+            Method::Apop => same_bytes(&digest_of(stamp, self.secret.get()), digest),
         }
     }
 }

@@ -2,6 +2,7 @@
 #![tactic(auto)]
 
 mod accounts;
+mod constant_time;
 mod credential;
 mod digest;
 mod error;

@@ -4,3 +4,4 @@ pub mod Answers
 pub mod Examples
 pub mod Verdicts
 pub mod Keys
+pub mod Majorities

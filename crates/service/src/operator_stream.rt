@@ -1,14 +1,21 @@
 //! The connections of operators.
+ghost use Rattle.std.specs.Prelude.{IfErr};
 ghost use Rattle.std.specs.Io.{ReadsAtMost, WritesAtMost};
+ghost use Rattle.service.specs.Faults.{IsCtlFault};
 
 use crate::connection::{Connection, Listening, close_listener};
+use crate::fault::Fault;
+use crate::listener::listen_at;
+use crate::operator_socket::open_socket;
+use crate::system::System;
 use libc::net::{POLLERR, POLLHUP, POLLRDHUP, poll};
 use libc::types::pollfd;
 use std::io;
 use std::io::{Read, Write};
-use std::net::{Ipv4Addr, Shutdown, SocketAddr, TcpListener, TcpStream};
+use std::net::{IpAddr, Ipv4Addr, Shutdown, SocketAddr, TcpListener, TcpStream};
 use std::os::fd::AsRawFd;
 use std::os::unix::net::{UnixListener, UnixStream};
+use std::rt::Files;
 use std::time::Duration;
 
 /// A connection of an operator.
@@ -138,6 +145,26 @@ pub(crate) enum OperatorListener {
     Tcp(TcpListener),
     /// A Unix socket.
     Unix(UnixListener),
+}
+
+impl OperatorListener {
+    /// Listens at this port of this machine, or at this socket if there is no port.
+    pub(crate) fn listen<R: System + Files>(
+        rt: &R,
+        port: Option<u16>,
+        socket: Option<&str>,
+    ) -> Result<Self, Fault>
+        ensures { IfErr result (λ fault. IsCtlFault port fault) }
+    {
+        match (port, socket) {
+            (Some(number), _) => {
+                let listener = listen_at(rt, IpAddr::V4(Ipv4Addr::LOCALHOST), number)?;
+                Ok(OperatorListener::Tcp(listener))
+            }
+            (None, Some(path)) => Ok(OperatorListener::Unix(open_socket(rt, path)?)),
+            (None, None) => Err(Fault::ListenSocket),
+        }
+    }
 }
 
 impl Listening<OperatorStream> for OperatorListener {

@@ -5,8 +5,6 @@ ghost use Rattle.service.specs.Options as spec;
 ghost use Rattle.service.specs.Faults as faults;
 ghost use Rattle.service.specs.Verdicts as verdicts;
 ghost use Rattle.service.specs.declared.verdict.Verdict.TheVariants.{Legal};
-ghost use Rattle.std.specs.List.{All};
-ghost use Rattle.cluster.specs.Members.{IsLogOf};
 ghost use Rattle.apop.specs.Accounts as table;
 ghost use Rattle.apop.specs.Accounts.{name_of};
 ghost use Rattle.maildrop.specs.Name.{are_different};
@@ -23,13 +21,12 @@ use crate::verdict::{Verdict, verdict_of};
 use apop::{Accounts, AccountsError};
 use ballot::{Items, NodeId};
 use cluster::{Cluster, Deployment, InboxLink, NodeDesk, Setup, StartError};
-use node::NodeLog;
 use std::alloc::Global;
 use std::io::{Eprint, Write};
 use std::marker::Brand;
 use std::rt::Files;
 use std::sync::Arc;
-use std::time::Duration;
+use std::thread::JoinHandle;
 
 /// The node that asks to lead as soon as the service starts.
 const FIRST_LEADER: u8 = 1;
@@ -97,15 +94,23 @@ fn desks_of<D: Deployment + Send + Sync + 'static, R: System>(
     Ok(desks)
 }
 
-/// Runs the nodes and their sessions until an operator stops them.
+/// How a service has ended.
+#[derive(Clone, Copy, Debug, PartialEq, Eq)]
+struct RunEnd {
+    verdict: Verdict,
+    /// Why it ended, unless an operator stopped it.
+    fault: Option<Fault>,
+}
+
+/// Runs the nodes and their sessions until an operator stops them, or they have been without a majority for too long.
 fn serve_cluster<D: Deployment + Send + Sync + 'static, R: System>(
     rt: R,
     alloc: Global,
     setup: &Setup,
     settings: &Settings,
-    ports: Ports,
+    ports: &Ports,
     state: &Arc<ServiceState>,
-) -> Result<Verdict, Fault>
+) -> Result<RunEnd, Fault>
     requires deployment { setup.now ≡ D.setup }
     requires names { IsTrue (are_different setup.now.names) }
 {
@@ -118,63 +123,80 @@ fn serve_cluster<D: Deployment + Send + Sync + 'static, R: System>(
     if let Some(leader) = NodeId::new(FIRST_LEADER) {
         cluster.campaign(leader);
     }
-    let tick = Duration::from_millis(settings.tick_ms);
-    let (threads, started) = threads::start(rt, alloc, desks, ports, state, tick);
-    let logs = end_of(&rt, cluster, threads, state);
+    let (threads, started) = threads::start(rt, alloc, &desks, ports, state, settings);
+    let verdict = verdict_at_end(rt, alloc, cluster, threads, ports, state);
     started?;
-    match state.take_transcripts(&rt, alloc) {
-        Some(transcripts) => Ok(verdict_of(alloc, &logs, &transcripts)),
-        None => Ok(Verdict::Memory),
-    }
+    let fault = if state.stages().lacks_majority(&rt) {
+        Some(Fault::NoMajority)
+    } else {
+        None
+    };
+    Ok(RunEnd { verdict, fault })
 }
 
-/// Waits until the sessions have ended, and then stops the nodes. Returns their logs. Operators who wait for a node until
-/// then are told that it has stopped.
-fn end_of<D: Deployment + Send + Sync + 'static, R: System>(
-    rt: &R,
+/// Waits until the service has ended, and returns the verdict on all that was done. Operators who wait for the verdict are
+/// told it.
+fn verdict_at_end<D: Deployment + Send + Sync + 'static, R: System>(
+    rt: R,
+    alloc: Global,
     cluster: Cluster<D, R, InboxLink<R>>,
     threads: ServiceThreads,
+    ports: &Ports,
     state: &ServiceState,
-) -> Vec<NodeLog>
-    ensures { All (λ log. IsLogOf D.setup log.opening.me log) result.items }
-{
+) -> Verdict {
     let ServiceThreads {
         sessions,
-        ticker,
+        nodes,
         operators,
     } = threads;
-    join_all(rt, sessions);
-    state.end(rt);
-    join_all(rt, ticker);
+    end_sessions(&rt, sessions, nodes, ports, state);
     let logs = cluster.stop();
-    join_all(rt, operators);
-    logs
+    let verdict = match state.take_transcripts(&rt, alloc) {
+        Some(transcripts) => verdict_of(alloc, &logs, &transcripts),
+        None => Verdict::Memory,
+    };
+    state.verdicts().announce(&rt, verdict);
+    join_all(&rt, operators);
+    verdict
+}
+
+/// Waits until the service stops and its sessions have ended. Then no operator comes any more, and the nodes need no more
+/// time.
+fn end_sessions<R: System>(
+    rt: &R,
+    sessions: Vec<JoinHandle<()>>,
+    nodes: Vec<JoinHandle<()>>,
+    ports: &Ports,
+    state: &ServiceState,
+) {
+    state.stages().wait_for_stop(rt);
+    ports.close_pop(rt);
+    join_all(rt, sessions);
+    state.stages().end(rt);
+    ports.close_ctl(rt);
+    join_all(rt, nodes);
 }
 
 /// Runs a service with these settings and the accounts of a file.
 fn run_with<R: System + Files>(
     rt: R,
     alloc: Global,
-    accounts: &str,
+    options: &ServeOptions<'_>,
     settings: &Settings,
-) -> Result<Verdict, Fault> {
-    let accounts = accounts_of(&rt, alloc, accounts)?;
+) -> Result<RunEnd, Fault> {
+    let accounts = accounts_of(&rt, alloc, options.accounts)?;
     let setup = setup_of(alloc, settings, &accounts)?;
-    let ports = Ports::open(&rt, alloc, settings)?;
+    let ports = Ports::open(&rt, alloc, settings, options.ctl_socket)?;
     let host = settings.host.copy()?;
     let state = Arc::new(alloc, ServiceState::new(alloc, accounts, host))?;
-    serve_cluster::<Brand, R>(rt, alloc, &setup, settings, ports, &state)
+    serve_cluster::<Brand, R>(rt, alloc, &setup, settings, &ports, &state)
 }
 
-fn run<R: System + Files>(
-    rt: R,
-    alloc: Global,
-    options: &ServeOptions<'_>,
-) -> Result<Verdict, Fault>
+fn run<R: System + Files>(rt: R, alloc: Global, options: &ServeOptions<'_>) -> Result<RunEnd, Fault>
     ensures values { (¬ spec.AreGood options.now) → IsErrOf result Fault.Value }
 {
     match settings_of(alloc, options) {
-        Ok(settings) => run_with(rt, alloc, options.accounts, &settings),
+        Ok(settings) => run_with(rt, alloc, options, &settings),
         Err(fault) => Err(fault),
     }
 }
@@ -207,9 +229,9 @@ pub fn serve_run<R: System + Files + Eprint, W: Write>(
     ensures told { result ≡ 0 → Appends (W.contents writer.old) (W.contents writer.new) (verdicts.text_of Legal ++ 10 ∷ []) }
 {
     let fault = match run(rt, alloc, options) {
-        Ok(verdict) => match tell(alloc, writer, &verdict) {
-            Ok(status) => return status,
-            Err(fault) => fault,
+        Ok(end) => match (tell(alloc, writer, &end.verdict), end.fault) {
+            (Ok(status), None) => return status,
+            (Ok(_), Some(fault)) | (Err(fault), _) => fault,
         },
         Err(fault) => fault,
     };

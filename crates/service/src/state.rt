@@ -7,6 +7,7 @@ use crate::event_log::EventLog;
 use crate::open_sessions::OpenSessions;
 use crate::stages::Stages;
 use crate::transcripts::{KeptTranscripts, Transcripts};
+use crate::verdicts::Verdicts;
 use apop::{Accounts, Stamp, stamp};
 use ballot::{Items, Memory};
 use pop3_wire::Reply;
@@ -26,6 +27,7 @@ pub(crate) struct ServiceState {
     refusal: Items<u8>,
     idle_seconds: u64,
     stages: Stages,
+    verdicts: Verdicts,
     /// How many sessions were greeted.
     greeted: Mutex<u64>,
     transcripts: Mutex<Transcripts>,
@@ -60,6 +62,7 @@ impl ServiceState {
             refusal,
             idle_seconds,
             stages: Stages::new(),
+            verdicts: Verdicts::new(),
             greeted: Mutex::new(0),
             transcripts: Mutex::new(Transcripts::new(alloc)),
             sessions: OpenSessions::new(alloc),
@@ -86,6 +89,11 @@ impl ServiceState {
     /// How far the service has come.
     pub(crate) fn stages(&self) -> &Stages {
         &self.stages
+    }
+
+    /// The verdict on the run, for those who wait for it.
+    pub(crate) fn verdicts(&self) -> &Verdicts {
+        &self.verdicts
     }
 
     /// The sessions that are open.

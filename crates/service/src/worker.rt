@@ -8,11 +8,30 @@ use std::alloc::Global;
 use std::net::Shutdown;
 use std::sync::{Arc, Mutex, Wait};
 
+/// How many bytes the stack of a connection's thread has.
+pub(crate) const STACK: usize = 262_144;
+
 /// The places of threads that have ended.
 pub(crate) type Ended = Arc<Mutex<Vec<usize>>>;
 
 /// A connection until it has been served. Then there is nothing, so that it is closed although its thread isn't joined yet.
 pub(crate) type Held<S> = Arc<Mutex<Option<Arc<S>>>>;
+
+/// A connection for which there is no thread, no place or no memory. It may be shared already.
+#[derive(Drop)]
+pub(crate) enum Unserved<S> {
+    Alone(S),
+    Shared(Arc<S>),
+}
+
+impl<S> Unserved<S> {
+    pub(crate) fn stream(&self) -> &S {
+        match self {
+            Unserved::Alone(stream) => stream,
+            Unserved::Shared(stream) => stream,
+        }
+    }
+}
 
 /// What a thread serves connections by.
 #[derive(Drop)]
@@ -61,10 +80,7 @@ impl<S: Connection + Drop, H: Handler<S>> Worker<S, H> {
 }
 
 /// A connection that is to be cut at the end, for `Workers` and for its thread.
-pub(crate) fn hold<S: Drop>(
-    alloc: Global,
-    stream: &Arc<S>,
-) -> Result<(Held<S>, Held<S>), Memory> {
+pub(crate) fn hold<S: Drop>(alloc: Global, stream: &Arc<S>) -> Result<(Held<S>, Held<S>), Memory> {
     let stream = Arc::try_clone(stream)?;
     let held = Arc::new(alloc, Mutex::new(Some(stream)))?;
     let theirs = Arc::try_clone(&held)?;
