@@ -5,3 +5,13 @@ pub mod Examples
 pub mod Verdicts
 pub mod Keys
 pub mod Majorities
+pub mod Places
+pub mod Budgets
+pub mod Deadlines
+pub mod Standings
+pub mod Outcomes
+pub mod Puts
+pub mod Ctl
+pub mod Deliveries
+pub mod MailboxErrors
+pub mod OperatorExamples

@@ -1,29 +1,21 @@
 //! `maildropd ctl`: an operator's request.
-ghost use Rattle.std.specs.Prelude.{◌≡◌, ◌≤◌, ◌⊎◌, true, false, map, IfOk, Err, Some, option_map};
-ghost use Rattle.service.specs.Answers as spec;
-ghost use Rattle.service.specs.Ctl.{is_place, is_put, IsStatus, IsPutStatus};
-ghost use Rattle.service.specs.Ctl as options_spec;
-ghost use Rattle.service.specs.Options.{is_between, last_port};
+ghost use Rattle.std.specs.Prelude.{◌≡◌, ◌≤◌, true, false, is_some, map, IfOk};
+ghost use Rattle.service.specs.Answers.{IsStatus};
+ghost use Rattle.service.specs.Ctl as spec;
+ghost use Rattle.service.specs.Puts as puts;
 
-use crate::ctl_answer::{Answer, REFUSED, awaits_nodes, awaits_verdict};
-use crate::ctl_put::{TOO_LARGE, key_of_word, status_after, status_at};
+use crate::ctl_answer::REFUSED;
+use crate::ctl_exchange::{Message, exchange};
+use crate::ctl_put::{put_message, status_at};
 use crate::fault::Fault;
-use crate::file::{read_file, read_whole};
-use crate::operator_limits::{LONGEST_ANSWER_LINE, LONGEST_PAUSE_MS};
-use crate::operator_place::{OperatorPlace, connect};
-use crate::operator_stream::OperatorStream;
-use crate::connection::Connection;
+use crate::file::read_file;
+use crate::operator_place::OperatorPlace;
 use crate::say::say;
-use memchr::memchr;
-use script::{Instruction, LARGEST_FILE, Request, WordsFault, instruction_of, put_request};
+use script::{Instruction, Request, WordsFault, instruction_of};
 use std::alloc::Global;
-use std::io::{BufRead, BufReader, Eprint, Read, Write};
-use std::net::{Net, Shutdown, TcpListener, TcpStream};
+use std::io::{Eprint, Read, Write};
+use std::net::{Net, TcpListener, TcpStream};
 use std::rt::Files;
-use std::time::Duration;
-
-/// What a POP3 server greets with. It answers no operator.
-const GREETING: &[u8] = b"+OK";
 
 /// What `maildropd ctl` was called with.
 #[derive(Clone, Copy)]
@@ -32,22 +24,17 @@ pub struct CtlOptions<'a> {
     pub port: Option<u64>,
     /// The path of the Unix socket that takes them.
     pub socket: Option<&'a str>,
-    /// Whether the request is `stop` or `stop now`, and the verdict is waited for.
+    /// Whether the request is `stop` or `stop now`, and its verdict is waited for.
     pub waits: bool,
-    /// The request.
+    /// The words of the request.
     pub words: &'a [&'a str],
 }
 
-/// What is sent to the operator's port: a line, and what comes after it.
-#[derive(Drop)]
-struct Message {
-    line: Vec<u8>,
-    body: Vec<u8>,
-}
-
-/// Where the options say that the service is, if they name one place.
-fn place_of<'a>(port: Option<u64>, socket: Option<&'a str>) -> Option<OperatorPlace<'a>> {
-    match (port, socket) {
+/// Where the service is, if the options name one place.
+fn place_of<'a>(options: &CtlOptions<'a>) -> Option<OperatorPlace<'a>>
+    ensures { is_some result ≡ spec.is_place options.now }
+{
+    match (options.port, options.socket) {
         (Some(port), None) => match u16::try_from(port) {
             Ok(0) | Err(_) => None,
             Ok(port) => Some(OperatorPlace::Port(port)),
@@ -57,15 +44,198 @@ fn place_of<'a>(port: Option<u64>, socket: Option<&'a str>) -> Option<OperatorPl
     }
 }
 
-/// The instruction, with the verdict waited for if that was asked for. Only `stop` and `stop now` have one.
-fn with_verdict(instruction: Instruction<'_>, waits: bool) -> Option<Instruction<'_>> {
-    if !waits {
-        return Some(instruction);
+/// Whether the words are to deliver one message.
+fn is_put(words: &[&str]) -> bool
+    ensures { result ≡ spec.is_put (map (λ word. word.now) words.now) }
+{
+    match words {
+        [first, ..] => first.as_bytes() == b"put".as_slice(),
+        [] => false,
     }
+}
+
+/// The words, as bytes.
+fn bytes_of<'a>(alloc: Global, words: &[&'a str]) -> Result<Vec<&'a [u8]>, Fault> {
+    let mut parts = Vec::new(alloc);
+    for word in words {
+        parts.push(word.as_bytes())?;
+    }
+    Ok(parts)
+}
+
+/// Has the messages of a mailbox file delivered, and prints the answer. Returns the exit status that it brings.
+fn deliver<R: Net<Listener = TcpListener, Stream = TcpStream> + Files, W: Write>(
+    rt: &R,
+    alloc: Global,
+    writer: &mut W,
+    place: &OperatorPlace<'_>,
+    instruction: &Instruction<'_>,
+) -> Result<u8, Fault>
+    ensures { IfOk result IsStatus }
+{
+    let Instruction::Deliver {
+        node,
+        user,
+        file,
+        key,
+    } = instruction
+    else {
+        return Err(Fault::Value);
+    };
+    let Ok(path) = std::str::from_utf8(file.get()) else {
+        return Err(Fault::Read);
+    };
+    let body = read_file(rt, alloc, path)?;
+    let request = Request::Deliver {
+        node: *node,
+        user: *user,
+        count: body.len() as u64,
+        key: *key,
+    };
+    let message = Message::new(alloc, &request, body)?;
+    exchange(rt, alloc, writer, place, instruction, &message)?
+        .ending
+        .status()
+}
+
+/// Makes a request of one line, and prints the answer. Returns the exit status that it brings.
+fn ask<R: Net<Listener = TcpListener, Stream = TcpStream>, W: Write>(
+    rt: &R,
+    alloc: Global,
+    writer: &mut W,
+    place: &OperatorPlace<'_>,
+    instruction: &Instruction<'_>,
+) -> Result<u8, Fault>
+    ensures { IfOk result IsStatus }
+{
+    let Instruction::Ask(request) = instruction else {
+        return Err(Fault::Value);
+    };
+    let message = Message::new(alloc, request, Vec::new(alloc))?;
+    exchange(rt, alloc, writer, place, instruction, &message)?
+        .ending
+        .status()
+}
+
+/// The same for a request whose verdict is waited for. Only `stop` and `stop now` have one.
+fn ask_for_verdict<R: Net<Listener = TcpListener, Stream = TcpStream>, W: Write>(
+    rt: &R,
+    alloc: Global,
+    writer: &mut W,
+    place: &OperatorPlace<'_>,
+    instruction: &Instruction<'_>,
+) -> Result<u8, Fault>
+    ensures { IfOk result IsStatus }
+{
     match instruction {
         Instruction::Ask(Request::Stop { now, .. }) => {
-            Some(Instruction::Ask(Request::Stop { now, wait: true }))
+            let stop = Instruction::Ask(Request::Stop {
+                now: *now,
+                wait: true,
+            });
+            ask(rt, alloc, writer, place, &stop)
         }
-        _ => None,
+        _ => Err(Fault::Value),
+    }
+}
+
+/// Makes any request but `put`, and prints the answer. Returns the exit status that it brings.
+fn run_words<R: Net<Listener = TcpListener, Stream = TcpStream> + Files, W: Write>(
+    rt: &R,
+    alloc: Global,
+    writer: &mut W,
+    place: &OperatorPlace<'_>,
+    options: &CtlOptions<'_>,
+) -> Result<u8, Fault>
+    ensures { IfOk result IsStatus }
+{
+    let parts = bytes_of(alloc, options.words)?;
+    let instruction = match instruction_of(parts.as_slice()) {
+        Ok(instruction) => instruction,
+        Err(WordsFault::Value) => return Err(Fault::Value),
+        // What the service would answer.
+        Err(WordsFault::Key) => {
+            say(writer, b"bad request\n")?;
+            return Ok(REFUSED);
+        }
+    };
+    if options.waits {
+        return ask_for_verdict(rt, alloc, writer, place, &instruction);
+    }
+    match &instruction {
+        Instruction::Deliver { .. } => deliver(rt, alloc, writer, place, &instruction),
+        Instruction::Put { .. } | Instruction::Ask(_) => ask(
+            rt,
+            alloc,
+            writer,
+            place,
+            &instruction,
+        ),
+    }
+}
+
+/// Has the message of a reader delivered, and prints the answer. Returns the exit status that it brings.
+fn run_put<R: Net<Listener = TcpListener, Stream = TcpStream>, S: Read, W: Write>(
+    rt: &R,
+    alloc: Global,
+    reader: &mut S,
+    writer: &mut W,
+    place: &OperatorPlace<'_>,
+    options: &CtlOptions<'_>,
+) -> Result<u8, Fault>
+    ensures { IfOk result puts.IsStatus }
+{
+    if options.waits {
+        return Err(Fault::Value);
+    }
+    let parts = bytes_of(alloc, options.words)?;
+    match instruction_of(parts.as_slice()) {
+        Ok(instruction) => put_message(rt, alloc, reader, writer, place, &instruction),
+        Err(_) => Err(Fault::Value),
+    }
+}
+
+/// Reports a fault on standard error.
+fn report<R: Eprint>(rt: &R, fault: Fault) {
+    let _untold = eprintln!(rt; "maildropd: {fault}");
+}
+
+/// Makes an operator's request to a service on this machine, and prints its answer: `deliver NODE USER FILE`, with a key
+/// after it or without, `put NODE USER`, with a key or without, for the message that the reader has, `break NODE USER`,
+/// `kick USER`, `crash NODE`, `status`, `sessions`, `stats`, `stop` or `stop now`. Returns the exit status. After `put` it
+/// is one of sysexits: 0 if the message is stored, 67 if there is no such user, 65 if it is too large, 64 for words that are
+/// none, and 75 if it may be sent again. After other requests it is 0 after a whole answer, 1 after a verdict that isn't
+/// `audit ok`, 3 if the answer says `bad request`, `bad mbox` or `down`, 1 if it breaks off or after another fault of
+/// memory, reading, writing or the network, 2 for words that are none. It is 2 if the options name no place, or two. A fault
+/// is reported on standard error.
+pub fn ctl_run<
+    R: Net<Listener = TcpListener, Stream = TcpStream> + Files + Eprint,
+    S: Read,
+    W: Write,
+>(rt: &R, alloc: Global, reader: &mut S, writer: &mut W, options: &CtlOptions<'_>) -> u8
+    ensures place { spec.is_place options.now ≡ false → result ≡ 2 }
+    ensures statuses { spec.is_put (map (λ word. word.now) options.now.words.now) ≡ false → result ≤ 3 }
+    ensures put_statuses { spec.is_place options.now ≡ true → spec.is_put (map (λ word. word.now) options.now.words.now) ≡ true
+        → puts.IsExit result }
+{
+    let Some(place) = place_of(options) else {
+        report(rt, Fault::Value);
+        return Fault::Value.status();
+    };
+    if is_put(options.words) {
+        return match run_put(rt, alloc, reader, writer, &place, options) {
+            Ok(status) => status,
+            Err(fault) => {
+                report(rt, fault);
+                status_at(fault)
+            }
+        };
+    }
+    match run_words(rt, alloc, writer, &place, options) {
+        Ok(status) => status,
+        Err(fault) => {
+            report(rt, fault);
+            fault.status()
+        }
     }
 }

@@ -1,5 +1,5 @@
 //! The answer to an operator's request, as `maildropd ctl` hears it.
-ghost use Rattle.std.specs.Prelude.{◌≡◌, ◌⊎◌, IfOk};
+ghost use Rattle.std.specs.Prelude.{◌≡◌, IfOk};
 ghost use Rattle.service.specs.Answers as spec;
 
 use crate::ctl_put::{PutOutcome, outcome_of};
@@ -46,7 +46,7 @@ impl Ending {
     /// The exit status that the answer brings.
     pub(crate) fn status(self) -> Result<u8, Fault>
         ensures status { result ≡ spec.status_of self }
-        ensures statuses { IfOk result (λ status. (status ≡ 0) ⊎ (status ≡ 1) ⊎ (status ≡ 3)) }
+        ensures statuses { IfOk result spec.IsStatus }
     {
         match self {
             Ending::Broken => Err(Fault::Read),

@@ -1,15 +1,23 @@
 //! `maildropd ctl put`: one message from standard input, with the exit statuses of sysexits.
-ghost use Rattle.std.specs.Prelude.{◌≡◌, position, IfSome};
+ghost use Rattle.std.specs.Prelude.{◌≡◌, position, IfOk, IfSome};
 ghost use Rattle.std.specs.Option.{option_map};
 ghost use Rattle.apop.specs.Accounts as accounts;
 ghost use Rattle.service.specs.Puts as spec;
 
 use crate::ctl_answer::{Answer, Ending};
+use crate::ctl_exchange::{Message, exchange};
 use crate::fault::Fault;
+use crate::file::read_within;
+use crate::operator_place::OperatorPlace;
+use crate::say::say;
+use ballot::NodeId;
 use hex::encode_to_slice;
-use maildrop::Key;
-use script::Word;
+use maildrop::{Key, Name};
+use script::{Instruction, LARGEST_FILE, Request, Word};
 use sha2::{Digest, Sha256};
+use std::alloc::Global;
+use std::io::{Read, Write};
+use std::net::{Net, TcpListener, TcpStream};
 
 /// The message is stored.
 const STORED: u8 = 0;
@@ -18,7 +26,7 @@ const STORED: u8 = 0;
 const USAGE: u8 = 64;
 
 /// The message can't be stored, however often it is sent (EX_DATAERR).
-pub(crate) const TOO_LARGE: u8 = 65;
+const TOO_LARGE: u8 = 65;
 
 /// There is no such user (EX_NOUSER).
 const NO_SUCH_USER: u8 = 67;
@@ -42,7 +50,8 @@ pub enum PutOutcome {
 impl PutOutcome {
     /// The exit status that it brings.
     fn status(self) -> u8
-        ensures { result ≡ spec.status_of self }
+        ensures status { result ≡ spec.status_of self }
+        ensures statuses { spec.IsStatus result }
     {
         match self {
             PutOutcome::Stored => STORED,
@@ -110,7 +119,8 @@ pub(crate) fn outcome_of(line: &[u8]) -> Option<PutOutcome>
 
 /// The exit status after an answer to the delivery of one message, or a fault if it breaks off.
 pub(crate) fn status_after(answer: &Answer) -> Result<u8, Fault>
-    ensures { result ≡ spec.status_after answer.now }
+    ensures status { result ≡ spec.status_after answer.now }
+    ensures statuses { IfOk result spec.IsStatus }
 {
     match (answer.ending, answer.outcome) {
         (Ending::Done, Some(outcome)) => Ok(outcome.status()),
@@ -129,24 +139,63 @@ pub(crate) fn status_at(fault: Fault) -> u8
     }
 }
 
-/// The key of a word: the word itself if it is one, or else its SHA-256 digest in 64 lower-case hexadecimal digits.
-fn key_of(word: &[u8]) -> Key
-    ensures { result ≡ spec.key_of word.now }
+/// The key of a word: the word itself if it is one, or else its SHA-256 digest in 64 lower-case hexadecimal digits, which are
+/// always a key.
+fn key_of(word: &[u8]) -> Option<Key>
+    ensures { IfSome result (λ key. key ≡ spec.key_of word.now) }
 {
     if let Some(key) = Key::new(word) {
-        return key;
+        return Some(key);
     }
     let mut digits = [0; 64];
     encode_to_slice(Sha256::digest(word), &mut digits).unwrap();
-    Key::new(&digits).unwrap()
+    Key::new(&digits)
 }
 
-/// The key of a word, if there is one.
-pub(crate) fn key_of_word(word: &Option<Word<'_>>) -> Option<Key>
-    ensures { result ≡ option_map spec.key_of word.now }
-{
-    match word {
-        Some(word) => Some(key_of(word.get())),
+/// The request of these parts and a message of so many bytes.
+fn request_of(
+    node: &Option<NodeId>,
+    user: Name,
+    word: &Option<Word<'_>>,
+    count: u64,
+) -> Result<Request, Fault> {
+    let key = match word {
         None => None,
+        Some(word) => match key_of(word.get()) {
+            Some(key) => Some(key),
+            None => return Err(Fault::Value),
+        },
+    };
+    Ok(Request::Put {
+        node: *node,
+        user,
+        count,
+        key,
+    })
+}
+
+/// Has the message of a reader delivered, prints the answer, and returns the exit status that it brings.
+pub(crate) fn put_message<R: Net<Listener = TcpListener, Stream = TcpStream>, S: Read, W: Write>(
+    rt: &R,
+    alloc: Global,
+    reader: &mut S,
+    writer: &mut W,
+    place: &OperatorPlace<'_>,
+    instruction: &Instruction<'_>,
+) -> Result<u8, Fault>
+    ensures { IfOk result spec.IsStatus }
+{
+    let Instruction::Put { node, user, key } = instruction else {
+        return Err(Fault::Value);
+    };
+    let body = read_within(alloc, reader, LARGEST_FILE)?;
+    let count = body.len() as u64;
+    if count > LARGEST_FILE {
+        say(writer, b"too large\n")?;
+        return Ok(TOO_LARGE);
     }
+    let request = request_of(node, *user, key, count)?;
+    let message = Message::new(alloc, &request, body)?;
+    let answer = exchange(rt, alloc, writer, place, instruction, &message)?;
+    status_after(&answer)
 }

@@ -191,7 +191,13 @@ impl<R: Wait, N: ServedNode> Delivery<'_, R, N> {
     ) -> Result<bool, Fault> {
         let mut writer = self.stream;
         let octets = u64::try_from(text.octets()).unwrap_or(u64::MAX);
-        match ask(&self.rt, self.node, self.stream, self.user, Op::Mail { text, key }) {
+        match ask(
+            &self.rt,
+            self.node,
+            self.stream,
+            self.user,
+            Op::Mail { text, key },
+        ) {
             Ok((ticket, outcome)) => {
                 delivered.note(&outcome, octets);
                 let mut line = Vec::new(self.alloc);

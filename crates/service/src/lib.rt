@@ -8,6 +8,7 @@ mod connection;
 mod counters;
 mod ctl;
 mod ctl_answer;
+mod ctl_exchange;
 mod ctl_put;
 mod delivery;
 mod delivery_budget;
