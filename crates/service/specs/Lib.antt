@@ -12,3 +12,13 @@ pub mod Stats
 pub mod Events
 pub mod SessionExamples
 pub mod Majorities
+pub mod Places
+pub mod Budgets
+pub mod Deadlines
+pub mod Standings
+pub mod Outcomes
+pub mod Puts
+pub mod Ctl
+pub mod Deliveries
+pub mod MailboxErrors
+pub mod OperatorExamples

@@ -15,7 +15,7 @@ use maildrop::{Key, Name, Op, Outcome, Text, TextBuilder, next_line};
 use mboxrd::{MboxError, Reader};
 use script::{KeyPrefix, LAST_MESSAGE, put_outcome};
 use std::alloc::Global;
-use std::io::{Read, Write};
+use std::io::Read;
 use std::sync::Wait;
 
 /// Why nothing of a file is delivered.
@@ -31,10 +31,11 @@ pub(crate) enum DeliveryError {
 
 impl DeliveryError {
     /// Reports it. Of memory nothing is said.
-    pub(crate) fn tell<W: Write>(self, writer: &mut W) -> Result<(), Fault> {
+    pub(crate) fn tell(self, stream: &OperatorStream) -> Result<(), Fault> {
+        let mut writer = stream;
         match self {
-            DeliveryError::NoMailbox => say(writer, b"bad mbox\n"),
-            DeliveryError::Short => say(writer, b"bad request\n"),
+            DeliveryError::NoMailbox => say(&mut writer, b"bad mbox\n"),
+            DeliveryError::Short => say(&mut writer, b"bad request\n"),
             DeliveryError::Memory => Err(Fault::Memory),
         }
     }

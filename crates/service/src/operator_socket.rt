@@ -3,7 +3,6 @@ ghost use Rattle.std.specs.Prelude.{◌≡◌, IfErr};
 
 use crate::connection::let_wait;
 use crate::fault::Fault;
-use crate::operator_stream::OperatorListener;
 use std::fs::Permissions;
 use std::io::ErrorKind;
 use std::net::Net;
@@ -18,14 +17,14 @@ const OWNER_ONLY: u32 = 0o600;
 
 /// Listens at a socket of this path, which only its owner may use. A socket that lies there and at which nobody listens is
 /// removed first.
-pub(crate) fn open_socket<R: Net + Files>(rt: &R, path: &str) -> Result<OperatorListener, Fault>
+pub(crate) fn open_socket<R: Net + Files>(rt: &R, path: &str) -> Result<UnixListener, Fault>
     ensures { IfErr result (λ fault. fault ≡ Fault.ListenSocket) }
 {
     if is_left(rt, path) {
         remove_socket(rt, path);
     }
     match bind_at(rt, path) {
-        Ok(listener) => Ok(OperatorListener::Unix(listener)),
+        Ok(listener) => Ok(listener),
         Err(_) => Err(Fault::ListenSocket),
     }
 }

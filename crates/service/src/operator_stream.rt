@@ -1,6 +1,6 @@
 //! The connections of operators.
-ghost use Rattle.std.specs.Io.{ReadsAtMost, WritesAtMost};
 ghost use Rattle.std.specs.Prelude.{IfErr};
+ghost use Rattle.std.specs.Io.{ReadsAtMost, WritesAtMost};
 ghost use Rattle.service.specs.Faults.{IsCtlFault};
 
 use crate::connection::{Connection, Listening, close_listener};
@@ -156,15 +156,13 @@ impl OperatorListener {
     ) -> Result<Self, Fault>
         ensures { IfErr result (λ fault. IsCtlFault port fault) }
     {
-        match port {
-            Some(number) => {
+        match (port, socket) {
+            (Some(number), _) => {
                 let listener = listen_at(rt, IpAddr::V4(Ipv4Addr::LOCALHOST), number)?;
                 Ok(OperatorListener::Tcp(listener))
             }
-            None => match socket {
-                Some(path) => open_socket(rt, path),
-                None => Err(Fault::ListenSocket),
-            },
+            (None, Some(path)) => Ok(OperatorListener::Unix(open_socket(rt, path)?)),
+            (None, None) => Err(Fault::ListenSocket),
         }
     }
 }

@@ -40,7 +40,7 @@ pub(crate) struct PopHandler<R, N: ServedNode> {
 }
 
 /// The node that a session asks: the one of this number if it is up, or else one that leads, or else any that is up.
-fn node_for<N: ServedNode>(nodes: &[N], own: Option<u8>) -> Option<&N> {
+pub(crate) fn node_for<N: ServedNode>(nodes: &[N], own: Option<u8>) -> Option<&N> {
     let mut chosen = None;
     for node in nodes {
         match node.status() {

@@ -180,7 +180,15 @@ fn start_all<R: System, N: ServedNode + Desk<Op, Outcome> + Send + Sync + Drop +
     for pop in &ports.pop {
         start_pop(rt, alloc, nodes, pop, state, &mut threads.sessions)?;
     }
-    start_operators(rt, alloc, nodes, &ports.ctl, state, &mut threads.operators)?;
+    start_operators(
+        rt,
+        alloc,
+        nodes,
+        &ports.ctl,
+        state,
+        settings,
+        &mut threads.operators,
+    )?;
     for pop in &ports.pop {
         start_taking(rt, &pop.port, state, &mut threads.sessions)?;
     }
@@ -231,14 +239,16 @@ fn start_operators<R: System, N: ServedNode + Desk<Op, Outcome> + Send + Sync + 
     nodes: &Arc<Vec<N>>,
     port: &Arc<Port<OperatorStream, OperatorListener>>,
     state: &Arc<ServiceState>,
+    settings: &Settings,
     threads: &mut Vec<JoinHandle<()>>,
 ) -> Result<(), Fault> {
-    let handler = OperatorHandler {
+    let handler = OperatorHandler::new(
         rt,
         alloc,
-        nodes: Arc::try_clone(nodes)?,
-        state: Arc::try_clone(state)?,
-    };
+        Arc::try_clone(nodes)?,
+        Arc::try_clone(state)?,
+        settings.delivery_bytes,
+    )?;
     start_reserve(rt, port, handler.share()?, threads)?;
     start_serving(rt, alloc, port, handler, threads)
 }
