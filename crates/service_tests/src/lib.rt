@@ -2,6 +2,8 @@
 #![tactic(auto)]
 
 #[cfg(test)]
+mod bounds_tests;
+#[cfg(test)]
 mod clients;
 #[cfg(test)]
 mod hostile_tests;
