@@ -1,11 +1,15 @@
 //! `maildropd serve`.
 
-use crate::arguments::{Choice, Kind, Presence, bytes_of, number_of, text_of, with_options};
+use crate::arguments::{
+    Choice, Kind, Presence, bytes_of, number_of, optional_number_of, optional_text_of, text_of,
+    with_options,
+};
 use clap::{ArgMatches, Command, Error};
-use service::{ServeOptions, serve_run};
+use service::{Fault, ServeOptions, serve_run};
 use std::alloc::Global;
+use std::fs::File;
 use std::io;
-use std::net::{Net, TcpListener, TcpStream};
+use std::net::{IpAddr, Net, TcpListener, TcpStream};
 use std::random::RandomSource;
 use std::rt::Files;
 use std::sync::Wait;
@@ -14,8 +18,8 @@ use std::time::Clock;
 
 /// What `--help` shows below the options.
 const EXAMPLE: &str = "Example, with a line `alice pass secret` in the file accounts:
-  maildropd serve --accounts accounts --pop-port 11000 --ctl-port 11999
-Node 1 takes POP3 connections at 127.0.0.1:11001, node 2 at 11002, node 3 at 11003.
+  maildropd serve --accounts accounts --port 11000 --ctl-port 11999
+POP3 connections are taken at 127.0.0.1:11000, and served at the node that leads.
 `maildropd ctl --port 11999 stop` ends it. Then it tells what an audit finds: `audit ok` with the status 0, or what is wrong with the status 1.
 All mail lies in memory, and is gone when the process ends.";
 
@@ -150,6 +154,30 @@ pub(crate) fn serve<'a>(alloc: Global) -> Result<Command<'a>, Error> {
     with_options(alloc, serve, OPTIONS)
 }
 
+/// What the options say, or nothing if the address is none.
+fn options_of<'a>(matches: &ArgMatches<'a>) -> Option<ServeOptions<'a>> {
+    let listen = text_of(matches, "listen").parse::<IpAddr>().ok()?;
+    Some(ServeOptions {
+        accounts: text_of(matches, "accounts"),
+        port: optional_number_of(matches, "port"),
+        pop_port: optional_number_of(matches, "pop-port"),
+        listen,
+        ctl_port: optional_number_of(matches, "ctl-port"),
+        ctl_socket: optional_text_of(matches, "ctl-socket"),
+        nodes: number_of(matches, "nodes"),
+        window: number_of(matches, "window"),
+        messages: number_of(matches, "messages"),
+        octets: number_of(matches, "octets"),
+        ids: number_of(matches, "ids"),
+        host: bytes_of(matches, "host"),
+        tick_ms: number_of(matches, "tick-ms"),
+        idle_seconds: number_of(matches, "idle-seconds"),
+        no_majority_seconds: number_of(matches, "no-majority-seconds"),
+        delivery_bytes: number_of(matches, "delivery-bytes"),
+        log: optional_text_of(matches, "log"),
+    })
+}
+
 pub(crate) fn run_serve<
     R: Net<Listener = TcpListener, Stream = TcpStream>
         + Threads
@@ -161,21 +189,16 @@ pub(crate) fn run_serve<
         + Sync
         + 'static
         + AllocGlobal
-        + Files
+        + Files<File = File>
         + Print
         + Eprint,
 >(rt: &R, matches: &ArgMatches<'_>) -> u8 {
-    let options = ServeOptions {
-        accounts: text_of(matches, "accounts"),
-        pop_port: number_of(matches, "pop-port"),
-        ctl_port: number_of(matches, "ctl-port"),
-        nodes: number_of(matches, "nodes"),
-        window: number_of(matches, "window"),
-        messages: number_of(matches, "messages"),
-        octets: number_of(matches, "octets"),
-        ids: number_of(matches, "ids"),
-        host: bytes_of(matches, "host"),
-        tick_ms: number_of(matches, "tick-ms"),
-    };
-    serve_run(*rt, rt.alloc(), &mut io::writer(rt), &options)
+    match options_of(matches) {
+        Some(options) => serve_run(*rt, rt.alloc(), &mut io::writer(rt), &options),
+        None => {
+            let fault = Fault::Value;
+            let _untold = eprintln!(rt; "maildropd: {fault}");
+            fault.status()
+        }
+    }
 }

@@ -1,5 +1,5 @@
 -- What the ends of a run mean for the program.
-use Rattle.std.specs.Prelude.{◌≡◌, ◌≤◌, ◌+◌, ◌⊎◌, ℕ, min, List, Option, Some, None, IfSome, Result, Ok, Err, [], ◌∷◌}
+use Rattle.std.specs.Prelude.{◌≡◌, refl, ◌≤◌, ◌+◌, ◌⊎◌, ℕ, min, List, Option, Some, None, IfSome, Result, Ok, Err, [], ◌∷◌}
 use Rattle.std.specs.Net.Addr.{ipv4_octets}
 use Rattle.std.specs.declared.net.ip_addr.IpAddr.{IpAddr}
 use Rattle.std.specs.declared.net.ip_addr.IpAddr.TheVariants.{V4, V6}
@@ -24,6 +24,12 @@ status_at NoMajority = 1
 status_at Memory = 1
 status_at Read = 1
 status_at Write = 1
+
+no_majority : status_at NoMajority ≡ 1
+no_majority = refl
+
+twice : status_at (NameTwice 3) ≡ 2
+twice = refl
 
 -- what an accounts file means for the program that is none
 abbrev pub fault_of : AccountsError → Fault

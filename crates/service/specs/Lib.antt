@@ -4,6 +4,13 @@ pub mod Answers
 pub mod Examples
 pub mod Verdicts
 pub mod Keys
+pub mod Bounds
+pub mod Sessions
+pub mod Transcripts
+pub mod Written
+pub mod Stats
+pub mod Events
+pub mod SessionExamples
 pub mod Majorities
 pub mod Places
 pub mod Budgets

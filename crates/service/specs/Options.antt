@@ -1,5 +1,5 @@
 -- The options of a service.
-use Rattle.std.specs.Prelude.{ℕ, ◌-◌, ◌^◌, ◌&&◌, ◌||◌, Bool, true, nat_le, Option, None, Some, is_some, is_none, IsTrue}
+use Rattle.std.specs.Prelude.{◌≡◌, refl, false, ℕ, ◌-◌, ◌^◌, ◌&&◌, ◌||◌, Bool, true, nat_le, Option, None, Some, is_some, is_none, IsTrue}
 use Rattle.maildrop.specs.Limits.{Limits, AreLimits}
 use Rattle.apop.specs.Stamp.{IsHost}
 use Rattle.service.specs.declared.options.ServeOptions.{ServeOptions}
@@ -61,3 +61,22 @@ limits_of o = record { messages = o.messages; octets = o.octets; ids = o.ids }
 -- each value is in its range
 abbrev pub AreGood : ServeOptions → Type 0
 AreGood o = IsTrue (are_in_range o) × AreLimits (limits_of o) × IsHost o.host.now
+
+no_node : is_between 1 most_nodes 0 ≡ false
+no_node = refl
+
+nine_nodes : is_between 1 most_nodes 9 ≡ true
+nine_nodes = refl
+
+left_out : may_be_between 1 last_port None ≡ true
+left_out = refl
+
+highest_port : may_be_between 1 last_port (Some 65535) ≡ true
+highest_port = refl
+
+no_such_port : may_be_between 1 last_port (Some 65536) ≡ false
+no_such_port = refl
+
+-- port 65535 + 1 of node 1 is none
+no_room_for_nodes : may_be_between 0 (last_port - 1) (Some 65535) ≡ false
+no_room_for_nodes = refl

@@ -99,9 +99,16 @@ fn watch<R: Wait + Clock, N: ServedNode>(rt: &R, nodes: &[N], state: &ServiceSta
 }
 
 /// Stops the nodes that are left, so that whoever waits for one is told, and then the service with all its sessions.
-fn end_service<R: Wait, N: ServedNode>(rt: &R, nodes: &[N], state: &ServiceState) {
+fn end_service<R: Wait + Clock, N: ServedNode>(rt: &R, nodes: &[N], state: &ServiceState) {
     for node in nodes {
         let _was_up = node.crash();
     }
+    state.log().no_majority(rt);
     state.stages().stop_without_majority(rt);
+    for _ in rt.forever() {
+        state.sessions().cut_all(rt);
+        if state.stages().pauses(rt, Duration::from_millis(LOOK_MS)) {
+            return;
+        }
+    }
 }

@@ -81,7 +81,7 @@ impl OpenSessions {
 
     /// A session has ended.
     pub(crate) fn remove<R: Wait>(&self, rt: &R, number: u64) {
-        let ended = self.open.lock(rt).swap_remove(number);
+        let ended = self.open.lock(rt).swap_remove(&number);
         drop(ended);
     }
 

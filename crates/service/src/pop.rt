@@ -8,7 +8,7 @@ use crate::reply_writer::ReplyWriter;
 use crate::served_node::ServedNode;
 use crate::session_bounds::WRITE_SECONDS;
 use crate::session_desk::SessionDesk;
-use crate::session_facts::{SessionFacts, SharedFacts, ending};
+use crate::session_facts::{SessionFacts, SharedFacts, ending_of};
 use crate::state::ServiceState;
 use apop::Stamp;
 use ballot::{Memory, NodeId};
@@ -172,7 +172,7 @@ impl<R: RandomSource + Wait + Clock + Copy, N: ServedNode + Desk<Op, Outcome> + 
     fn report(&self, node: NodeId, peer: SocketAddr, facts: &Mutex<SessionFacts>, end: End) {
         let facts = facts.lock(&self.rt);
         self.state.counters().ended(&self.rt, &facts);
-        let ending = ending(end, facts.cut);
+        let ending = ending_of(end, facts.cut);
         self.state
             .log()
             .session(&self.rt, node, peer, &facts, ending);

@@ -17,7 +17,7 @@ pub(crate) struct ReplyWriter<'a, R> {
     refusal: &'a [u8],
 }
 
-impl<'a, R: Wait> ReplyWriter<'a, R> {
+impl<'a, R: Wait + Copy> ReplyWriter<'a, R> {
     /// Of a session that has said nothing.
     pub(crate) fn new(
         rt: R,

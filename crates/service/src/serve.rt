@@ -9,8 +9,10 @@ ghost use Rattle.apop.specs.Accounts as table;
 ghost use Rattle.apop.specs.Accounts.{name_of};
 ghost use Rattle.maildrop.specs.Name.{are_different};
 
+use crate::event_log::EventLog;
 use crate::fault::Fault;
 use crate::file::read_file;
+use crate::operator_socket::remove_socket;
 use crate::options::{ServeOptions, Settings, settings_of};
 use crate::say::say;
 use crate::state::ServiceState;
@@ -22,6 +24,7 @@ use apop::{Accounts, AccountsError};
 use ballot::{Items, NodeId};
 use cluster::{Cluster, Deployment, InboxLink, NodeDesk, Setup, StartError};
 use std::alloc::Global;
+use std::fs::File;
 use std::io::{Eprint, Write};
 use std::marker::Brand;
 use std::rt::Files;
@@ -177,8 +180,22 @@ fn end_sessions<R: System>(
     join_all(rt, nodes);
 }
 
-/// Runs a service with these settings and the accounts of a file.
-fn run_with<R: System + Files>(
+/// What the threads of a service with these settings share, with the accounts of a file.
+fn state_of<R: System + Files<File = File>>(
+    rt: &R,
+    alloc: Global,
+    options: &ServeOptions<'_>,
+    settings: &Settings,
+    accounts: Accounts,
+) -> Result<Arc<ServiceState>, Fault> {
+    let log = EventLog::open(rt, alloc, options.log)?;
+    let host = settings.host.copy()?;
+    let state = ServiceState::new(rt, alloc, accounts, host, settings.idle_seconds, log)?;
+    Ok(Arc::new(alloc, state)?)
+}
+
+/// Runs a service with these settings.
+fn run_with<R: System + Files<File = File>>(
     rt: R,
     alloc: Global,
     options: &ServeOptions<'_>,
@@ -186,13 +203,20 @@ fn run_with<R: System + Files>(
 ) -> Result<RunEnd, Fault> {
     let accounts = accounts_of(&rt, alloc, options.accounts)?;
     let setup = setup_of(alloc, settings, &accounts)?;
+    let state = state_of(&rt, alloc, options, settings, accounts)?;
     let ports = Ports::open(&rt, alloc, settings, options.ctl_socket)?;
-    let host = settings.host.copy()?;
-    let state = Arc::new(alloc, ServiceState::new(alloc, accounts, host))?;
-    serve_cluster::<Brand, R>(rt, alloc, &setup, settings, &ports, &state)
+    let end = serve_cluster::<Brand, R>(rt, alloc, &setup, settings, &ports, &state);
+    if let Some(path) = options.ctl_socket {
+        remove_socket(&rt, path);
+    }
+    end
 }
 
-fn run<R: System + Files>(rt: R, alloc: Global, options: &ServeOptions<'_>) -> Result<RunEnd, Fault>
+fn run<R: System + Files<File = File>>(
+    rt: R,
+    alloc: Global,
+    options: &ServeOptions<'_>,
+) -> Result<RunEnd, Fault>
     ensures values { (¬ spec.AreGood options.now) → IsErrOf result Fault.Value }
 {
     match settings_of(alloc, options) {
@@ -216,7 +240,7 @@ fn tell<W: Write>(alloc: Global, writer: &mut W, verdict: &Verdict) -> Result<u8
 /// says of all that they did is written. Returns the exit status: 0 if that is `audit ok`, 1 if it is something else
 /// and after a fault of memory, reading, writing or the network, 2 for options or an accounts file that are none. A fault
 /// is reported on standard error.
-pub fn serve_run<R: System + Files + Eprint, W: Write>(
+pub fn serve_run<R: System + Files<File = File> + Eprint, W: Write>(
     rt: R,
     alloc: Global,
     writer: &mut W,

@@ -126,8 +126,8 @@ pub(crate) fn asked_kind(op: &Op) -> AskedKind
 }
 
 /// How a session ended for an operator, if its client was cut for this.
-pub(crate) fn ending(end: End, cut: Option<Cut>) -> Ending
-    ensures { result ≡ spec.ending end cut }
+pub(crate) fn ending_of(end: End, cut: Option<Cut>) -> Ending
+    ensures { result ≡ spec.ending_of end cut }
 {
     match end {
         End::Closed => Ending::Closed,

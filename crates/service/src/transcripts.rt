@@ -1,5 +1,5 @@
 //! What the sessions leave that have ended.
-ghost use Rattle.std.specs.Prelude.{◌≡◌, ◌++◌, ◌∷◌, [], false};
+ghost use Rattle.std.specs.Prelude.{◌≡◌, ◌≢◌, ◌++◌, ◌∷◌, [], false, true};
 ghost use Rattle.service.specs.Transcripts as spec;
 
 use crate::verdict::Verdict;
@@ -72,10 +72,11 @@ impl Transcripts {
     /// A session has ended.
     pub(crate) fn add(&mut self, transcript: Transcript)
         ensures ended { self.new.ended ≡ spec.one_more self.old.ended }
-        ensures transcripts { self.new.is_short ≡ false → self.new.kept.transcripts.items
-            ≡ self.old.kept.transcripts.items ++ spec.left_by transcript }
-        ensures numbers { self.new.is_short ≡ false → self.new.kept.numbers.items
-            ≡ self.old.kept.numbers.items ++ spec.number_left_by self.old.ended transcript }
+        ensures silent { transcript.asked ≡ [] → (self.new.kept ≡ self.old.kept) × (self.new.is_short ≡ self.old.is_short) }
+        ensures transcripts { transcript.asked ≢ [] → self.new.is_short ≡ false →
+            self.new.kept.transcripts.items ≡ self.old.kept.transcripts.items ++ transcript ∷ [] }
+        ensures numbers { transcript.asked ≢ [] → self.new.is_short ≡ false →
+            self.new.kept.numbers.items ≡ self.old.kept.numbers.items ++ self.old.ended ∷ [] }
         ensures short { self.new.is_short ≡ false → self.old.is_short ≡ false }
     {
         let number = self.ended;
