@@ -1,5 +1,5 @@
 -- What an operator is answered.
-use Rattle.std.specs.Prelude.{◌≡◌, ℕ, nat_eq, List, ◌||◌, ◌&&◌, ◌⊎◌, Bool, true, false, Option, None, Some, Result, Ok, Err, codes, if◌then◌else◌}
+use Rattle.std.specs.Prelude.{◌≡◌, ℕ, nat_eq, List, ◌||◌, ◌&&◌, ◌⊎◌, Bool, true, false, Option, None, Result, Ok, Err, codes, if◌then◌else◌}
 use Rattle.std.specs.List.{starts_with}
 use Rattle.std.specs.Option.{option_or}
 use Rattle.std.specs.Str.{bytes_eq}
@@ -17,7 +17,7 @@ use Rattle.service.specs.declared.fault.Fault.TheVariants.{Read}
 -- the answer may have to wait until the nodes have decided
 abbrev pub awaits_nodes : Request → Bool
 awaits_nodes (request.Deliver node user count key) = true
-awaits_nodes (request.Put node user count key) = true
+awaits_nodes (request.Put addressed user count key) = true
 awaits_nodes (request.Break node user) = true
 awaits_nodes (request.Kick user) = false
 awaits_nodes (request.Crash node) = false
@@ -28,7 +28,7 @@ awaits_nodes (request.Stop now wait) = false
 
 abbrev pub awaits_answer : Instruction → Bool
 awaits_answer (instruction.Deliver node user file key) = true
-awaits_answer (instruction.Put node user key) = true
+awaits_answer (instruction.Put addressed user key) = true
 awaits_answer (instruction.Ask asked) = awaits_nodes asked
 
 -- the answer ends with a verdict
@@ -55,7 +55,7 @@ ends_put line = bytes_eq line (codes "end") || bytes_eq line (codes "no such use
 -- the last line of an answer that tells what was asked
 abbrev pub ends_request : Request → List ℕ → Bool
 ends_request (request.Deliver node user count key) line = bytes_eq line (codes "end")
-ends_request (request.Put node user count key) line = ends_put line
+ends_request (request.Put addressed user count key) line = ends_put line
 ends_request (request.Break node user) line = bytes_eq line (codes "done") || bytes_eq line (codes "no such user")
 ends_request (request.Kick user) line = starts_with nat_eq line (codes "kicked ")
 ends_request (request.Crash node) line = bytes_eq line (codes "crashed")
@@ -66,7 +66,7 @@ ends_request (request.Stop now wait) line = ends_stop wait line
 
 abbrev pub ends_answer : Instruction → List ℕ → Bool
 ends_answer (instruction.Deliver node user file key) line = bytes_eq line (codes "end")
-ends_answer (instruction.Put node user key) line = ends_put line
+ends_answer (instruction.Put addressed user key) line = ends_put line
 ends_answer (instruction.Ask request) line = ends_request request line
 
 -- how an answer ends whose last line this is

@@ -2,6 +2,7 @@
 ghost use Rattle.std.specs.Prelude.{◌≡◌, position, IfOk, IfSome};
 ghost use Rattle.std.specs.Option.{option_map};
 ghost use Rattle.apop.specs.Accounts as accounts;
+ghost use Rattle.service.specs.Outcomes as outcomes;
 ghost use Rattle.service.specs.Puts as spec;
 
 use crate::ctl_answer::{Answer, Ending};
@@ -70,7 +71,7 @@ fn place_of_space(bytes: &[u8]) -> Option<usize>
 
 /// What follows the first space, if there is one.
 fn after_space(bytes: &[u8]) -> Option<&[u8]>
-    ensures { option_map (λ rest. rest.now) result ≡ spec.after_space bytes.now }
+    ensures { option_map (λ rest. rest.now) result ≡ outcomes.after_space bytes.now }
 {
     match place_of_space(bytes) {
         Some(place) => Some(&bytes[place + 1..]),
@@ -80,7 +81,7 @@ fn after_space(bytes: &[u8]) -> Option<&[u8]>
 
 /// The outcome that an outcome's text names.
 fn outcome_named(text: &[u8]) -> PutOutcome
-    ensures { result ≡ spec.outcome_named text.now }
+    ensures { result ≡ outcomes.outcome_named text.now }
 {
     if text.starts_with(b"stored ") {
         PutOutcome::Stored
@@ -95,7 +96,7 @@ fn outcome_named(text: &[u8]) -> PutOutcome
 
 /// The outcome that a line `op USER NODE/SEQ OUTCOME` names.
 fn outcome_in(line: &[u8]) -> Option<PutOutcome>
-    ensures { result ≡ spec.outcome_in line.now }
+    ensures { result ≡ outcomes.outcome_in line.now }
 {
     if !line.starts_with(b"op ") {
         return None;
@@ -108,7 +109,7 @@ fn outcome_in(line: &[u8]) -> Option<PutOutcome>
 
 /// What has become of a message, if a line says so.
 pub(crate) fn outcome_of(line: &[u8]) -> Option<PutOutcome>
-    ensures { result ≡ spec.outcome_of line.now }
+    ensures { result ≡ outcomes.outcome_of line.now }
 {
     if line == b"no such user".as_slice() {
         Some(PutOutcome::NoSuchUser)
