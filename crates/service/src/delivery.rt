@@ -172,6 +172,7 @@ impl Delivered {
 }
 
 /// Who delivers mail: a connection's client, to a user at a node.
+#[derive(Drop)]
 pub(crate) struct Delivery<'a, R, N> {
     pub rt: R,
     pub alloc: Global,
