@@ -123,8 +123,10 @@ impl<S: Connection + Send + Sync + Drop + 'static, L: Listening<S>> Port<S, L> {
             let Some(arrival) = self.arrivals.next(&rt) else {
                 break;
             };
-            if let Some(unserved) = workers.take(rt, alloc, arrival, handler) {
-                self.unserved.try_put(&rt, unserved);
+            if handler.is_open() {
+                if let Some(unserved) = workers.take(rt, alloc, arrival, handler) {
+                    self.unserved.try_put(&rt, unserved);
+                }
             }
             let most = if self.arrivals.are_waiting(&rt) {
                 REAPED

@@ -503,6 +503,10 @@ impl<R: Wait + Clock + Copy, N: ServedNode + Drop> Handler<OperatorStream>
         })
     }
 
+    fn is_open(&self) -> bool {
+        true
+    }
+
     fn is_cut_at_the_end(&self) -> bool {
         true
     }

@@ -158,7 +158,7 @@ fn verdict_at_end<D: Deployment + Send + Sync + 'static, R: System>(
         Some(kept) => kept.numbered(verdict_of(alloc, &logs, kept.get())),
         None => Verdict::Memory,
     };
-    state.verdicts().announce(&rt, verdict);
+    state.verdicts().announce(&rt, &verdict);
     join_all(&rt, operators);
     verdict
 }
