@@ -12,6 +12,8 @@ mod operator_tests;
 #[cfg(test)]
 mod plays;
 #[cfg(test)]
+mod ports_tests;
+#[cfg(test)]
 mod running;
 #[cfg(test)]
 mod session_tests;

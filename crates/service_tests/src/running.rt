@@ -145,6 +145,8 @@ pub struct Plan {
     idle_seconds: u64,
     /// The path of its log, if it has one.
     log: Option<String>,
+    /// Whether it has one port for all nodes, that of node 1, and ends after a second without a majority.
+    has_one_port: bool,
     has_ended: Arc<AtomicBool>,
 }
 
@@ -169,6 +171,7 @@ pub fn planned<R: Net<Listener = TcpListener, Stream = TcpStream> + RandomSource
         ctl_port: ports.ctl(),
         idle_seconds: 0,
         log: None,
+        has_one_port: false,
         has_ended: Arc::try_clone(&has_ended)?,
     };
     Ok((plan, Site { ports, has_ended }))
@@ -188,6 +191,40 @@ pub fn bounded<R: Net<Listener = TcpListener, Stream = TcpStream> + RandomSource
     Ok((plan, site))
 }
 
+/// The same service at one port for all nodes, which ends after a second without a majority.
+pub fn at_one_port<R: Net<Listener = TcpListener, Stream = TcpStream> + RandomSource + Files>(
+    rt: &R,
+    alloc: Global,
+    accounts: &str,
+) -> Result<(Plan, Site), Fail> {
+    let (mut plan, site) = planned(rt, alloc, accounts)?;
+    plan.has_one_port = true;
+    Ok((plan, site))
+}
+
+/// The options of a plan.
+fn options_of(plan: &Plan) -> ServeOptions<'_> {
+    let log = match &plan.log {
+        Some(log) => Some(log.as_str()),
+        None => None,
+    };
+    let options = ServeOptions {
+        idle_seconds: plan.idle_seconds,
+        log,
+        ..options(plan.accounts.as_str(), plan.pop_port, plan.ctl_port)
+    };
+    if plan.has_one_port {
+        ServeOptions {
+            port: Some(u64::from(plan.pop_port.saturating_add(1))),
+            pop_port: None,
+            no_majority_seconds: 1,
+            ..options
+        }
+    } else {
+        options
+    }
+}
+
 /// Runs a service. Gives its exit status and what it wrote.
 pub fn run<
     R: Net<Listener = TcpListener, Stream = TcpStream>
@@ -203,15 +240,7 @@ pub fn run<
         + Eprint,
 >(rt: R, alloc: Global, plan: &Plan) -> (u8, Vec<u8>) {
     let mut written = Vec::new(alloc);
-    let log = match &plan.log {
-        Some(log) => Some(log.as_str()),
-        None => None,
-    };
-    let options = ServeOptions {
-        idle_seconds: plan.idle_seconds,
-        log,
-        ..options(plan.accounts.as_str(), plan.pop_port, plan.ctl_port)
-    };
+    let options = options_of(plan);
     let status = serve_run(rt, alloc, &mut written, &options);
     remove(&rt, plan.accounts.as_str());
     plan.has_ended.store(true, Ordering::SeqCst);
@@ -334,6 +363,11 @@ impl Running {
     /// The port of a node.
     pub fn node(&self, number: u16) -> u16 {
         self.ports.first.saturating_add(number)
+    }
+
+    /// The port for all nodes, if the service has one.
+    pub fn port_for_all(&self) -> u16 {
+        self.node(1)
     }
 
     /// Calls `maildropd ctl` with these words.
