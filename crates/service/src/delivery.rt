@@ -172,6 +172,7 @@ impl Delivered {
 }
 
 /// Who delivers mail: a connection's client, to a user at a node.
+#[derive(Drop)]
 pub(crate) struct Delivery<'a, R, N> {
     pub rt: R,
     pub alloc: Global,
@@ -180,7 +181,7 @@ pub(crate) struct Delivery<'a, R, N> {
     pub user: Name,
 }
 
-impl<R: Wait, N: ServedNode> Delivery<'_, R, N> {
+impl<R: Wait + Drop, N: ServedNode + Drop> Delivery<'_, R, N> {
     /// Has a text delivered, and reports the outcome as soon as it is there. Returns whether the node still runs: if it has
     /// stopped, `down` is reported.
     pub(crate) fn deliver(

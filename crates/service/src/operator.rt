@@ -136,7 +136,7 @@ fn furthest_slot<N: ServedNode>(nodes: &[N]) -> u64 {
     furthest
 }
 
-impl<R: Wait + Clock + Copy, N: ServedNode> OperatorHandler<R, N> {
+impl<R: Wait + Clock + Copy, N: ServedNode + Drop> OperatorHandler<R, N> {
     /// Answers operators of these nodes. The files that are delivered at a time have so many bytes together.
     pub(crate) fn new(
         rt: R,
@@ -473,7 +473,7 @@ fn prepare(stream: &OperatorStream, pause_ms: u64) {
     stream.set_write_timeout(Duration::from_millis(pause_ms));
 }
 
-impl<R: Wait + Clock + Copy, N: ServedNode> Handler<OperatorStream> for OperatorHandler<R, N> {
+impl<R: Wait + Clock + Copy, N: ServedNode + Drop> Handler<OperatorStream> for OperatorHandler<R, N> {
     fn serve(&mut self, stream: &Arc<OperatorStream>, _peer: SocketAddr) {
         prepare(stream, LONGEST_PAUSE_MS);
         if self.limits.places.take(&self.rt) {
