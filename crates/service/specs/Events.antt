@@ -19,41 +19,43 @@ ending_word NoMemory = codes "no_memory"
 abbrev pub digit : ℕ → ℕ
 digit number = 48 + number % 10
 
--- a time in seconds, with three digits after the dot
-abbrev pub time : ℕ → List ℕ
-time millis =
-    codes "time=" ++ decimal (millis / 1000)
+-- a time in seconds, with three digits after the dot, behind a text
+abbrev pub with_time : List ℕ → ℕ → List ℕ
+with_time text millis =
+    text ++ codes "time=" ++ decimal (millis / 1000)
     ++ (46 ∷ digit (millis / 100) ∷ digit (millis / 10) ∷ digit millis ∷ 32 ∷ [])
 
-abbrev pub place : ℕ → List ℕ → List ℕ
-place node peer = codes " node=" ++ decimal node ++ codes " peer=" ++ peer
+-- where something happened
+abbrev pub with_place : List ℕ → ℕ → List ℕ → List ℕ
+with_place text node peer = text ++ codes " node=" ++ decimal node ++ codes " peer=" ++ peer
 
-abbrev pub deeds : SessionFacts → List ℕ
-deeds facts =
-    codes " user=" ++ user_text facts.user ++ codes " fetched=" ++ decimal facts.fetched
+-- what a session did
+abbrev pub with_deeds : List ℕ → SessionFacts → List ℕ
+with_deeds text facts =
+    text ++ codes " user=" ++ user_text facts.user ++ codes " fetched=" ++ decimal facts.fetched
     ++ codes " removed=" ++ decimal facts.removed ++ codes " bytes=" ++ decimal facts.bytes_written
 
 -- a session has ended
-abbrev pub session : ℕ → List ℕ → SessionFacts → Ending → List ℕ
-session node peer facts ending =
-    codes "event=session" ++ place node peer ++ deeds facts ++ codes " end=" ++ ending_word ending ++ codes "\n"
+abbrev pub with_session : List ℕ → ℕ → List ℕ → SessionFacts → Ending → List ℕ
+with_session text node peer facts ending =
+    with_deeds (with_place (text ++ codes "event=session") node peer) facts ++ codes " end=" ++ ending_word ending ++ codes "\n"
 
-abbrev pub login_refused : ℕ → List ℕ → List ℕ
-login_refused node peer = codes "event=login_refused" ++ place node peer ++ codes "\n"
+abbrev pub with_refused_login : List ℕ → ℕ → List ℕ → List ℕ
+with_refused_login text node peer = with_place (text ++ codes "event=login_refused") node peer ++ codes "\n"
 
-abbrev pub delivery : ℕ → List ℕ → ℕ → ℕ → List ℕ
-delivery node user stored refused =
-    codes "event=delivery node=" ++ decimal node ++ codes " user=" ++ user
+abbrev pub with_delivery : List ℕ → ℕ → List ℕ → ℕ → ℕ → List ℕ
+with_delivery text node user stored refused =
+    text ++ codes "event=delivery node=" ++ decimal node ++ codes " user=" ++ user
     ++ codes " stored=" ++ decimal stored ++ codes " refused=" ++ decimal refused ++ codes "\n"
 
 -- an operator has stopped a node
-abbrev pub crash : ℕ → List ℕ
-crash node = codes "event=crash node=" ++ decimal node ++ codes "\n"
+abbrev pub with_crash : List ℕ → ℕ → List ℕ
+with_crash text node = text ++ codes "event=crash node=" ++ decimal node ++ codes "\n"
 
 -- an event that has only a name
-abbrev pub event : List ℕ → List ℕ
-event name = codes "event=" ++ name ++ codes "\n"
+abbrev pub with_event : List ℕ → List ℕ → List ℕ
+with_event text name = text ++ codes "event=" ++ name ++ codes "\n"
 
 -- something has failed: its text is the rest of the line
-abbrev pub fault : List ℕ → List ℕ
-fault text = codes "event=fault text=" ++ text ++ codes "\n"
+abbrev pub with_fault : List ℕ → List ℕ → List ℕ
+with_fault text fault = text ++ codes "event=fault text=" ++ fault ++ codes "\n"

@@ -1,6 +1,6 @@
 -- Worked examples of the bounds of a session, of what is counted of it, and of what operators are told.
 use Rattle.std.specs.Prelude.{◌≡◌, refl, true, false, [], ◌∷◌, codes, Some, None}
-use Rattle.maildrop.specs.declared.op.Op.TheVariants as op
+use Rattle.std.specs.Fmt.{digits}
 use Rattle.maildrop.specs.declared.outcome.Outcome.TheVariants as outcome
 use Rattle.pop3_wire.specs.Reply.{invalid_login, already_locked, maildrop_has, drop_listing}
 use Rattle.session.specs.declared.transcript.End.TheVariants as end
@@ -9,7 +9,7 @@ use Rattle.service.specs.Events as event
 use Rattle.service.specs.Sessions.{no_facts, is_message, reply_kind, after_answer, after_line, after_write, begins_refusal, ending_of}
 use Rattle.service.specs.Stats.{no_counts, after_session, text_of}
 use Rattle.service.specs.Transcripts.{numbered}
-use Rattle.service.specs.Written.{session_line}
+use Rattle.service.specs.Written.{with_session}
 use Rattle.service.specs.declared.session_bounds.TimeLeft.TheVariants.{Any, Millis, Nothing}
 use Rattle.service.specs.declared.session_facts.AskedKind.TheVariants as asked
 use Rattle.service.specs.declared.session_facts.Cut.TheVariants as cut
@@ -43,9 +43,11 @@ message : is_message (codes "+OK 28 octets\r\nSubject: hello\r\n\r\nHi\r\n.\r\n"
 message = refl
 
 listing : is_message (drop_listing 2 320) ≡ false
+unfolding digits
 listing = refl
 
 maildrop : is_message (maildrop_has 2 320) ≡ false
+unfolding digits
 maildrop = refl
 
 refused : reply_kind invalid_login invalid_login ≡ kind.Refusal
@@ -86,23 +88,29 @@ eighth = refl
 in_order : numbered (0 ∷ 4 ∷ 7 ∷ []) Legal ≡ Legal
 in_order = refl
 
-open_line : session_line 12 1 (codes "127.0.0.1:40000") None 3 71
+open_line : with_session [] 12 1 (codes "127.0.0.1:40000") None 3 71
     ≡ codes "session 12 node 1 peer 127.0.0.1:40000 user - seconds 3 bytes 71\n"
+unfolding digits
 open_line = refl
 
 stats : text_of (record { sessions_open = 2; counts = after_session no_facts no_counts; slots = 9; uptime_seconds = 60 })
     ≡ codes "sessions_open 2\nsessions_served 1\nlogins_refused 0\nmessages_stored 0\nmessages_fetched 0\nmessages_removed 0\noctets_stored 0\nbytes_read 0\nbytes_written 0\nslots 9\nuptime_seconds 60\nend\n"
+unfolding digits
 stats = refl
 
-time : event.time 1750000000042 ≡ codes "time=1750000000.042 "
+time : event.with_time [] 1750000000042 ≡ codes "time=1750000000.042 "
+unfolding digits
 time = refl
 
-session : event.session 1 (codes "127.0.0.1:40000") (record no_facts { user = Some (codes "bob"); fetched = 2; bytes_written = 123 }) ended.Closed
+session : event.with_session [] 1 (codes "127.0.0.1:40000") (record no_facts { user = Some (codes "bob"); fetched = 2; bytes_written = 123 }) ended.Closed
     ≡ codes "event=session node=1 peer=127.0.0.1:40000 user=bob fetched=2 removed=0 bytes=123 end=closed\n"
+unfolding digits
 session = refl
 
-refusal : event.login_refused 2 (codes "[::1]:5") ≡ codes "event=login_refused node=2 peer=[::1]:5\n"
+refusal : event.with_refused_login [] 2 (codes "[::1]:5") ≡ codes "event=login_refused node=2 peer=[::1]:5\n"
+unfolding digits
 refusal = refl
 
-delivery : event.delivery 1 (codes "bob") 2 1 ≡ codes "event=delivery node=1 user=bob stored=2 refused=1\n"
+delivery : event.with_delivery [] 1 (codes "bob") 2 1 ≡ codes "event=delivery node=1 user=bob stored=2 refused=1\n"
+unfolding digits
 delivery = refl

@@ -1,5 +1,5 @@
 -- What a service has done since it was started.
-use Rattle.std.specs.Prelude.{ℕ, List, ◌++◌, codes, decimal}
+use Rattle.std.specs.Prelude.{ℕ, List, [], ◌++◌, codes, decimal}
 use Rattle.service.specs.Sessions.{added}
 use Rattle.service.specs.declared.counters.Counts.{Counts}
 use Rattle.service.specs.declared.counters.Stats.{Stats}
@@ -35,29 +35,33 @@ after_delivery messages octets counts = record counts {
   octets_stored = added counts.octets_stored octets;
 }
 
-abbrev pub line_of : List ℕ → ℕ → List ℕ
-line_of label number = label ++ decimal number ++ codes "\n"
+-- a line behind a text
+abbrev pub with_line : List ℕ → List ℕ → ℕ → List ℕ
+with_line text label number = text ++ label ++ decimal number ++ codes "\n"
 
-abbrev pub session_lines : Stats → List ℕ
-session_lines stats =
-    line_of (codes "sessions_open ") stats.sessions_open
-    ++ line_of (codes "sessions_served ") stats.counts.sessions_served
-    ++ line_of (codes "logins_refused ") stats.counts.logins_refused
+abbrev pub with_sessions : List ℕ → Stats → List ℕ
+with_sessions text stats =
+    with_line (with_line (with_line text
+    (codes "sessions_open ") stats.sessions_open)
+    (codes "sessions_served ") stats.counts.sessions_served)
+    (codes "logins_refused ") stats.counts.logins_refused
 
-abbrev pub message_lines : Counts → List ℕ
-message_lines counts =
-    line_of (codes "messages_stored ") counts.messages_stored
-    ++ line_of (codes "messages_fetched ") counts.messages_fetched
-    ++ line_of (codes "messages_removed ") counts.messages_removed
-    ++ line_of (codes "octets_stored ") counts.octets_stored
+abbrev pub with_messages : List ℕ → Counts → List ℕ
+with_messages text counts =
+    with_line (with_line (with_line (with_line text
+    (codes "messages_stored ") counts.messages_stored)
+    (codes "messages_fetched ") counts.messages_fetched)
+    (codes "messages_removed ") counts.messages_removed)
+    (codes "octets_stored ") counts.octets_stored
 
-abbrev pub other_lines : Stats → List ℕ
-other_lines stats =
-    line_of (codes "bytes_read ") stats.counts.bytes_read
-    ++ line_of (codes "bytes_written ") stats.counts.bytes_written
-    ++ line_of (codes "slots ") stats.slots
-    ++ line_of (codes "uptime_seconds ") stats.uptime_seconds
+abbrev pub with_rest : List ℕ → Stats → List ℕ
+with_rest text stats =
+    with_line (with_line (with_line (with_line text
+    (codes "bytes_read ") stats.counts.bytes_read)
+    (codes "bytes_written ") stats.counts.bytes_written)
+    (codes "slots ") stats.slots)
+    (codes "uptime_seconds ") stats.uptime_seconds
 
 -- what an operator is told
 abbrev pub text_of : Stats → List ℕ
-text_of stats = session_lines stats ++ message_lines stats.counts ++ other_lines stats ++ codes "end\n"
+text_of stats = with_rest (with_messages (with_sessions [] stats) stats.counts) stats ++ codes "end\n"

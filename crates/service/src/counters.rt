@@ -1,5 +1,5 @@
 //! What a service has done since it was started.
-ghost use Rattle.std.specs.Prelude.{◌≡◌, ◌++◌, IfOk, OnOk};
+ghost use Rattle.std.specs.Prelude.{◌≡◌, IfOk, OnOk};
 ghost use Rattle.service.specs.Stats as spec;
 
 use crate::session_facts::SessionFacts;
@@ -83,7 +83,7 @@ pub(crate) struct Stats {
 
 /// Adds the lines that speak of sessions and logins.
 fn put_sessions(text: &mut Vec<u8>, stats: &Stats) -> Result<(), Memory>
-    ensures { OnOk result (text.new.items ≡ text.old.items ++ spec.session_lines stats.now) }
+    ensures { OnOk result (text.new.items ≡ spec.with_sessions text.old.items stats.now) }
 {
     put_number_line(text, b"sessions_open ", stats.sessions_open)?;
     put_number_line(text, b"sessions_served ", stats.counts.sessions_served)?;
@@ -92,7 +92,7 @@ fn put_sessions(text: &mut Vec<u8>, stats: &Stats) -> Result<(), Memory>
 
 /// Adds the lines that speak of messages.
 fn put_messages(text: &mut Vec<u8>, counts: &Counts) -> Result<(), Memory>
-    ensures { OnOk result (text.new.items ≡ text.old.items ++ spec.message_lines counts.now) }
+    ensures { OnOk result (text.new.items ≡ spec.with_messages text.old.items counts.now) }
 {
     put_number_line(text, b"messages_stored ", counts.messages_stored)?;
     put_number_line(text, b"messages_fetched ", counts.messages_fetched)?;
@@ -102,7 +102,7 @@ fn put_messages(text: &mut Vec<u8>, counts: &Counts) -> Result<(), Memory>
 
 /// Adds the lines that speak of bytes, slots and time.
 fn put_rest(text: &mut Vec<u8>, stats: &Stats) -> Result<(), Memory>
-    ensures { OnOk result (text.new.items ≡ text.old.items ++ spec.other_lines stats.now) }
+    ensures { OnOk result (text.new.items ≡ spec.with_rest text.old.items stats.now) }
 {
     put_number_line(text, b"bytes_read ", stats.counts.bytes_read)?;
     put_number_line(text, b"bytes_written ", stats.counts.bytes_written)?;

@@ -1,5 +1,5 @@
 //! The lines of the log, one function for each event.
-ghost use Rattle.std.specs.Prelude.{◌≡◌, ◌++◌, OnOk};
+ghost use Rattle.std.specs.Prelude.{◌≡◌, OnOk};
 ghost use Rattle.service.specs.Events as spec;
 
 use crate::session_facts::{Ending, SessionFacts};
@@ -32,7 +32,7 @@ fn digit(number: u64) -> u8
 
 /// Adds the time, of so many milliseconds since 1970.
 pub(crate) fn put_time(text: &mut Vec<u8>, millis: u64) -> Result<(), Memory>
-    ensures { OnOk result (text.new.items ≡ text.old.items ++ spec.time millis) }
+    ensures { OnOk result (text.new.items ≡ spec.with_time text.old.items millis) }
 {
     put_labelled(text, b"time=", millis / 1_000)?;
     let digits = [
@@ -47,7 +47,7 @@ pub(crate) fn put_time(text: &mut Vec<u8>, millis: u64) -> Result<(), Memory>
 
 /// Adds where something happened: the node, and the address of the client.
 fn put_place(text: &mut Vec<u8>, node: u8, peer: &[u8]) -> Result<(), Memory>
-    ensures { OnOk result (text.new.items ≡ text.old.items ++ spec.place node peer.now) }
+    ensures { OnOk result (text.new.items ≡ spec.with_place text.old.items node peer.now) }
 {
     put_labelled(text, b" node=", node as u64)?;
     put(text, b" peer=")?;
@@ -56,7 +56,7 @@ fn put_place(text: &mut Vec<u8>, node: u8, peer: &[u8]) -> Result<(), Memory>
 
 /// Adds what a session did.
 fn put_deeds(text: &mut Vec<u8>, facts: &SessionFacts) -> Result<(), Memory>
-    ensures { OnOk result (text.new.items ≡ text.old.items ++ spec.deeds facts.now) }
+    ensures { OnOk result (text.new.items ≡ spec.with_deeds text.old.items facts.now) }
 {
     put(text, b" user=")?;
     put_user(text, &facts.user)?;
@@ -73,7 +73,7 @@ pub(crate) fn put_session(
     facts: &SessionFacts,
     ending: Ending,
 ) -> Result<(), Memory>
-    ensures { OnOk result (text.new.items ≡ text.old.items ++ spec.session node peer.now facts.now ending) }
+    ensures { OnOk result (text.new.items ≡ spec.with_session text.old.items node peer.now facts.now ending) }
 {
     put(text, b"event=session")?;
     put_place(text, node, peer)?;
@@ -85,7 +85,7 @@ pub(crate) fn put_session(
 
 /// Adds the line of a login that was refused. It doesn't say whose name was sent, since clients send secrets there.
 pub(crate) fn put_refused(text: &mut Vec<u8>, node: u8, peer: &[u8]) -> Result<(), Memory>
-    ensures { OnOk result (text.new.items ≡ text.old.items ++ spec.login_refused node peer.now) }
+    ensures { OnOk result (text.new.items ≡ spec.with_refused_login text.old.items node peer.now) }
 {
     put(text, b"event=login_refused")?;
     put_place(text, node, peer)?;
@@ -100,7 +100,7 @@ pub(crate) fn put_delivery(
     stored: u64,
     refused: u64,
 ) -> Result<(), Memory>
-    ensures { OnOk result (text.new.items ≡ text.old.items ++ spec.delivery node user.now stored refused) }
+    ensures { OnOk result (text.new.items ≡ spec.with_delivery text.old.items node user.now stored refused) }
 {
     put_labelled(text, b"event=delivery node=", node as u64)?;
     put(text, b" user=")?;
@@ -111,14 +111,14 @@ pub(crate) fn put_delivery(
 
 /// Adds the line of a node that an operator has stopped.
 pub(crate) fn put_crash(text: &mut Vec<u8>, node: u8) -> Result<(), Memory>
-    ensures { OnOk result (text.new.items ≡ text.old.items ++ spec.crash node) }
+    ensures { OnOk result (text.new.items ≡ spec.with_crash text.old.items node) }
 {
     put_number_line(text, b"event=crash node=", node as u64)
 }
 
 /// Adds the line of an event that has only a name.
 pub(crate) fn put_event(text: &mut Vec<u8>, name: &[u8]) -> Result<(), Memory>
-    ensures { OnOk result (text.new.items ≡ text.old.items ++ spec.event name.now) }
+    ensures { OnOk result (text.new.items ≡ spec.with_event text.old.items name.now) }
 {
     put(text, b"event=")?;
     put(text, name)?;
@@ -127,7 +127,7 @@ pub(crate) fn put_event(text: &mut Vec<u8>, name: &[u8]) -> Result<(), Memory>
 
 /// Adds the line of a fault. Its text is the rest of the line.
 pub(crate) fn put_fault(text: &mut Vec<u8>, fault: &[u8]) -> Result<(), Memory>
-    ensures { OnOk result (text.new.items ≡ text.old.items ++ spec.fault fault.now) }
+    ensures { OnOk result (text.new.items ≡ spec.with_fault text.old.items fault.now) }
 {
     put(text, b"event=fault text=")?;
     put(text, fault)?;

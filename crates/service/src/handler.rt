@@ -18,6 +18,9 @@ pub(crate) trait Handler<S> {
     where
         Self: Sized;
 
+    /// Whether another connection is served. Else it is closed without a word.
+    fn is_open(&self) -> bool;
+
     /// Whether a connection that is there when the service stops is heard no longer. Else it goes on to its own end.
     fn is_cut_at_the_end(&self) -> bool;
 }

@@ -8,7 +8,7 @@ use crate::handler::Handler;
 use crate::idle::IdleWorkers;
 use crate::state::ServiceState;
 use crate::system::System;
-use crate::worker::{STACK, Unserved};
+use crate::worker::{Ended, STACK, Unserved};
 use crate::workers::Workers;
 use std::alloc::Global;
 use std::net::{IpAddr, Shutdown, SocketAddr, TcpListener};
@@ -57,7 +57,7 @@ pub(crate) struct Port<S, L> {
     most: usize,
 }
 
-impl<S: Drop, L: Listening<S>> Port<S, L> {
+impl<S: Drop, L: Listening<S> + Drop> Port<S, L> {
     /// A port that serves so many connections at a time, and lets so many wait for its reserve. Connections are taken once
     /// it is started.
     pub(crate) fn new(
@@ -115,14 +115,18 @@ impl<S: Connection + Send + Sync + Drop + 'static, L: Listening<S>> Port<S, L> {
         rt: R,
         alloc: Global,
         handler: &H,
-        mut workers: Workers<S>,
+        ended: Ended,
+        idle: IdleWorkers<S>,
     ) {
+        let mut workers = Workers::new(alloc, ended, idle, self.most);
         for _ in rt.forever() {
             let Some(arrival) = self.arrivals.next(&rt) else {
                 break;
             };
-            if let Some(unserved) = workers.take(rt, alloc, arrival, handler) {
-                self.unserved.try_put(&rt, unserved);
+            if handler.is_open() {
+                if let Some(unserved) = workers.take(rt, alloc, arrival, handler) {
+                    self.unserved.try_put(&rt, unserved);
+                }
             }
             let most = if self.arrivals.are_waiting(&rt) {
                 REAPED
@@ -185,9 +189,9 @@ pub(crate) fn start_serving<
 ) -> Result<(), Fault> {
     threads.reserve(1)?;
     let ended = Arc::new(alloc, Mutex::new(Vec::new(alloc)))?;
-    let workers = Workers::new(alloc, ended, IdleWorkers::new(alloc)?, port.most);
+    let idle = IdleWorkers::new(alloc)?;
     let port = Arc::try_clone(port)?;
-    let run = move || port.serve_all(rt, alloc, &handler, workers);
+    let run = move || port.serve_all(rt, alloc, &handler, ended, idle);
     let Ok(thread) = thread::spawn(&rt, run) else {
         return Err(Fault::Memory);
     };

@@ -1,5 +1,5 @@
 //! The sessions that are open.
-ghost use Rattle.std.specs.Prelude.{◌≡◌, ◌++◌, OnOk};
+ghost use Rattle.std.specs.Prelude.{◌≡◌, OnOk};
 ghost use Rattle.service.specs.Written as spec;
 
 use crate::counters::seconds_since;
@@ -157,7 +157,7 @@ pub(crate) fn peer_text(alloc: Global, peer: SocketAddr) -> Result<String, Memor
 
 /// Adds the line of a session.
 fn put_row(text: &mut Vec<u8>, row: &SessionRow, peer: &[u8]) -> Result<(), Memory>
-    ensures { OnOk result (text.new.items ≡ text.old.items ++ spec.session_line row.now.number row.now.node peer.now row.now.user row.now.seconds row.now.bytes) }
+    ensures { OnOk result (text.new.items ≡ spec.with_session text.old.items row.now.number row.now.node peer.now row.now.user row.now.seconds row.now.bytes) }
 {
     put_labelled(text, b"session ", row.number)?;
     put_labelled(text, b" node ", row.node as u64)?;

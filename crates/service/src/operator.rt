@@ -473,7 +473,8 @@ fn prepare(stream: &OperatorStream, pause_ms: u64) {
     stream.set_write_timeout(Duration::from_millis(pause_ms));
 }
 
-impl<R: Wait + Clock + Copy, N: ServedNode + Drop> Handler<OperatorStream> for OperatorHandler<R, N> {
+impl<R: Wait + Clock + Copy, N: ServedNode + Drop> Handler<OperatorStream>
+    for OperatorHandler<R, N> {
     fn serve(&mut self, stream: &Arc<OperatorStream>, _peer: SocketAddr) {
         prepare(stream, LONGEST_PAUSE_MS);
         if self.limits.places.take(&self.rt) {
@@ -500,6 +501,10 @@ impl<R: Wait + Clock + Copy, N: ServedNode + Drop> Handler<OperatorStream> for O
             limits,
             answer: Vec::with_capacity(self.alloc, ANSWER_ROOM)?,
         })
+    }
+
+    fn is_open(&self) -> bool {
+        true
     }
 
     fn is_cut_at_the_end(&self) -> bool {

@@ -210,6 +210,10 @@ impl<R: RandomSource + Wait + Clock + Copy, N: ServedNode + Desk<Op, Outcome> + 
         })
     }
 
+    fn is_open(&self) -> bool {
+        !self.state.stages().is_stopping(&self.rt)
+    }
+
     fn is_cut_at_the_end(&self) -> bool {
         false
     }

@@ -155,10 +155,10 @@ fn verdict_at_end<D: Deployment + Send + Sync + 'static, R: System>(
     end_sessions(&rt, sessions, nodes, ports, state);
     let logs = cluster.stop();
     let verdict = match state.take_transcripts(&rt, alloc) {
-        Some(transcripts) => verdict_of(alloc, &logs, &transcripts),
+        Some(kept) => kept.numbered(verdict_of(alloc, &logs, kept.get())),
         None => Verdict::Memory,
     };
-    state.verdicts().announce(&rt, verdict);
+    state.verdicts().announce(&rt, &verdict);
     join_all(&rt, operators);
     verdict
 }

@@ -20,8 +20,8 @@ impl Verdicts {
     }
 
     /// Reports the verdict to all who wait for it.
-    pub(crate) fn announce<R: Wait>(&self, rt: &R, verdict: Verdict) {
-        *self.verdict.lock(rt) = Some(verdict);
+    pub(crate) fn announce<R: Wait>(&self, rt: &R, verdict: &Verdict) {
+        *self.verdict.lock(rt) = Some(*verdict);
         self.changes.notify_all();
     }
 

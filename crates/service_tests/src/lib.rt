@@ -2,6 +2,8 @@
 #![tactic(auto)]
 
 #[cfg(test)]
+mod bounds_tests;
+#[cfg(test)]
 mod clients;
 #[cfg(test)]
 mod hostile_tests;
@@ -9,6 +11,8 @@ mod hostile_tests;
 mod operator_tests;
 #[cfg(test)]
 mod plays;
+#[cfg(test)]
+mod ports_tests;
 #[cfg(test)]
 mod running;
 #[cfg(test)]

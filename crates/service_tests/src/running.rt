@@ -3,8 +3,9 @@
 use crate::clients::{PATIENCE, local};
 use service::{ServeOptions, ctl_run, serve_run};
 use std::alloc::Global;
+use std::fs::File;
 use std::io::{Eprint, Read, Write};
-use std::net::{Net, OpenListener, TcpListener, TcpStream};
+use std::net::{IpAddr, Ipv4Addr, Net, OpenListener, TcpListener, TcpStream};
 use std::random::RandomSource;
 use std::rt::Files;
 use std::sync::atomic::{AtomicBool, Ordering};
@@ -41,12 +42,15 @@ pub struct Told {
     pub lines: Vec<u8>,
 }
 
-/// The options of a service at these ports.
+/// The options of a service of three nodes at these ports, whose sessions may be silent for ever.
 pub fn options<'a>(accounts: &'a str, pop_port: u16, ctl_port: u16) -> ServeOptions<'a> {
     ServeOptions {
         accounts,
-        pop_port: u64::from(pop_port),
-        ctl_port: u64::from(ctl_port),
+        port: None,
+        pop_port: Some(u64::from(pop_port)),
+        listen: IpAddr::V4(Ipv4Addr::LOCALHOST),
+        ctl_port: Some(u64::from(ctl_port)),
+        ctl_socket: None,
         nodes: 3,
         window: 10,
         messages: 3,
@@ -54,6 +58,10 @@ pub fn options<'a>(accounts: &'a str, pop_port: u16, ctl_port: u16) -> ServeOpti
         ids: 1_000_000_000,
         host: b"localhost",
         tick_ms: 20,
+        idle_seconds: 0,
+        no_majority_seconds: 0,
+        delivery_bytes: 1 << 30,
+        log: None,
     }
 }
 
@@ -133,6 +141,12 @@ pub struct Plan {
     accounts: String,
     pop_port: u16,
     ctl_port: u16,
+    /// For how many seconds its sessions may be silent, 0 for ever.
+    idle_seconds: u64,
+    /// The path of its log, if it has one.
+    log: Option<String>,
+    /// Whether it has one port for all nodes, that of node 1, and ends after a second without a majority.
+    has_one_port: bool,
     has_ended: Arc<AtomicBool>,
 }
 
@@ -155,9 +169,60 @@ pub fn planned<R: Net<Listener = TcpListener, Stream = TcpStream> + RandomSource
         accounts: file(rt, alloc, "accounts", accounts.as_bytes())?,
         pop_port: ports.first,
         ctl_port: ports.ctl(),
+        idle_seconds: 0,
+        log: None,
+        has_one_port: false,
         has_ended: Arc::try_clone(&has_ended)?,
     };
     Ok((plan, Site { ports, has_ended }))
+}
+
+/// The same service with a log of this path, whose sessions may be silent for a second.
+pub fn bounded<R: Net<Listener = TcpListener, Stream = TcpStream> + RandomSource + Files>(
+    rt: &R,
+    alloc: Global,
+    accounts: &str,
+    log: &str,
+) -> Result<(Plan, Site), Fail> {
+    let log = String::from_str(alloc, log)?;
+    let (mut plan, site) = planned(rt, alloc, accounts)?;
+    plan.idle_seconds = 1;
+    plan.log = Some(log);
+    Ok((plan, site))
+}
+
+/// The same service at one port for all nodes, which ends after a second without a majority.
+pub fn at_one_port<R: Net<Listener = TcpListener, Stream = TcpStream> + RandomSource + Files>(
+    rt: &R,
+    alloc: Global,
+    accounts: &str,
+) -> Result<(Plan, Site), Fail> {
+    let (mut plan, site) = planned(rt, alloc, accounts)?;
+    plan.has_one_port = true;
+    Ok((plan, site))
+}
+
+/// The options of a plan.
+fn options_of(plan: &Plan) -> ServeOptions<'_> {
+    let log = match &plan.log {
+        Some(log) => Some(log.as_str()),
+        None => None,
+    };
+    let options = ServeOptions {
+        idle_seconds: plan.idle_seconds,
+        log,
+        ..options(plan.accounts.as_str(), plan.pop_port, plan.ctl_port)
+    };
+    if plan.has_one_port {
+        ServeOptions {
+            port: Some(u64::from(plan.pop_port.saturating_add(1))),
+            pop_port: None,
+            no_majority_seconds: 1,
+            ..options
+        }
+    } else {
+        options
+    }
 }
 
 /// Runs a service. Gives its exit status and what it wrote.
@@ -171,11 +236,11 @@ pub fn run<
         + Send
         + Sync
         + 'static
-        + Files
+        + Files<File = File>
         + Eprint,
 >(rt: R, alloc: Global, plan: &Plan) -> (u8, Vec<u8>) {
     let mut written = Vec::new(alloc);
-    let options = options(plan.accounts.as_str(), plan.pop_port, plan.ctl_port);
+    let options = options_of(plan);
     let status = serve_run(rt, alloc, &mut written, &options);
     remove(&rt, plan.accounts.as_str());
     plan.has_ended.store(true, Ordering::SeqCst);
@@ -243,13 +308,13 @@ pub fn begun<R: Net<Stream = TcpStream> + Threads + Clock>(
     }
 }
 
-/// Starts a service of three nodes with these accounts, and waits until it takes requests. A macro, since a test alone may
-/// give a thread all that a service asks of the system.
-macro_rules! start {
-    ($rt:ident, $alloc:ident, $accounts:expr) => {{
+/// Starts a service that is planned so, and waits until it takes requests. A macro, since a test alone may give a thread all
+/// that a service asks of the system.
+macro_rules! start_planned {
+    ($rt:ident, $alloc:ident, $planned:expr) => {{
         let mut service = None;
         for _ in 0..crate::running::STARTS {
-            let (plan, site) = crate::running::planned(&$rt, $alloc, $accounts)?;
+            let (plan, site) = $planned?;
             let thread = std::thread::spawn(&$rt, move || crate::running::run($rt, $alloc, &plan))
                 .map_err(|_| "no thread")?;
             service = crate::running::begun(&$rt, $alloc, site, thread)?;
@@ -261,7 +326,19 @@ macro_rules! start {
     }};
 }
 
+/// Starts a service of three nodes with these accounts, and waits until it takes requests.
+macro_rules! start {
+    ($rt:ident, $alloc:ident, $accounts:expr) => {
+        crate::running::start_planned!(
+            $rt,
+            $alloc,
+            crate::running::planned(&$rt, $alloc, $accounts)
+        )
+    };
+}
+
 pub(crate) use start;
+pub(crate) use start_planned;
 
 /// Calls `maildropd ctl` with these words.
 pub fn ctl<R: Net<Listener = TcpListener, Stream = TcpStream> + Files + Eprint>(
@@ -286,6 +363,11 @@ impl Running {
     /// The port of a node.
     pub fn node(&self, number: u16) -> u16 {
         self.ports.first.saturating_add(number)
+    }
+
+    /// The port for all nodes, if the service has one.
+    pub fn port_for_all(&self) -> u16 {
+        self.node(1)
     }
 
     /// Calls `maildropd ctl` with these words.
