@@ -1,5 +1,6 @@
 -- Worked examples of an operator's limits, of what is answered, and of what becomes of a message.
 use Rattle.std.specs.Prelude.{◌≡◌, refl, true, false, [], codes, None, Some, Ok, Err}
+use Rattle.std.specs.Fmt.{digits}
 use Rattle.script.specs.declared.instruction.Instruction.TheVariants.{Ask}
 use Rattle.script.specs.declared.request.Request.TheVariants as request
 use Rattle.service.specs.Answers.{awaits_nodes, ending_by}
@@ -119,7 +120,9 @@ key_kept : puts.key_of (codes "monday-7") ≡ codes "monday-7"
 key_kept = refl
 
 down : standing_line 3 None ≡ codes "node 3 down\n"
+unfolding digits
 down = refl
 
 up : standing_line 1 (Some (record { up = true; active = true; slot_out = 12; waiting = false })) ≡ codes "node 1 up active slot 12\n"
+unfolding digits
 up = refl

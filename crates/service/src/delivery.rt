@@ -181,7 +181,7 @@ pub(crate) struct Delivery<'a, R, N> {
     pub user: Name,
 }
 
-impl<R: Wait, N: ServedNode> Delivery<'_, R, N> {
+impl<R: Wait + Drop, N: ServedNode + Drop> Delivery<'_, R, N> {
     /// Has a text delivered, and reports the outcome as soon as it is there. Returns whether the node still runs: if it has
     /// stopped, `down` is reported.
     pub(crate) fn deliver(
