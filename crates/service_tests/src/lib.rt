@@ -10,6 +10,8 @@ mod hostile_tests;
 #[cfg(test)]
 mod operator_tests;
 #[cfg(test)]
+mod operators_tests;
+#[cfg(test)]
 mod plays;
 #[cfg(test)]
 mod ports_tests;

@@ -1,7 +1,7 @@
 //! Services that run while a test looks on.
 
 use crate::clients::{PATIENCE, local};
-use service::{ServeOptions, ctl_run, serve_run};
+use service::{CtlOptions, ServeOptions, ctl_run, serve_run};
 use std::alloc::Global;
 use std::fs::File;
 use std::io::{Eprint, Read, Write};
@@ -145,6 +145,10 @@ pub struct Plan {
     idle_seconds: u64,
     /// The path of its log, if it has one.
     log: Option<String>,
+    /// The path of the socket at which its operator comes, if that is no port.
+    socket: Option<String>,
+    /// How many bytes the files have that are delivered at a time.
+    delivery_bytes: u64,
     /// Whether it has one port for all nodes, that of node 1, and ends after a second without a majority.
     has_one_port: bool,
     has_ended: Arc<AtomicBool>,
@@ -171,6 +175,8 @@ pub fn planned<R: Net<Listener = TcpListener, Stream = TcpStream> + RandomSource
         ctl_port: ports.ctl(),
         idle_seconds: 0,
         log: None,
+        socket: None,
+        delivery_bytes: 1 << 30,
         has_one_port: false,
         has_ended: Arc::try_clone(&has_ended)?,
     };
@@ -191,6 +197,31 @@ pub fn bounded<R: Net<Listener = TcpListener, Stream = TcpStream> + RandomSource
     Ok((plan, site))
 }
 
+/// The same service, to which files of so many bytes come at a time.
+pub fn with_few_bytes<R: Net<Listener = TcpListener, Stream = TcpStream> + RandomSource + Files>(
+    rt: &R,
+    alloc: Global,
+    accounts: &str,
+    delivery_bytes: u64,
+) -> Result<(Plan, Site), Fail> {
+    let (mut plan, site) = planned(rt, alloc, accounts)?;
+    plan.delivery_bytes = delivery_bytes;
+    Ok((plan, site))
+}
+
+/// The same service, whose operator comes by a socket of this path.
+pub fn at_socket<R: Net<Listener = TcpListener, Stream = TcpStream> + RandomSource + Files>(
+    rt: &R,
+    alloc: Global,
+    accounts: &str,
+    path: &str,
+) -> Result<(Plan, Site), Fail> {
+    let path = String::from_str(alloc, path)?;
+    let (mut plan, site) = planned(rt, alloc, accounts)?;
+    plan.socket = Some(path);
+    Ok((plan, site))
+}
+
 /// The same service at one port for all nodes, which ends after a second without a majority.
 pub fn at_one_port<R: Net<Listener = TcpListener, Stream = TcpStream> + RandomSource + Files>(
     rt: &R,
@@ -202,27 +233,30 @@ pub fn at_one_port<R: Net<Listener = TcpListener, Stream = TcpStream> + RandomSo
     Ok((plan, site))
 }
 
+/// A text, if there is one.
+fn text_of(text: &Option<String>) -> Option<&str> {
+    match text {
+        Some(text) => Some(text.as_str()),
+        None => None,
+    }
+}
+
 /// The options of a plan.
 fn options_of(plan: &Plan) -> ServeOptions<'_> {
-    let log = match &plan.log {
-        Some(log) => Some(log.as_str()),
-        None => None,
-    };
-    let options = ServeOptions {
-        idle_seconds: plan.idle_seconds,
-        log,
-        ..options(plan.accounts.as_str(), plan.pop_port, plan.ctl_port)
-    };
-    if plan.has_one_port {
-        ServeOptions {
-            port: Some(u64::from(plan.pop_port.saturating_add(1))),
-            pop_port: None,
-            no_majority_seconds: 1,
-            ..options
-        }
-    } else {
-        options
+    let mut options = options(plan.accounts.as_str(), plan.pop_port, plan.ctl_port);
+    options.idle_seconds = plan.idle_seconds;
+    options.delivery_bytes = plan.delivery_bytes;
+    options.log = text_of(&plan.log);
+    options.ctl_socket = text_of(&plan.socket);
+    if options.ctl_socket.is_some() {
+        options.ctl_port = None;
     }
+    if plan.has_one_port {
+        options.port = Some(u64::from(plan.pop_port.saturating_add(1)));
+        options.pop_port = None;
+        options.no_majority_seconds = 1;
+    }
+    options
 }
 
 /// Runs a service. Gives its exit status and what it wrote.
@@ -340,6 +374,29 @@ macro_rules! start {
 pub(crate) use start;
 pub(crate) use start_planned;
 
+/// Calls `maildropd ctl` with these options, and these bytes on its standard input.
+pub fn ctl_with<R: Net<Listener = TcpListener, Stream = TcpStream> + Files + Eprint>(
+    rt: &R,
+    alloc: Global,
+    input: &[u8],
+    options: &CtlOptions<'_>,
+) -> Told {
+    let mut lines = Vec::new(alloc);
+    let mut reader = input;
+    let status = ctl_run(rt, alloc, &mut reader, &mut lines, options);
+    Told { status, lines }
+}
+
+/// The options of `maildropd ctl` at a port, with these words.
+pub fn at_port<'a>(port: u16, words: &'a [&'a str]) -> CtlOptions<'a> {
+    CtlOptions {
+        port: Some(u64::from(port)),
+        socket: None,
+        waits: false,
+        words,
+    }
+}
+
 /// Calls `maildropd ctl` with these words.
 pub fn ctl<R: Net<Listener = TcpListener, Stream = TcpStream> + Files + Eprint>(
     rt: &R,
@@ -347,9 +404,7 @@ pub fn ctl<R: Net<Listener = TcpListener, Stream = TcpStream> + Files + Eprint>(
     port: u16,
     words: &[&str],
 ) -> Told {
-    let mut lines = Vec::new(alloc);
-    let status = ctl_run(rt, alloc, &mut lines, u64::from(port), words);
-    Told { status, lines }
+    ctl_with(rt, alloc, &[], &at_port(port, words))
 }
 
 impl Told {
