@@ -246,6 +246,18 @@ fn tell<W: Write>(alloc: Global, writer: &mut W, verdict: &Verdict) -> Result<u8
     Ok(verdict.status())
 }
 
+/// Reports how a service has ended: writes the line of its verdict, and returns the exit status, or why it ended.
+fn report<W: Write>(alloc: Global, writer: &mut W, end: &RunEnd) -> Result<u8, Fault>
+    ensures status { IfOk result (λ status. status ≡ verdicts.status_of end.now.verdict) }
+    ensures written { OnOk result (Appends (W.contents writer.old) (W.contents writer.new) (verdicts.text_of end.now.verdict ++ 10 ∷ [])) }
+{
+    let told = tell(alloc, writer, &end.verdict);
+    match end.fault {
+        None => told,
+        Some(fault) => Err(fault),
+    }
+}
+
 /// Serves POP3 (RFC 1939) at a port of each node, and an operator's requests at a port of their own, until an operator
 /// stops it: then no connection is taken any more, the sessions go on to their ends, the nodes stop, and what an audit
 /// says of all that they did is written. Returns the exit status: 0 if that is `audit ok`, 1 if it is something else
@@ -264,9 +276,9 @@ pub fn serve_run<R: System + Files<File = File> + Eprint, W: Write>(
     ensures told { result ≡ 0 → Appends (W.contents writer.old) (W.contents writer.new) (verdicts.text_of Legal ++ 10 ∷ []) }
 {
     let fault = match run(rt, alloc, options) {
-        Ok(end) => match (tell(alloc, writer, &end.verdict), end.fault) {
-            (Ok(status), None) => return status,
-            (Ok(_), Some(fault)) | (Err(fault), _) => fault,
+        Ok(end) => match report(alloc, writer, &end) {
+            Ok(status) => return status,
+            Err(fault) => fault,
         },
         Err(fault) => fault,
     };
