@@ -1,5 +1,5 @@
 -- What an operator is answered.
-use Rattle.std.specs.Prelude.{◌≡◌, ℕ, nat_eq, List, ◌||◌, ◌&&◌, ◌⊎◌, Bool, true, false, Option, None, Result, Ok, Err, codes, if◌then◌else◌}
+use Rattle.std.specs.Prelude.{◌≡◌, ℕ, nat_eq, List, ◌||◌, ◌&&◌, ◌⊎◌, Bool, true, false, None, Result, Ok, Err, codes, if◌then◌else◌}
 use Rattle.std.specs.List.{starts_with}
 use Rattle.std.specs.Option.{option_or}
 use Rattle.std.specs.Str.{bytes_eq}

@@ -1,5 +1,5 @@
 -- Worked examples of an operator's limits, of what is answered, and of what becomes of a message.
-use Rattle.std.specs.Prelude.{◌≡◌, refl, true, false, [], codes, None, Some, Ok, Err}
+use Rattle.std.specs.Prelude.{◌≡◌, refl, true, false, codes, None, Some, Ok, Err}
 use Rattle.std.specs.Fmt.{digits}
 use Rattle.script.specs.declared.instruction.Instruction.TheVariants.{Ask}
 use Rattle.script.specs.declared.request.Request.TheVariants as request
