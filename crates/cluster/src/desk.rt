@@ -1,7 +1,7 @@
 //! A node's desk.
 ghost use Rattle.std.specs.Prelude.{◌≡◌, true, IfOk, IfSome};
 ghost use Rattle.session.specs.Desks.{given_by_ask, given_by_tell};
-ghost use Rattle.cluster.specs.Members.{IsGiven, IsStatusOf};
+ghost use Rattle.cluster.specs.Members.{IsAnswered, IsGiven, IsStatusOf};
 
 use crate::handle::NodeHandle;
 use crate::hub::Hub;
@@ -15,6 +15,7 @@ use node::Input;
 use session::{Desk, DeskStopped};
 use std::marker::Model;
 use std::sync::{Arc, Wait};
+use std::time::{Clock, Duration};
 
 /// The desk of one node: what it is asked is submitted there, and answered once it is decided and performed there. It may
 /// move to another thread. Contracts see it as the node's number.
@@ -93,6 +94,35 @@ impl<D: Deployment, R: Wait + Copy, L: Link> NodeDesk<D, R, L> {
         let hub = Arc::try_clone(&self.hub)?;
         let node = self.node.share()?;
         Ok(NodeDesk::new(self.rt, node, hub))
+    }
+}
+
+/// What a caller needs that may give up: it submits an operation, looks for its outcome again and again, and lets it go.
+impl<D: Deployment, R: Wait + Clock, L: Link> NodeDesk<D, R, L> {
+    /// Submits an operation. Returns its ticket, or nothing if the node has stopped. Its outcome stays here until it is
+    /// taken by `outcome_within` or let go by `forget`.
+    pub fn submit(&self, name: Name, op: Op) -> Option<Ticket>
+        ensures { IfSome result (λ ticket. ticket.node ≡ self.now) }
+    {
+        self.node.submit(&self.rt, name, op)
+    }
+
+    /// The outcome of an operation that was submitted at this node, which may be awaited at most this long. Nothing if it
+    /// isn't there yet, and an error if the node has stopped.
+    pub fn outcome_within(
+        &self,
+        name: Name,
+        ticket: Ticket,
+        time: Duration,
+    ) -> Result<Option<Outcome>, DeskStopped>
+        ensures { IfOk result (λ answer. IfSome answer (λ outcome. IsAnswered D.setup self.now name ticket outcome)) }
+    {
+        self.node.answer_within(&self.rt, name, ticket, time)
+    }
+
+    /// Nobody awaits the outcome of an operation that was submitted at this node any more.
+    pub fn forget(&self, name: Name, ticket: Ticket) {
+        self.node.tell(&self.rt, name, ticket);
     }
 }
 

@@ -12,9 +12,11 @@ use crate::waiters::{Groups, Waiters};
 use ballot::{Envelope, Memory, NodeId};
 use maildrop::{Name, Op, Outcome, SharedCommand, Ticket};
 use node::{Input, NodeLog, Outputs, SharedOp};
+use session::DeskStopped;
 use std::alloc::Global;
 use std::marker::Model;
 use std::sync::{Arc, Mutex, Wait};
+use std::time::{Clock, Duration};
 
 /// How many envelopes a node hears at most under one lock, so that others get it in between.
 const BATCH: usize = 32;
@@ -194,6 +196,26 @@ impl<D: Deployment, L: Link> NodeHandle<D, L> {
         unreachable!()
     }
 
+    /// Takes the answer to a command if it is there, or else waits for it once, at most this long. Returns nothing if it
+    /// isn't there even then, and an error if the node has stopped.
+    pub(crate) fn answer_within<R: Wait + Clock>(
+        &self,
+        rt: &R,
+        user: Name,
+        ticket: Ticket,
+        time: Duration,
+    ) -> Result<Option<Outcome>, DeskStopped>
+        ensures { IfOk result (λ answer. IfSome answer (λ outcome. IsAnswered D.setup self.now user ticket outcome)) }
+    {
+        let mut guard = self.shared.member.lock(rt);
+        match answer_in(&mut *guard, self.me, user, ticket) {
+            Ok(None) => {}
+            answer => return answer,
+        }
+        let mut guard = self.shared.waiters.wait_within(rt, &user, guard, time);
+        answer_in(&mut *guard, self.me, user, ticket)
+    }
+
     /// The node stops, for good. Gives whether it was up until now.
     pub(crate) fn crash<R: Wait>(&self, rt: &R) -> bool {
         let was_up = match &mut *self.shared.member.lock(rt) {
@@ -224,6 +246,26 @@ impl<D: Deployment, L: Link> NodeHandle<D, L> {
             Some(member) if member.me() == self.me => Some(member.into_log()),
             _ => None,
         }
+    }
+}
+
+/// Takes the answer to a command of the node of this number, if it is there. An error if the node isn't this one, or has
+/// stopped.
+fn answer_in<D: Deployment>(
+    member: &mut Option<Member<D>>,
+    me: NodeId,
+    user: Name,
+    ticket: Ticket,
+) -> Result<Option<Outcome>, DeskStopped>
+    ensures { IfOk result (λ answer. IfSome answer (λ outcome. IsAnswered D.setup me user ticket outcome)) }
+{
+    match member {
+        Some(member) if member.me() == me && member.is_up() => {
+            Ok(member.take_answer(user, ticket))
+        }
+        _ => Err(DeskStopped {
+            ticket: Some(ticket),
+        }),
     }
 }
 

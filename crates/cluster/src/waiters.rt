@@ -4,6 +4,7 @@ ghost use Rattle.std.specs.Prelude.{◌<◌};
 use maildrop::Name;
 use std::array;
 use std::sync::{Condvar, MutexGuard, Wait};
+use std::time::{Clock, Duration};
 
 /// How many groups the waiters of a node stand in: one for each bit of a `Groups`.
 const GROUPS: usize = 64;
@@ -59,6 +60,18 @@ impl Waiters {
         guard: MutexGuard<'a, T>,
     ) -> MutexGuard<'a, T> {
         self.groups[group_of(user)].wait(rt, guard)
+    }
+
+    /// The same, but waits at most this long.
+    pub(crate) fn wait_within<'a, R: Wait + Clock, T>(
+        &self,
+        rt: &R,
+        user: &Name,
+        guard: MutexGuard<'a, T>,
+        time: Duration,
+    ) -> MutexGuard<'a, T> {
+        let (guard, _) = self.groups[group_of(user)].wait_timeout(rt, guard, time);
+        guard
     }
 
     /// Wakes these groups.

@@ -66,6 +66,16 @@ pub(crate) fn text_of<'a>(matches: &ArgMatches<'a>, name: &str) -> &'a str {
     matches.get_str(name).unwrap_or("")
 }
 
+/// The text of an option, if it was given.
+pub(crate) fn optional_text_of<'a>(matches: &ArgMatches<'a>, name: &str) -> Option<&'a str> {
+    matches.get_str(name)
+}
+
+/// The number of an option, if it was given.
+pub(crate) fn optional_number_of(matches: &ArgMatches<'_>, name: &str) -> Option<u64> {
+    matches.get_one::<u64>(name).copied()
+}
+
 /// The bytes of an option, or none if it wasn't given.
 pub(crate) fn bytes_of<'a>(matches: &ArgMatches<'a>, name: &str) -> &'a [u8] {
     text_of(matches, name).as_bytes()

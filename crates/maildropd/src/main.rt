@@ -14,6 +14,7 @@ use crate::sim::{run_sim, sim};
 use clap::error::ErrorKind;
 use clap::{Command, Error};
 use std::alloc::Global;
+use std::fs::File;
 use std::io;
 use std::net::{Net, TcpListener, TcpStream};
 use std::process::ExitCode;
@@ -49,7 +50,7 @@ fn run<
         + Sync
         + 'static
         + AllocGlobal
-        + Files
+        + Files<File = File>
         + Input
         + Print
         + Eprint,

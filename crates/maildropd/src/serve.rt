@@ -1,11 +1,15 @@
 //! `maildropd serve`.
 
-use crate::arguments::{Choice, Kind, Presence, bytes_of, number_of, text_of, with_options};
+use crate::arguments::{
+    Choice, Kind, Presence, bytes_of, number_of, optional_number_of, optional_text_of, text_of,
+    with_options,
+};
 use clap::{ArgMatches, Command, Error};
-use service::{ServeOptions, serve_run};
+use service::{Fault, ServeOptions, serve_run};
 use std::alloc::Global;
+use std::fs::File;
 use std::io;
-use std::net::{Net, TcpListener, TcpStream};
+use std::net::{IpAddr, Net, TcpListener, TcpStream};
 use std::random::RandomSource;
 use std::rt::Files;
 use std::sync::Wait;
@@ -14,8 +18,8 @@ use std::time::Clock;
 
 /// What `--help` shows below the options.
 const EXAMPLE: &str = "Example, with a line `alice pass secret` in the file accounts:
-  maildropd serve --accounts accounts --pop-port 11000 --ctl-port 11999
-Node 1 takes POP3 connections at 127.0.0.1:11001, node 2 at 11002, node 3 at 11003.
+  maildropd serve --accounts accounts --port 11000 --ctl-port 11999
+POP3 connections are taken at 127.0.0.1:11000, and served at the node that leads.
 `maildropd ctl --port 11999 stop` ends it. Then it tells what an audit finds: `audit ok` with the status 0, or what is wrong with the status 1.
 All mail lies in memory, and is gone when the process ends.";
 
@@ -29,18 +33,39 @@ const OPTIONS: &[Choice] = &[
         help: "The accounts: a line `NAME METHOD SECRET` each, with the method pass or apop",
     },
     Choice {
+        name: "port",
+        value: "PORT",
+        kind: Kind::Number,
+        presence: Presence::Optional,
+        help: "Takes POP3 connections at this port, and serves them at the node that leads",
+    },
+    Choice {
         name: "pop-port",
         value: "PORT",
         kind: Kind::Number,
-        presence: Presence::Required,
-        help: "Node N takes POP3 connections at 127.0.0.1, at the port N above this one",
+        presence: Presence::Optional,
+        help: "Node N takes POP3 connections at the port N above this one",
+    },
+    Choice {
+        name: "listen",
+        value: "ADDRESS",
+        kind: Kind::Text,
+        presence: Presence::Default("127.0.0.1"),
+        help: "The address at which POP3 connections are taken",
     },
     Choice {
         name: "ctl-port",
         value: "PORT",
         kind: Kind::Number,
-        presence: Presence::Required,
+        presence: Presence::Optional,
         help: "The port of 127.0.0.1 that takes the operator's requests",
+    },
+    Choice {
+        name: "ctl-socket",
+        value: "PATH",
+        kind: Kind::Text,
+        presence: Presence::Optional,
+        help: "The Unix socket that takes the operator's requests, in place of a port. Only its owner may use it",
     },
     Choice {
         name: "host",
@@ -91,6 +116,34 @@ const OPTIONS: &[Choice] = &[
         presence: Presence::Default("1000000000"),
         help: "The highest unique id that a maildrop gives, at most 2^63",
     },
+    Choice {
+        name: "idle-seconds",
+        value: "SECONDS",
+        kind: Kind::Number,
+        presence: Presence::Default("600"),
+        help: "Ends a session after this time without a whole line, at most 1000000; 0: never",
+    },
+    Choice {
+        name: "no-majority-seconds",
+        value: "SECONDS",
+        kind: Kind::Number,
+        presence: Presence::Default("30"),
+        help: "Ends the service after this time without a majority of the nodes, at most 1000000; 0: never",
+    },
+    Choice {
+        name: "delivery-bytes",
+        value: "COUNT",
+        kind: Kind::Number,
+        presence: Presence::Default("1073741824"),
+        help: "How many bytes the files have together that are delivered at a time, at most 2^40. What doesn't fit waits",
+    },
+    Choice {
+        name: "log",
+        value: "FILE",
+        kind: Kind::Text,
+        presence: Presence::Optional,
+        help: "Adds a line for each event to this file; -: to standard error",
+    },
 ];
 
 /// The command `serve` of the command line.
@@ -99,6 +152,30 @@ pub(crate) fn serve<'a>(alloc: Global) -> Result<Command<'a>, Error> {
         .about("Serves POP3 over maildrops that one to nine nodes in this process agree on")
         .after_help(EXAMPLE);
     with_options(alloc, serve, OPTIONS)
+}
+
+/// What the options say, or nothing if the address is none.
+fn options_of<'a>(matches: &ArgMatches<'a>) -> Option<ServeOptions<'a>> {
+    let listen = text_of(matches, "listen").parse::<IpAddr>().ok()?;
+    Some(ServeOptions {
+        accounts: text_of(matches, "accounts"),
+        port: optional_number_of(matches, "port"),
+        pop_port: optional_number_of(matches, "pop-port"),
+        listen,
+        ctl_port: optional_number_of(matches, "ctl-port"),
+        ctl_socket: optional_text_of(matches, "ctl-socket"),
+        nodes: number_of(matches, "nodes"),
+        window: number_of(matches, "window"),
+        messages: number_of(matches, "messages"),
+        octets: number_of(matches, "octets"),
+        ids: number_of(matches, "ids"),
+        host: bytes_of(matches, "host"),
+        tick_ms: number_of(matches, "tick-ms"),
+        idle_seconds: number_of(matches, "idle-seconds"),
+        no_majority_seconds: number_of(matches, "no-majority-seconds"),
+        delivery_bytes: number_of(matches, "delivery-bytes"),
+        log: optional_text_of(matches, "log"),
+    })
 }
 
 pub(crate) fn run_serve<
@@ -112,21 +189,16 @@ pub(crate) fn run_serve<
         + Sync
         + 'static
         + AllocGlobal
-        + Files
+        + Files<File = File>
         + Print
         + Eprint,
 >(rt: &R, matches: &ArgMatches<'_>) -> u8 {
-    let options = ServeOptions {
-        accounts: text_of(matches, "accounts"),
-        pop_port: number_of(matches, "pop-port"),
-        ctl_port: number_of(matches, "ctl-port"),
-        nodes: number_of(matches, "nodes"),
-        window: number_of(matches, "window"),
-        messages: number_of(matches, "messages"),
-        octets: number_of(matches, "octets"),
-        ids: number_of(matches, "ids"),
-        host: bytes_of(matches, "host"),
-        tick_ms: number_of(matches, "tick-ms"),
-    };
-    serve_run(*rt, rt.alloc(), &mut io::writer(rt), &options)
+    match options_of(matches) {
+        Some(options) => serve_run(*rt, rt.alloc(), &mut io::writer(rt), &options),
+        None => {
+            let fault = Fault::Value;
+            let _untold = eprintln!(rt; "maildropd: {fault}");
+            fault.status()
+        }
+    }
 }

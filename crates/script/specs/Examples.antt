@@ -1,20 +1,28 @@
 -- Worked examples of the definitions.
-use Rattle.std.specs.Prelude.{◌≡◌, [], ◌∷◌, ◌++◌, replicate, refl, codes, true, false, None, Some, Ok, Err, Result, Option}
+use Rattle.std.specs.Prelude.{◌≡◌, ℕ, List, [], ◌∷◌, ◌++◌, replicate, refl, codes, true, false, None, Some, Ok, Err, Result, Option}
 use Rattle.std.specs.Fmt.{digits}
 use Rattle.apop.specs.declared.method.Method.TheVariants.{Pass}
 use Rattle.maildrop.specs.declared.outcome.Outcome.TheVariants as outcome
 use Rattle.maildrop.specs.declared.op.Op.TheVariants as op
 use Rattle.pop3_wire.specs.declared.line.Line.TheVariants.{Whole, TooLong}
 use Rattle.script.specs.Commands.{parsed}
+use Rattle.script.specs.Instructions.{instruction_of}
 use Rattle.script.specs.Output.{outcome_line, performed_line, refusal_line, reply_lines, slot_line}
+use Rattle.script.specs.Requests.{request_of, request_text}
 use Rattle.script.specs.Scripts.{Script, default_settings, new_script, read_line}
 use Rattle.script.specs.Written.{lines_of}
 use Rattle.script.specs.declared.command.Command.{Command}
 use Rattle.script.specs.declared.command.Command.TheVariants as command
 use Rattle.script.specs.declared.fault.ScriptFault.{ScriptFault}
 use Rattle.script.specs.declared.fault.ScriptFault.TheVariants.{NoStatement, LateSetting, NameTwice}
+use Rattle.script.specs.declared.instruction.Instruction.{Instruction}
+use Rattle.script.specs.declared.instruction.Instruction.TheVariants as instruction
+use Rattle.script.specs.declared.instruction.WordsFault.{WordsFault}
+use Rattle.script.specs.declared.instruction.WordsFault.TheVariants as words_fault
 use Rattle.script.specs.declared.message_kind.MessageKind.TheVariants as kind
 use Rattle.script.specs.declared.refusal.Refusal.TheVariants as refusal
+use Rattle.script.specs.declared.request.Request.{Request}
+use Rattle.script.specs.declared.request.Request.TheVariants as request
 use Rattle.script.specs.declared.setting.Setting.{Setting}
 use Rattle.script.specs.declared.setting.Setting.TheVariants as setting
 use Rattle.script.specs.declared.statement.Statement.{Statement}
@@ -190,6 +198,226 @@ one_account = refl
 
 name_twice : read_line with_alice (codes "account alice apop s4") ≡ Err NameTwice
 name_twice = refl
+
+-- what an operator asks
+abbrev alice : List ℕ
+alice = codes "alice"
+
+deliver_request : request_of (codes "deliver 1 alice 30 k") ≡ Some (request.Deliver 1 alice 30 (Some (codes "k")))
+deliver_request = refl
+
+deliver_at_zero : request_of (codes "deliver 0 alice 30") ≡ None
+deliver_at_zero = refl
+
+put_request : request_of (codes "put 2 alice 7") ≡ Some (request.Put (Some 2) alice 7 None)
+put_request = refl
+
+put_under_key : request_of (codes "put 2 alice 7 k1") ≡ Some (request.Put (Some 2) alice 7 (Some (codes "k1")))
+put_under_key = refl
+
+put_at_any_node : request_of (codes "put 0 alice 7") ≡ Some (request.Put None alice 7 None)
+put_at_any_node = refl
+
+put_at_nine : request_of (codes "put 9 alice 7") ≡ Some (request.Put (Some 9) alice 7 None)
+put_at_nine = refl
+
+put_at_ten : request_of (codes "put 10 alice 7") ≡ None
+put_at_ten = refl
+
+put_at_two_zeros : request_of (codes "put 00 alice 7") ≡ None
+put_at_two_zeros = refl
+
+put_no_bytes : request_of (codes "put 1 alice 0") ≡ Some (request.Put (Some 1) alice 0 None)
+put_no_bytes = refl
+
+put_most_bytes : request_of (codes "put 1 alice 1073741824") ≡ Some (request.Put (Some 1) alice 1073741824 None)
+put_most_bytes = refl
+
+put_one_byte_more : request_of (codes "put 1 alice 1073741825") ≡ None
+put_one_byte_more = refl
+
+put_leading_zero : request_of (codes "put 1 alice 07") ≡ None
+put_leading_zero = refl
+
+put_without_words : request_of (codes "put") ≡ None
+put_without_words = refl
+
+put_without_count : request_of (codes "put 1 alice") ≡ None
+put_without_count = refl
+
+put_without_user : request_of (codes "put 1  7") ≡ None
+put_without_user = refl
+
+put_longest_name : request_of (codes "put 1 " ++ replicate 40 97 ++ codes " 7") ≡ Some (request.Put (Some 1) (replicate 40 97) 7 None)
+put_longest_name = refl
+
+put_name_too_long : request_of (codes "put 1 " ++ replicate 41 97 ++ codes " 7") ≡ None
+put_name_too_long = refl
+
+put_longest_key : request_of (codes "put 1 alice 7 " ++ replicate 64 107) ≡ Some (request.Put (Some 1) alice 7 (Some (replicate 64 107)))
+put_longest_key = refl
+
+put_key_too_long : request_of (codes "put 1 alice 7 " ++ replicate 65 107) ≡ None
+put_key_too_long = refl
+
+put_empty_key : request_of (codes "put 1 alice 7 ") ≡ None
+put_empty_key = refl
+
+put_two_keys : request_of (codes "put 1 alice 7 k l") ≡ None
+put_two_keys = refl
+
+sessions_request : request_of (codes "sessions") ≡ Some request.Sessions
+sessions_request = refl
+
+sessions_of_a_node : request_of (codes "sessions 1") ≡ None
+sessions_of_a_node = refl
+
+stats_request : request_of (codes "stats") ≡ Some request.Stats
+stats_request = refl
+
+stats_and_a_space : request_of (codes "stats ") ≡ None
+stats_and_a_space = refl
+
+kick_request : request_of (codes "kick alice") ≡ Some (request.Kick alice)
+kick_request = refl
+
+kick_without_user : request_of (codes "kick") ≡ None
+kick_without_user = refl
+
+kick_empty_name : request_of (codes "kick ") ≡ None
+kick_empty_name = refl
+
+kick_two_users : request_of (codes "kick alice bob") ≡ None
+kick_two_users = refl
+
+kick_name_too_long : request_of (codes "kick " ++ replicate 41 97) ≡ None
+kick_name_too_long = refl
+
+stop_request : request_of (codes "stop") ≡ Some (request.Stop false false)
+stop_request = refl
+
+stop_now : request_of (codes "stop now") ≡ Some (request.Stop true false)
+stop_now = refl
+
+stop_wait : request_of (codes "stop wait") ≡ Some (request.Stop false true)
+stop_wait = refl
+
+stop_now_wait : request_of (codes "stop now wait") ≡ Some (request.Stop true true)
+stop_now_wait = refl
+
+stop_wait_now : request_of (codes "stop wait now") ≡ None
+stop_wait_now = refl
+
+stop_another_word : request_of (codes "stop later") ≡ None
+stop_another_word = refl
+
+stop_and_a_space : request_of (codes "stop ") ≡ None
+stop_and_a_space = refl
+
+stop_now_and_a_space : request_of (codes "stop now ") ≡ None
+stop_now_and_a_space = refl
+
+put_text : request_text (request.Put (Some 2) alice 7 (Some (codes "k1"))) ≡ codes "put 2 alice 7 k1"
+unfolding digits
+put_text = refl
+
+put_at_any_node_text : request_text (request.Put None alice 7 None) ≡ codes "put 0 alice 7"
+unfolding digits
+put_at_any_node_text = refl
+
+kick_text : request_text (request.Kick alice) ≡ codes "kick alice"
+kick_text = refl
+
+stop_now_wait_text : request_text (request.Stop true true) ≡ codes "stop now wait"
+stop_now_wait_text = refl
+
+-- what an operator writes on the command line
+abbrev asks : Request → Result Instruction WordsFault
+asks it = Ok (instruction.Ask it)
+
+abbrev no_words : Result Instruction WordsFault
+no_words = Err words_fault.Value
+
+put_words : instruction_of (codes "put" ∷ codes "2" ∷ codes "alice" ∷ []) ≡ Ok (instruction.Put (Some 2) alice None)
+put_words = refl
+
+put_words_at_any_node : instruction_of (codes "put" ∷ codes "0" ∷ codes "alice" ∷ []) ≡ Ok (instruction.Put None alice None)
+put_words_at_any_node = refl
+
+put_words_under_key : instruction_of (codes "put" ∷ codes "2" ∷ codes "alice" ∷ codes "k1" ∷ []) ≡ Ok (instruction.Put (Some 2) alice (Some (codes "k1")))
+put_words_under_key = refl
+
+put_words_under_no_key : instruction_of (codes "put" ∷ codes "2" ∷ codes "alice" ∷ codes "<a b>" ∷ []) ≡ Ok (instruction.Put (Some 2) alice (Some (codes "<a b>")))
+put_words_under_no_key = refl
+
+put_words_under_empty_key : instruction_of (codes "put" ∷ codes "2" ∷ codes "alice" ∷ [] ∷ []) ≡ Ok (instruction.Put (Some 2) alice (Some []))
+put_words_under_empty_key = refl
+
+put_words_at_ten : instruction_of (codes "put" ∷ codes "10" ∷ codes "alice" ∷ codes "k1" ∷ []) ≡ no_words
+put_words_at_ten = refl
+
+put_words_without_user : instruction_of (codes "put" ∷ codes "2" ∷ []) ≡ no_words
+put_words_without_user = refl
+
+put_words_bad_user : instruction_of (codes "put" ∷ codes "2" ∷ codes "al ice" ∷ []) ≡ no_words
+put_words_bad_user = refl
+
+put_words_one_more : instruction_of (codes "put" ∷ codes "2" ∷ codes "alice" ∷ codes "k1" ∷ codes "k2" ∷ []) ≡ no_words
+put_words_one_more = refl
+
+deliver_words : instruction_of (codes "deliver" ∷ codes "1" ∷ codes "alice" ∷ codes "box" ∷ []) ≡ Ok (instruction.Deliver 1 alice (codes "box") None)
+deliver_words = refl
+
+deliver_words_at_zero : instruction_of (codes "deliver" ∷ codes "0" ∷ codes "alice" ∷ codes "box" ∷ []) ≡ no_words
+deliver_words_at_zero = refl
+
+deliver_words_bad_key : instruction_of (codes "deliver" ∷ codes "1" ∷ codes "alice" ∷ codes "box" ∷ [] ∷ []) ≡ Err words_fault.Key
+deliver_words_bad_key = refl
+
+break_words : instruction_of (codes "break" ∷ codes "1" ∷ codes "alice" ∷ []) ≡ asks (request.Break 1 alice)
+break_words = refl
+
+break_words_at_zero : instruction_of (codes "break" ∷ codes "0" ∷ codes "alice" ∷ []) ≡ no_words
+break_words_at_zero = refl
+
+sessions_words : instruction_of (codes "sessions" ∷ []) ≡ asks request.Sessions
+sessions_words = refl
+
+sessions_words_one_more : instruction_of (codes "sessions" ∷ codes "1" ∷ []) ≡ no_words
+sessions_words_one_more = refl
+
+stats_words : instruction_of (codes "stats" ∷ []) ≡ asks request.Stats
+stats_words = refl
+
+stats_words_one_more : instruction_of (codes "stats" ∷ codes "1" ∷ []) ≡ no_words
+stats_words_one_more = refl
+
+kick_words : instruction_of (codes "kick" ∷ codes "alice" ∷ []) ≡ asks (request.Kick alice)
+kick_words = refl
+
+kick_words_without_user : instruction_of (codes "kick" ∷ []) ≡ no_words
+kick_words_without_user = refl
+
+kick_words_bad_user : instruction_of (codes "kick" ∷ [] ∷ []) ≡ no_words
+kick_words_bad_user = refl
+
+kick_words_one_more : instruction_of (codes "kick" ∷ codes "alice" ∷ codes "bob" ∷ []) ≡ no_words
+kick_words_one_more = refl
+
+stop_words : instruction_of (codes "stop" ∷ []) ≡ asks (request.Stop false false)
+stop_words = refl
+
+stop_words_now : instruction_of (codes "stop" ∷ codes "now" ∷ []) ≡ asks (request.Stop true false)
+stop_words_now = refl
+
+stop_words_wait : instruction_of (codes "stop" ∷ codes "wait" ∷ []) ≡ no_words
+stop_words_wait = refl
+
+stop_words_now_wait : instruction_of (codes "stop" ∷ codes "now" ∷ codes "wait" ∷ []) ≡ no_words
+stop_words_now_wait = refl
+
+stop_words_in_one : instruction_of (codes "stop now" ∷ []) ≡ no_words
+stop_words_in_one = refl
 
 -- what is written
 stored : (A : Type 0) → outcome_line {A = A} (codes "bob") (record { node = 2; seq = 1 }) (outcome.Stored 1) ≡ codes "op bob 2/1 stored 1\n"

@@ -1,6 +1,7 @@
 -- Words and numbers.
-use Rattle.std.specs.Prelude.{ℕ, ◌-◌, ◌^◌, ◌==◌, ◌&&◌, nat_le, not, Bool, true, false, List, ◌∷◌, length, if◌then◌else◌, Option, None, Some}
+use Rattle.std.specs.Prelude.{ℕ, zero, suc, ◌-◌, ◌^◌, ◌==◌, ◌&&◌, nat_le, not, Bool, true, false, List, ◌∷◌, length, if◌then◌else◌, Option, None, Some}
 use Rattle.std.specs.List.{list_all}
+use Rattle.std.specs.Option.{option_map}
 use Rattle.std.specs.Char.{is_ascii_digit}
 use Rattle.maildrop.specs.Key.{is_key}
 use Rattle.pop3_wire.specs.Commands.{number_value}
@@ -32,6 +33,15 @@ last_node = 9
 -- the number of a node
 abbrev pub node_of : List ℕ → Option ℕ
 node_of bytes = number_between 1 last_node bytes
+
+-- any node for the number 0, or else the node of a number
+abbrev pub node_numbered : ℕ → Option ℕ
+node_numbered zero = None
+node_numbered (suc n) = Some (suc n)
+
+-- the number of a node, or 0 for any node
+abbrev pub node_or_any : List ℕ → Option (Option ℕ)
+node_or_any bytes = option_map node_numbered (number_between 0 last_node bytes)
 
 abbrev pub key_of : List ℕ → Option (List ℕ)
 key_of bytes = if is_key bytes then Some bytes else None

@@ -3,7 +3,7 @@ ghost use Rattle.std.specs.Prelude.{◌≡◌, map};
 ghost use Rattle.script.specs.Instructions as spec;
 
 use crate::key_prefix::KeyPrefix;
-use crate::numbers::node_of;
+use crate::numbers::{node_of, node_or_any};
 use crate::request::{Request, single_word};
 use crate::word::Word;
 use ballot::NodeId;
@@ -20,7 +20,14 @@ pub enum Instruction<'a> {
         file: Word<'a>,
         key: Option<KeyPrefix>,
     },
-    /// `break NODE USER`, `crash NODE`, `status` or `stop`.
+    /// `put NODE USER` or `put NODE USER KEY`: how many bytes the message has is still to be seen. NODE 0 is any node
+    /// that is up, `None`. The key may be any bytes.
+    Put {
+        node: Option<NodeId>,
+        user: Name,
+        key: Option<Word<'a>>,
+    },
+    /// `break NODE USER`, `crash NODE`, `status`, `sessions`, `stats`, `kick USER`, `stop` or `stop now`.
     Ask(Request),
 }
 
@@ -44,14 +51,24 @@ fn ask_of(request: Option<Request>) -> Result<Instruction<'static>, WordsFault>
     }
 }
 
-fn crash_with(word: &[u8], node: &[u8]) -> Option<Request>
-    ensures { result ≡ spec.crash_with word.now node.now }
+/// `crash NODE`, `kick USER` or `stop now`.
+fn two_words(word: &[u8], second: &[u8]) -> Option<Request>
+    ensures { result ≡ spec.two_words word.now second.now }
 {
-    if word != b"crash".as_slice() {
-        return None;
+    if word == b"crash".as_slice() {
+        let node = node_of(second)?;
+        Some(Request::Crash { node })
+    } else if word == b"kick".as_slice() {
+        let user = Name::new(second)?;
+        Some(Request::Kick { user })
+    } else if word == b"stop".as_slice() && second == b"now".as_slice() {
+        Some(Request::Stop {
+            now: true,
+            wait: false,
+        })
+    } else {
+        None
     }
-    let node = node_of(node)?;
-    Some(Request::Crash { node })
 }
 
 fn break_with(word: &[u8], node: &[u8], user: &[u8]) -> Option<Request>
@@ -63,6 +80,31 @@ fn break_with(word: &[u8], node: &[u8], user: &[u8]) -> Option<Request>
     let node = node_of(node)?;
     let user = Name::new(user)?;
     Some(Request::Break { node, user })
+}
+
+/// `NODE USER` and the word of a key, if there is one.
+fn put_with<'a>(
+    node: &[u8],
+    user: &[u8],
+    key: Option<Word<'a>>,
+) -> Result<Instruction<'a>, WordsFault>
+    ensures { result ≡ spec.put_with node.now user.now key.entry }
+{
+    let (Some(node), Some(user)) = (node_or_any(node), Name::new(user)) else {
+        return Err(WordsFault::Value);
+    };
+    Ok(Instruction::Put { node, user, key })
+}
+
+/// `put NODE USER` or `break NODE USER`.
+fn three_words(word: &[u8], node: &[u8], user: &[u8]) -> Result<Instruction<'static>, WordsFault>
+    ensures { result ≡ spec.three_words word.now node.now user.now }
+{
+    if word == b"put".as_slice() {
+        put_with(node, user, None)
+    } else {
+        ask_of(break_with(word, node, user))
+    }
 }
 
 fn addressee_of(word: &[u8], node: &[u8], user: &[u8]) -> Option<(NodeId, Name)>
@@ -116,15 +158,31 @@ fn keyed_with<'a>(
     }
 }
 
+/// `put NODE USER KEY` or `deliver NODE USER FILE`.
+fn four_words<'a>(
+    word: &[u8],
+    node: &[u8],
+    user: &[u8],
+    last: &'a [u8],
+) -> Result<Instruction<'a>, WordsFault>
+    ensures { result ≡ spec.four_words word.now node.now user.now last.now }
+{
+    if word == b"put".as_slice() {
+        put_with(node, user, Some(Word::new(last)))
+    } else {
+        deliver_with(addressee_of(word, node, user), last)
+    }
+}
+
 /// The instruction of the words of a command line. A bad node or user is told before a bad key. Takes no memory.
 pub fn instruction_of<'a>(words: &[&'a [u8]]) -> Result<Instruction<'a>, WordsFault>
     ensures { result ≡ spec.instruction_of (map (λ word. word.now) words.now) }
 {
     match words {
         [word] => ask_of(single_word(word)),
-        [word, node] => ask_of(crash_with(word, node)),
-        [word, node, user] => ask_of(break_with(word, node, user)),
-        [word, node, user, file] => deliver_with(addressee_of(word, node, user), file),
+        [word, second] => ask_of(two_words(word, second)),
+        [word, node, user] => three_words(word, node, user),
+        [word, node, user, last] => four_words(word, node, user, last),
         [word, node, user, file, key] => keyed_with(addressee_of(word, node, user), file, key),
         _ => Err(WordsFault::Value),
     }

@@ -73,3 +73,11 @@ pub(crate) fn node_of(bytes: &[u8]) -> Option<NodeId>
     let number = number_between(1, u64::from(LAST_NODE), bytes)?;
     NodeId::new(number as u8)
 }
+
+/// The node of this number, or `None` for 0, which is any node.
+pub(crate) fn node_or_any(bytes: &[u8]) -> Option<Option<NodeId>>
+    ensures { result ≡ spec.node_or_any bytes.now }
+{
+    let number = number_between(0, u64::from(LAST_NODE), bytes)? as u8;
+    Some(NodeId::new(number))
+}

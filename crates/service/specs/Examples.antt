@@ -4,7 +4,7 @@ use Rattle.script.specs.declared.instruction.Instruction.TheVariants.{Ask}
 use Rattle.script.specs.declared.request.Request.TheVariants as request
 use Rattle.service.specs.Answers.{is_refusal, ending_by}
 use Rattle.service.specs.Verdicts.{status_of}
-use Rattle.service.specs.declared.ctl.Ending.TheVariants.{Broken, Refused, Done}
+use Rattle.service.specs.declared.ctl_answer.Ending.TheVariants.{Broken, Refused, Done}
 use Rattle.service.specs.declared.verdict.Verdict.TheVariants.{Legal, Memory}
 
 refused : is_refusal (codes "bad mbox") ≡ true
@@ -27,11 +27,11 @@ whole = refl
 stopped : ending_by (Ask (request.Crash 3)) (codes "down") ≡ Refused
 stopped = refl
 
-one_line : ending_by (Ask request.Stop) (codes "stopping") ≡ Done
+one_line : ending_by (Ask (request.Stop false false)) (codes "stopping") ≡ Done
 one_line = refl
 
 -- a node's POP3 port was asked to stop
-another_server : ending_by (Ask request.Stop) (codes "-ERR unknown command") ≡ Broken
+another_server : ending_by (Ask (request.Stop false false)) (codes "-ERR unknown command") ≡ Broken
 another_server = refl
 
 all_in_order : status_of Legal ≡ 0

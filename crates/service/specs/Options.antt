@@ -1,5 +1,5 @@
 -- The options of a service.
-use Rattle.std.specs.Prelude.{ℕ, ◌-◌, ◌&&◌, Bool, nat_le, IsTrue}
+use Rattle.std.specs.Prelude.{◌≡◌, refl, false, ℕ, ◌-◌, ◌^◌, ◌&&◌, ◌||◌, Bool, true, nat_le, Option, None, Some, is_some, is_none, IsTrue}
 use Rattle.maildrop.specs.Limits.{Limits, AreLimits}
 use Rattle.apop.specs.Stamp.{IsHost}
 use Rattle.service.specs.declared.options.ServeOptions.{ServeOptions}
@@ -13,20 +13,47 @@ widest_window = 1000
 abbrev pub longest_tick : ℕ
 longest_tick = 1000000
 
+abbrev pub longest_pause : ℕ
+longest_pause = 1000000
+
+abbrev pub most_delivery_bytes : ℕ
+most_delivery_bytes = 2 ^ 40
+
 abbrev pub last_port : ℕ
 last_port = 65535
 
 abbrev pub is_between : ℕ → ℕ → ℕ → Bool
 is_between low high n = nat_le low n && nat_le n high
 
--- The numbers that are no limits of a maildrop. The ports of the nodes are those from one above `pop_port` on.
+-- a number that may be left out
+abbrev pub may_be_between : ℕ → ℕ → Option ℕ → Bool
+may_be_between low high None = true
+may_be_between low high (Some n) = is_between low high n
+
+-- The ports of the nodes are those from one above `pop_port` on.
+abbrev pub are_ports : ServeOptions → Bool
+are_ports o =
+    may_be_between 1 last_port o.port
+    && may_be_between 0 (last_port - o.nodes) o.pop_port
+    && may_be_between 1 last_port o.ctl_port
+
+-- clients have a port or ports of the nodes, or both, and the operator has either a port or a socket
+abbrev pub have_ways_in : ServeOptions → Bool
+have_ways_in o =
+    (is_some o.port || is_some o.pop_port)
+    && ((is_some o.ctl_port && is_none o.ctl_socket) || (is_none o.ctl_port && is_some o.ctl_socket))
+
+-- the numbers that are no limits of a maildrop
 abbrev pub are_in_range : ServeOptions → Bool
 are_in_range o =
     is_between 1 most_nodes o.nodes
     && is_between 1 widest_window o.window
     && is_between 1 longest_tick o.tick_ms
-    && is_between 1 last_port o.ctl_port
-    && nat_le o.pop_port (last_port - o.nodes)
+    && nat_le o.idle_seconds longest_pause
+    && nat_le o.no_majority_seconds longest_pause
+    && is_between 1 most_delivery_bytes o.delivery_bytes
+    && are_ports o
+    && have_ways_in o
 
 abbrev pub limits_of : ServeOptions → Limits
 limits_of o = record { messages = o.messages; octets = o.octets; ids = o.ids }
@@ -34,3 +61,22 @@ limits_of o = record { messages = o.messages; octets = o.octets; ids = o.ids }
 -- each value is in its range
 abbrev pub AreGood : ServeOptions → Type 0
 AreGood o = IsTrue (are_in_range o) × AreLimits (limits_of o) × IsHost o.host.now
+
+no_node : is_between 1 most_nodes 0 ≡ false
+no_node = refl
+
+nine_nodes : is_between 1 most_nodes 9 ≡ true
+nine_nodes = refl
+
+left_out : may_be_between 1 last_port None ≡ true
+left_out = refl
+
+highest_port : may_be_between 1 last_port (Some 65535) ≡ true
+highest_port = refl
+
+no_such_port : may_be_between 1 last_port (Some 65536) ≡ false
+no_such_port = refl
+
+-- port 65535 + 1 of node 1 is none
+no_room_for_nodes : may_be_between 0 (last_port - 1) (Some 65535) ≡ false
+no_room_for_nodes = refl

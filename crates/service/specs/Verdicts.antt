@@ -1,5 +1,5 @@
 -- What is told of a run once it has ended.
-use Rattle.std.specs.Prelude.{◌≡◌, ℕ, List, [], ◌∷◌, ◌++◌, Some, None, codes}
+use Rattle.std.specs.Prelude.{◌≡◌, ℕ, List, [], ◌++◌, Some, None, codes}
 use Rattle.std.specs.Fmt.{decimal}
 use Rattle.node.specs.declared.log.NodeLog.{NodeLog}
 use Rattle.session.specs.declared.transcript.Transcript.{Transcript}

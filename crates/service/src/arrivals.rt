@@ -1,59 +1,110 @@
-//! Connections that come to a port.
+//! Connections that were taken and are not served yet.
 
-use std::alloc::Global;
+use std::alloc::{AllocError, Global};
 use std::collections::VecDeque;
-use std::io;
-use std::net::{TcpListener, TcpStream};
+use std::net::SocketAddr;
+use std::sync::{Condvar, Mutex, Wait};
 
-/// How many connections are taken and not served at most.
-const TAKEN: usize = 1_024;
-
-/// The connections that come to a port. The system lets few of them wait, and a client that finds no place tries again a
-/// second later. So before a connection is served all others that wait are taken.
+/// A connection, and the address of its client.
 #[derive(Drop)]
-pub(crate) struct Arrivals {
-    listener: TcpListener,
-    /// Those that were taken and are not served yet, in the order in which they came.
-    taken: VecDeque<TcpStream>,
+pub(crate) struct Arrival<S> {
+    pub stream: S,
+    pub peer: SocketAddr,
 }
 
-impl Arrivals {
-    /// Of a port at which nobody was taken yet. Takes no memory.
-    pub(crate) fn new(alloc: Global, listener: TcpListener) -> Self {
-        Arrivals {
-            listener,
-            taken: VecDeque::new(alloc),
-        }
+/// Connections that wait, in the order in which they came.
+#[derive(Drop)]
+struct Queue<S> {
+    arrivals: VecDeque<Arrival<S>>,
+    most: usize,
+    is_closed: bool,
+}
+
+impl<S: Drop> Queue<S> {
+    /// Whether whoever brings one more has to wait.
+    fn is_full(&self) -> bool {
+        !self.is_closed && self.arrivals.len() >= self.most
     }
 
-    /// Whether connections were taken that aren't served yet.
-    pub(crate) fn are_waiting(&self) -> bool {
-        !self.taken.is_empty()
+    /// Whether whoever takes one has to wait.
+    fn is_empty(&self) -> bool {
+        !self.is_closed && self.arrivals.is_empty()
     }
 
-    /// The next connection. Waits until there is one.
-    pub(crate) fn next(&mut self) -> io::Result<TcpStream> {
-        self.take_waiting();
-        if let Some(stream) = self.taken.pop_front() {
-            return Ok(stream);
+    /// Adds one, unless there is no room or the queue is closed. Returns it then.
+    fn put(&mut self, arrival: Arrival<S>) -> Option<Arrival<S>> {
+        if self.is_closed || self.arrivals.len() >= self.most {
+            return Some(arrival);
         }
-        let (stream, _) = self.listener.accept()?;
-        Ok(stream)
+        match self.arrivals.push_back(arrival) {
+            Ok(()) => None,
+            Err(refused) => Some(refused.value),
+        }
+    }
+}
+
+/// Connections that were taken and are not served yet. Their room is taken before the first comes.
+#[derive(Drop)]
+pub(crate) struct Arrivals<S> {
+    queue: Mutex<Queue<S>>,
+    changes: Condvar,
+}
+
+impl<S: Drop> Arrivals<S> {
+    /// Room for so many connections.
+    pub(crate) fn new(alloc: Global, most: usize) -> Result<Self, AllocError> {
+        let arrivals = VecDeque::with_capacity(alloc, most)?;
+        let queue = Queue {
+            arrivals,
+            most,
+            is_closed: false,
+        };
+        Ok(Arrivals {
+            queue: Mutex::new(queue),
+            changes: Condvar::new(),
+        })
     }
 
-    /// Takes those that wait. One for which there is no memory is closed.
-    fn take_waiting(&mut self) {
-        if self.listener.set_nonblocking(true).is_err() {
-            return;
-        }
-        for _ in self.taken.len()..TAKEN {
-            let Ok((stream, _)) = self.listener.accept() else {
-                break;
-            };
-            if self.taken.push_back(stream).is_err() {
-                break;
-            }
-        }
-        let _waits = self.listener.set_nonblocking(false);
+    /// Adds a connection, as soon as there is room. Returns false once the queue is closed.
+    pub(crate) fn put<R: Wait>(&self, rt: &R, arrival: Arrival<S>) -> bool {
+        let guard = self.queue.lock(rt);
+        let mut guard = self.changes.wait_while(rt, guard, |queue| queue.is_full());
+        let refused = guard.put(arrival);
+        self.changes.notify_all();
+        refused.is_none()
+    }
+
+    /// Adds a connection if there is room for it. Otherwise it is closed.
+    pub(crate) fn try_put<R: Wait>(&self, rt: &R, arrival: Arrival<S>) {
+        let _is_closed = self.queue.lock(rt).put(arrival);
+        self.changes.notify_all();
+    }
+
+    /// Waits for the next connection. None once the queue is closed.
+    pub(crate) fn next<R: Wait>(&self, rt: &R) -> Option<Arrival<S>> {
+        let guard = self.queue.lock(rt);
+        let mut guard = self.changes.wait_while(rt, guard, |queue| queue.is_empty());
+        let next = guard.arrivals.pop_front();
+        self.changes.notify_all();
+        next
+    }
+
+    /// Whether connections wait.
+    pub(crate) fn are_waiting<R: Wait>(&self, rt: &R) -> bool {
+        !self.queue.lock(rt).arrivals.is_empty()
+    }
+
+    /// Whether no connection is taken any more.
+    pub(crate) fn is_closed<R: Wait>(&self, rt: &R) -> bool {
+        self.queue.lock(rt).is_closed
+    }
+
+    /// Takes no connection any more. Those that wait are closed.
+    pub(crate) fn close<R: Wait>(&self, rt: &R) {
+        let mut guard = self.queue.lock(rt);
+        let queue = &mut *guard;
+        queue.is_closed = true;
+        queue.arrivals.clear();
+        self.changes.notify_all();
     }
 }

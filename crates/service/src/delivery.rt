@@ -1,82 +1,126 @@
 //! Mail that an operator delivers.
-ghost use Rattle.std.specs.Prelude.{◌≡◌};
+ghost use Rattle.std.specs.Prelude.{◌≡◌, ◌<◌, ◌≤◌, IfOk};
+ghost use Rattle.std.specs.Str.Lines.{lines};
 ghost use Rattle.service.specs.Keys.{key_at};
+ghost use Rattle.service.specs.Deliveries as spec;
 
+use crate::asking::{Unanswered, ask};
 use crate::fault::Fault;
-use crate::operator::{say, say_now};
-use maildrop::{Key, Name, Op, Outcome, Text};
+use crate::operator_limits::PIECE;
+use crate::operator_stream::OperatorStream;
+use crate::say::say;
+use crate::served_node::ServedNode;
+use ballot::Memory;
+use maildrop::{Key, Name, Op, Outcome, Text, TextBuilder, next_line};
 use mboxrd::{MboxError, Reader};
 use script::{KeyPrefix, LAST_MESSAGE, put_outcome};
-use session::Desk;
 use std::alloc::Global;
-use std::io::{Read, Write};
+use std::io::Read;
+use std::sync::Wait;
 
-/// How many bytes of a mailbox file are read at a time.
-const PIECE: usize = 4096;
-
-/// Why nothing of a mailbox file is delivered.
+/// Why nothing of a file is delivered.
 #[derive(Clone, Copy, Debug, PartialEq, Eq)]
-pub(crate) enum Unreadable {
-    /// The file isn't one.
-    Mailbox,
-    /// There are fewer bytes than were announced.
+pub(crate) enum DeliveryError {
+    /// The file isn't a mailbox.
+    NoMailbox,
+    /// There are fewer bytes than were announced, or they come too slowly.
     Short,
+    /// A request for memory was refused.
+    Memory,
 }
 
-impl Unreadable {
-    /// The line that reports it.
-    pub(crate) fn line(self) -> &'static [u8] {
+impl DeliveryError {
+    /// Reports it. Of memory nothing is said.
+    pub(crate) fn tell(self, stream: &OperatorStream) -> Result<(), Fault> {
+        let mut writer = stream;
         match self {
-            Unreadable::Mailbox => b"bad mbox\n",
-            Unreadable::Short => b"bad request\n",
+            DeliveryError::NoMailbox => say(&mut writer, b"bad mbox\n"),
+            DeliveryError::Short => say(&mut writer, b"bad request\n"),
+            DeliveryError::Memory => Err(Fault::Memory),
         }
     }
 }
 
-/// What a mailbox file that can't be read is.
-fn why_unreadable(error: MboxError) -> Result<Unreadable, Fault> {
-    match error {
-        MboxError::NoFromLine => Ok(Unreadable::Mailbox),
-        MboxError::Memory => Err(Fault::Memory),
+impl From<MboxError> for DeliveryError {
+    ghost use Rattle.std.specs.Prelude.{◌≡◌};
+    ghost use Rattle.service.specs.MailboxErrors.{error_of};
+
+    ghost from_gives = { λ error result. result ≡ error_of error };
+
+    fn from(error: MboxError) -> DeliveryError {
+        match error {
+            MboxError::NoFromLine => DeliveryError::NoMailbox,
+            MboxError::Memory => DeliveryError::Memory,
+        }
     }
 }
 
-/// Feeds a mailbox file of so many bytes to its reader, piece by piece. After its fault no more is read.
-fn feed_all<S: Read>(
-    mailbox: &mut Reader,
+/// Reads the next bytes of a file of which so many are left.
+fn read_some<S: Read>(
     reader: &mut S,
-    count: u64,
-) -> Result<Result<(), Unreadable>, Fault> {
-    let mut piece = [0u8; PIECE];
-    let mut left = count;
-    while left > 0 {
-        let most = left.min(PIECE as u64) as usize;
-        let taken = match reader.read(&mut piece[..most]) {
-            Ok(0) | Err(_) => return Ok(Err(Unreadable::Short)),
-            Ok(taken) => taken,
-        };
-        if let Err(error) = mailbox.feed(&piece[..taken]) {
-            return Ok(Err(why_unreadable(error)?));
-        }
-        left -= taken as u64;
+    piece: &mut [u8; PIECE],
+    left: u64,
+) -> Result<usize, DeliveryError>
+    requires { 0 < left }
+    ensures { IfOk result (λ taken. (0 < taken) × (taken ≤ left) × (taken ≤ 4096)) }
+{
+    let most = left.min(PIECE as u64) as usize;
+    match reader.read(&mut piece[..most]) {
+        Ok(0) | Err(_) => Err(DeliveryError::Short),
+        Ok(taken) => Ok(taken),
     }
-    Ok(Ok(()))
 }
 
-/// The texts of a mailbox file of so many bytes.
+/// The texts of a mailbox file of so many bytes. After its fault no more is read.
 pub(crate) fn texts_in<S: Read>(
     alloc: Global,
     reader: &mut S,
     count: u64,
-) -> Result<Result<Vec<Text>, Unreadable>, Fault> {
+) -> Result<Vec<Text>, DeliveryError> {
     let mut mailbox = Reader::new(alloc);
-    if let Err(refusal) = feed_all(&mut mailbox, reader, count)? {
-        return Ok(Err(refusal));
+    let mut piece = [0u8; PIECE];
+    let mut left = count;
+    while left > 0 {
+        let taken = read_some(reader, &mut piece, left)?;
+        mailbox.feed(&piece[..taken])?;
+        left -= taken as u64;
     }
-    match mailbox.finish() {
-        Ok(texts) => Ok(Ok(texts)),
-        Err(error) => Ok(Err(why_unreadable(error)?)),
+    Ok(mailbox.finish()?)
+}
+
+/// The message of so many bytes.
+pub(crate) fn message_in<S: Read>(
+    alloc: Global,
+    reader: &mut S,
+    count: u64,
+) -> Result<Text, DeliveryError> {
+    let mut bytes = Vec::new(alloc);
+    let mut piece = [0u8; PIECE];
+    let mut left = count;
+    while left > 0 {
+        let taken = read_some(reader, &mut piece, left)?;
+        if bytes.extend_from_slice(&piece[..taken]).is_err() {
+            return Err(DeliveryError::Memory);
+        }
+        left -= taken as u64;
     }
+    match text_of(alloc, bytes.as_slice()) {
+        Ok(text) => Ok(text),
+        Err(Memory) => Err(DeliveryError::Memory),
+    }
+}
+
+/// The text of these lines, each of which ends with LF or CR LF. What follows the last line end is a line too.
+fn text_of(alloc: Global, bytes: &[u8]) -> Result<Text, Memory>
+    ensures { IfOk result (λ text. text ≡ lines bytes.now) }
+{
+    let mut text = TextBuilder::new(alloc);
+    let mut rest = bytes;
+    while let Some((line, behind)) = next_line(rest) {
+        text.push_line(line)?;
+        rest = behind;
+    }
+    text.finish()
 }
 
 /// The key of the text at a place of its file, counted from 0, if there are keys. A file of 2^30 bytes has fewer texts than
@@ -90,25 +134,114 @@ fn key_of(prefix: &Option<KeyPrefix>, place: usize) -> Option<Key>
     }
 }
 
-/// Has the texts delivered in order, and reports the outcome of each as soon as it is there. The key of each, if there are
-/// keys, is the prefix with the number of the text after it, counted from 1. Ends with `down` if the node stops.
-pub(crate) fn deliver<D: Desk<Op, Outcome>, W: Write>(
-    alloc: Global,
-    desk: &mut D,
-    user: Name,
-    texts: Vec<Text>,
-    prefix: &Option<KeyPrefix>,
-    writer: &mut W,
-) -> Result<(), Fault> {
-    let mut line = Vec::new(alloc);
-    for (place, text) in texts.into_iter().enumerate() {
-        let key = key_of(prefix, place);
-        let Ok((ticket, outcome)) = desk.ask(user, Op::Mail { text, key }) else {
-            return say(writer, b"down\n");
-        };
-        line.clear();
-        put_outcome(&mut line, &user, ticket, &outcome)?;
-        say_now(writer, line.as_slice())?;
+/// What has become of the messages of a delivery so far.
+#[derive(Clone, Copy, Debug, PartialEq, Eq)]
+pub(crate) struct Delivered {
+    /// How many are stored.
+    pub stored: u64,
+    /// How many octets these have.
+    pub octets: u64,
+    /// How many were refused.
+    pub refused: u64,
+}
+
+impl Delivered {
+    /// Of no messages.
+    pub(crate) fn new() -> Self
+        ensures { result ≡ spec.none_delivered }
+    {
+        Delivered {
+            stored: 0,
+            octets: 0,
+            refused: 0,
+        }
     }
-    say(writer, b"end\n")
+
+    /// One more message, of so many octets, has this outcome.
+    fn note(&mut self, outcome: &Outcome, octets: u64)
+        ensures { self.new ≡ spec.delivered_with octets outcome.now self.old }
+    {
+        match outcome {
+            Outcome::Stored(_) => {
+                self.stored = self.stored.saturating_add(1);
+                self.octets = self.octets.saturating_add(octets);
+            }
+            _ => self.refused = self.refused.saturating_add(1),
+        }
+    }
+}
+
+/// Who delivers mail: a connection's client, to a user at a node.
+#[derive(Drop)]
+pub(crate) struct Delivery<'a, R, N> {
+    pub rt: R,
+    pub alloc: Global,
+    pub node: &'a N,
+    pub stream: &'a OperatorStream,
+    pub user: Name,
+}
+
+impl<R: Wait + Drop, N: ServedNode + Drop> Delivery<'_, R, N> {
+    /// Has a text delivered, and reports the outcome as soon as it is there. Returns whether the node still runs: if it has
+    /// stopped, `down` is reported.
+    pub(crate) fn deliver(
+        &self,
+        text: Text,
+        key: Option<Key>,
+        delivered: &mut Delivered,
+    ) -> Result<bool, Fault> {
+        let mut writer = self.stream;
+        let octets = u64::try_from(text.octets()).unwrap_or(u64::MAX);
+        match ask(
+            &self.rt,
+            self.node,
+            self.stream,
+            self.user,
+            Op::Mail { text, key },
+        ) {
+            Ok((ticket, outcome)) => {
+                delivered.note(&outcome, octets);
+                let mut line = Vec::new(self.alloc);
+                put_outcome(&mut line, &self.user, ticket, &outcome)?;
+                say(&mut writer, line.as_slice())?;
+                Ok(true)
+            }
+            Err(Unanswered::Stopped) => {
+                say(&mut writer, b"down\n")?;
+                Ok(false)
+            }
+            Err(Unanswered::Gone) => Err(Fault::Write),
+        }
+    }
+
+    /// Has the texts delivered in order. The key of each, if there are keys, is the prefix with the number of the text after
+    /// it, counted from 1.
+    pub(crate) fn deliver_all(
+        &self,
+        texts: Vec<Text>,
+        prefix: &Option<KeyPrefix>,
+        delivered: &mut Delivered,
+    ) -> Result<(), Fault> {
+        for (place, text) in texts.into_iter().enumerate() {
+            if !self.deliver(text, key_of(prefix, place), delivered)? {
+                return Ok(());
+            }
+        }
+        let mut writer = self.stream;
+        say(&mut writer, b"end\n")
+    }
+
+    /// Has one text delivered.
+    pub(crate) fn deliver_one(
+        &self,
+        text: Text,
+        key: Option<Key>,
+        delivered: &mut Delivered,
+    ) -> Result<(), Fault> {
+        if self.deliver(text, key, delivered)? {
+            let mut writer = self.stream;
+            return say(&mut writer, b"end\n");
+        }
+        Ok(())
+    }
 }

@@ -4,6 +4,7 @@ ghost use Rattle.service.specs.Faults.{status_at};
 
 use ballot::Memory;
 use std::alloc::{AllocError, AllocFailed};
+use std::net::IpAddr;
 use thiserror::Error;
 
 /// Why a run ends before its end. Its text is what the program says on standard error.
@@ -19,11 +20,23 @@ pub enum Fault {
     #[error("accounts line {0}: name twice")]
     NameTwice(usize),
     /// The port is in use, or isn't the user's to take.
-    #[error("cannot listen on 127.0.0.1:{0}")]
-    Listen(u16),
+    #[error("cannot listen on {0}:{1}")]
+    Listen(IpAddr, u16),
+    /// The operator's socket can't be made.
+    #[error("cannot listen on the operator's socket")]
+    ListenSocket,
     /// Nobody listens at the port.
     #[error("cannot reach 127.0.0.1:{0}")]
     Reach(u16),
+    /// Nobody listens at the operator's socket.
+    #[error("cannot reach the operator's socket")]
+    ReachSocket,
+    /// The log can't be opened.
+    #[error("cannot open the log")]
+    Log,
+    /// Fewer than a majority of the nodes were up for longer than the options allow.
+    #[error("no majority")]
+    NoMajority,
     /// A request for memory was refused, or one for a thread.
     #[error("no memory")]
     Memory,
@@ -41,7 +54,15 @@ impl Fault {
     {
         match self {
             Fault::Value | Fault::Account(_) | Fault::NameTwice(_) => 2,
-            Fault::Listen(_) | Fault::Reach(_) | Fault::Memory | Fault::Read | Fault::Write => 1,
+            Fault::Listen(_, _)
+            | Fault::ListenSocket
+            | Fault::Reach(_)
+            | Fault::ReachSocket
+            | Fault::Log
+            | Fault::NoMajority
+            | Fault::Memory
+            | Fault::Read
+            | Fault::Write => 1,
         }
     }
 }

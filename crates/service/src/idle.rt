@@ -1,29 +1,32 @@
 //! Threads that wait for their next connection.
 
+use crate::arrivals::Arrival;
 use ballot::Memory;
 use crossbeam_channel::{Receiver, Sender, unbounded};
 use std::alloc::Global;
-use std::net::TcpStream;
 use std::sync::{Arc, Mutex, Wait};
 
 /// How many threads of a port wait at most. One more ends with its connection.
 const MOST_IDLE: usize = 64;
 
+/// A connection that a thread serves, and others may shut.
+pub(crate) type SharedArrival<S> = Arrival<Arc<S>>;
+
 /// The threads of a port that wait for their next connection, as who hands out connections sees them. Once this is gone
 /// none waits any more.
 #[derive(Drop)]
-pub(crate) struct Idle {
+pub(crate) struct IdleWorkers<S> {
     /// How many wait to which no connection was handed yet.
     count: Arc<Mutex<usize>>,
-    sender: Sender<Arc<TcpStream>>,
-    receiver: Receiver<Arc<TcpStream>>,
+    sender: Sender<SharedArrival<S>>,
+    receiver: Receiver<SharedArrival<S>>,
 }
 
 /// Where a thread waits for its next connection.
 #[derive(Drop)]
-pub(crate) struct Seat {
+pub(crate) struct NextConnection<S> {
     count: Arc<Mutex<usize>>,
-    receiver: Receiver<Arc<TcpStream>>,
+    receiver: Receiver<SharedArrival<S>>,
 }
 
 /// Counts one more, unless there are enough. Returns whether it did.
@@ -44,12 +47,12 @@ fn take(count: &mut usize) -> bool {
     true
 }
 
-impl Idle {
+impl<S: Drop> IdleWorkers<S> {
     /// No threads.
     pub(crate) fn new(alloc: Global) -> Result<Self, Memory> {
         let count = Arc::new(alloc, Mutex::new(0))?;
         let (sender, receiver) = unbounded(alloc)?;
-        Ok(Idle {
+        Ok(IdleWorkers {
             count,
             sender,
             receiver,
@@ -57,18 +60,22 @@ impl Idle {
     }
 
     /// Where one more thread waits.
-    pub(crate) fn seat(&self) -> Result<Seat, Memory> {
+    pub(crate) fn connections(&self) -> Result<NextConnection<S>, Memory> {
         let count = Arc::try_clone(&self.count)?;
         let receiver = self.receiver.clone()?;
-        Ok(Seat { count, receiver })
+        Ok(NextConnection { count, receiver })
     }
 
     /// Hands the connection to a thread that waits. Returns it if there is none.
-    pub(crate) fn hand<R: Wait>(&self, rt: &R, stream: Arc<TcpStream>) -> Option<Arc<TcpStream>> {
+    pub(crate) fn hand<R: Wait>(
+        &self,
+        rt: &R,
+        arrival: SharedArrival<S>,
+    ) -> Option<SharedArrival<S>> {
         if !take(&mut *self.count.lock(rt)) {
-            return Some(stream);
+            return Some(arrival);
         }
-        match self.sender.send(rt, stream) {
+        match self.sender.send(rt, arrival) {
             Ok(()) => None,
             Err(error) => {
                 let _enough = add(&mut *self.count.lock(rt));
@@ -78,9 +85,9 @@ impl Idle {
     }
 }
 
-impl Seat {
+impl<S: Drop> NextConnection<S> {
     /// Waits for a connection. None if enough threads wait already, and once the port is closed.
-    pub(crate) fn next<R: Wait>(&self, rt: &R) -> Option<Arc<TcpStream>> {
+    pub(crate) fn next<R: Wait>(&self, rt: &R) -> Option<SharedArrival<S>> {
         if !add(&mut *self.count.lock(rt)) {
             return None;
         }

@@ -1,95 +1,224 @@
-//! Takes the connections of a port.
+//! A port, and the threads that take its connections.
 ghost use Rattle.std.specs.Prelude.{◌≡◌, IfErr};
 
-use crate::arrivals::Arrivals;
-use crate::board::Board;
-use crate::crew::{Crew, Ended};
+use crate::arrivals::{Arrival, Arrivals};
+use crate::connection::{Connection, Listening, let_wait};
 use crate::fault::Fault;
 use crate::handler::Handler;
-use crate::idle::Idle;
-use crate::system::{System, local};
+use crate::idle::IdleWorkers;
+use crate::state::ServiceState;
+use crate::system::System;
+use crate::worker::{Ended, STACK, Unserved};
+use crate::workers::Workers;
 use std::alloc::Global;
-use std::net::TcpListener;
-use std::sync::{Arc, Mutex};
+use std::net::{IpAddr, Shutdown, SocketAddr, TcpListener};
+use std::sync::{Arc, Mutex, Wait};
 use std::thread;
-use std::thread::JoinHandle;
-use std::time::Duration;
+use std::thread::{Builder, JoinHandle};
+use std::time::{Clock, Duration};
 
 /// How many milliseconds are waited before a connection is taken again, if none could be: the system has no
 /// descriptor, say.
 const PAUSE_MS: u64 = 10;
 
+/// How many connections are taken at a port and not served yet at most. More wait with the system.
+const MOST_TAKEN: usize = 1_024;
+
 /// How many threads that have ended are joined while connections wait: more than one end for each that starts, and so few
 /// that the next connection doesn't wait for them.
 const REAPED: usize = 16;
 
-/// A port at which connections are taken, at most so many at a time.
+/// Listens at a port of this address.
+pub(crate) fn listen_at<R: System>(
+    rt: &R,
+    address: IpAddr,
+    number: u16,
+) -> Result<TcpListener, Fault>
+    ensures { IfErr result (λ fault. fault ≡ Fault.Listen address number) }
+{
+    match TcpListener::bind(rt, SocketAddr::new(address, number)) {
+        Ok(listener) => {
+            let_wait(&listener);
+            Ok(listener)
+        }
+        Err(_) => Err(Fault::Listen(address, number)),
+    }
+}
+
+/// A port at which connections are taken, until it is closed.
 #[derive(Drop)]
-pub(crate) struct Port {
-    listener: TcpListener,
+pub(crate) struct Port<S, L> {
+    listener: L,
+    /// Those that were taken and are not served yet.
+    arrivals: Arrivals<S>,
+    /// Those for which there is no thread, no place or no memory.
+    unserved: Arrivals<Unserved<S>>,
+    /// How many are served at a time at most, beside these.
     most: usize,
 }
 
-impl Port {
-    /// Listens at a port of this machine.
-    pub(crate) fn open<R: System>(rt: &R, number: u16, most: usize) -> Result<Port, Fault>
-        ensures { IfErr result (λ fault. fault ≡ Fault.Listen number) }
+impl<S: Drop, L: Listening<S> + Drop> Port<S, L> {
+    /// A port that serves so many connections at a time, and lets so many wait for its reserve. Connections are taken once
+    /// it is started.
+    pub(crate) fn new(
+        alloc: Global,
+        listener: L,
+        most: usize,
+        reserve: usize,
+    ) -> Result<Self, Fault>
+        ensures { IfErr result (λ fault. fault ≡ Fault.Memory) }
     {
-        match TcpListener::bind(rt, local(number)) {
-            Ok(listener) => Ok(Port { listener, most }),
-            Err(_) => Err(Fault::Listen(number)),
+        let arrivals = Arrivals::new(alloc, MOST_TAKEN)?;
+        let unserved = Arrivals::new(alloc, reserve)?;
+        Ok(Port {
+            listener,
+            arrivals,
+            unserved,
+            most,
+        })
+    }
+
+    /// Lets no client come any more. The connections that are not served yet are closed.
+    pub(crate) fn close<R: Wait>(&self, rt: &R) {
+        self.arrivals.close(rt);
+        self.unserved.close(rt);
+        self.listener.close();
+    }
+
+    /// Waits for a connection, and takes it. Returns false once the port is closed.
+    fn takes_one<R: Wait + Clock>(&self, rt: &R) -> bool {
+        match self.listener.accept() {
+            Ok((stream, peer)) => self.arrivals.put(rt, Arrival { stream, peer }),
+            Err(_) if self.arrivals.is_closed(rt) => false,
+            Err(_) => {
+                thread::sleep(rt, Duration::from_millis(PAUSE_MS));
+                true
+            }
         }
     }
 
-    /// Takes connections on a thread of its own, until the service stops and those that were taken have ended.
-    pub(crate) fn start<R: System, H: Handler + Send + Drop + 'static>(
-        self,
-        rt: R,
-        alloc: Global,
-        host: H,
-        board: Arc<Board>,
-    ) -> Result<JoinHandle<()>, Fault> {
-        let ended = Arc::new(alloc, Mutex::new(Vec::new(alloc)))?;
-        let idle = Idle::new(alloc)?;
-        match thread::spawn(
-            &rt,
-            move || take_all(rt, alloc, self, &host, &board, ended, idle),
-        ) {
-            Ok(thread) => Ok(thread),
-            Err(_) => Err(Fault::Memory),
+    /// Takes connections, and does nothing else, from the begin of the service until the port is closed.
+    fn take_all<R: Wait + Clock>(&self, rt: &R, state: &ServiceState) {
+        state.stages().wait_for_begin(rt);
+        for _ in rt.forever() {
+            if !self.takes_one(rt) {
+                break;
+            }
         }
     }
 }
 
-/// Takes connections until the service stops. The port is closed then, and the connections go on to their ends.
-fn take_all<R: System, H: Handler + Send + Drop + 'static>(
+impl<S: Connection + Send + Sync + Drop + 'static, L: Listening<S>> Port<S, L> {
+    /// Has the connections served that are taken, until the port is closed. They go on to their ends then.
+    fn serve_all<R: System, H: Handler<S> + Send + Drop + 'static>(
+        &self,
+        rt: R,
+        alloc: Global,
+        handler: &H,
+        ended: Ended,
+        idle: IdleWorkers<S>,
+    ) {
+        let mut workers = Workers::new(alloc, ended, idle, self.most);
+        for _ in rt.forever() {
+            let Some(arrival) = self.arrivals.next(&rt) else {
+                break;
+            };
+            if handler.is_open() {
+                if let Some(unserved) = workers.take(rt, alloc, arrival, handler) {
+                    self.unserved.try_put(&rt, unserved);
+                }
+            }
+            let most = if self.arrivals.are_waiting(&rt) {
+                REAPED
+            } else {
+                usize::MAX
+            };
+            workers.reap(&rt, most);
+        }
+        workers.end(&rt);
+    }
+
+    /// Serves the connections for which there is nothing else, one after another and briefly, until the port is closed.
+    fn serve_unserved<R: Wait, H: Handler<S>>(&self, rt: &R, handler: &mut H) {
+        for _ in rt.forever() {
+            let Some(arrival) = self.unserved.next(rt) else {
+                break;
+            };
+            let stream = arrival.stream.stream();
+            handler.serve_briefly(stream, arrival.peer);
+            stream.shut(Shutdown::Both);
+        }
+    }
+}
+
+/// Starts a thread for the connections of a port for which there is nothing else.
+pub(crate) fn start_reserve<
+    R: System,
+    S: Connection + Send + Sync + Drop + 'static,
+    L: Listening<S> + Send + Sync + Drop + 'static,
+    H: Handler<S> + Send + Drop + 'static,
+>(
+    rt: R,
+    port: &Arc<Port<S, L>>,
+    handler: H,
+    threads: &mut Vec<JoinHandle<()>>,
+) -> Result<(), Fault> {
+    threads.reserve(1)?;
+    let port = Arc::try_clone(port)?;
+    let mut handler = handler;
+    let run = move || port.serve_unserved(&rt, &mut handler);
+    let Ok(thread) = Builder::new().stack_size(STACK).spawn(&rt, run) else {
+        return Err(Fault::Memory);
+    };
+    threads.push_reserved(thread);
+    Ok(())
+}
+
+/// Starts the thread that has the connections of a port served. It ends once the port is closed and they have ended.
+pub(crate) fn start_serving<
+    R: System,
+    S: Connection + Send + Sync + Drop + 'static,
+    L: Listening<S> + Send + Sync + Drop + 'static,
+    H: Handler<S> + Send + Drop + 'static,
+>(
     rt: R,
     alloc: Global,
-    port: Port,
-    host: &H,
-    board: &Board,
-    ended: Ended,
-    idle: Idle,
-) {
-    let Port { listener, most } = port;
-    let mut arrivals = Arrivals::new(alloc, listener);
-    let mut crew = Crew::new(alloc, ended, idle, most);
-    for _ in rt.forever() {
-        let next = arrivals.next();
-        if board.is_stopping(&rt) {
-            break;
-        }
-        match next {
-            Ok(stream) => crew.take(rt, alloc, stream, host),
-            Err(_) => thread::sleep(&rt, Duration::from_millis(PAUSE_MS)),
-        }
-        let most = if arrivals.are_waiting() {
-            REAPED
-        } else {
-            usize::MAX
-        };
-        crew.reap(&rt, most);
-    }
-    drop(arrivals);
-    crew.end(&rt);
+    port: &Arc<Port<S, L>>,
+    handler: H,
+    threads: &mut Vec<JoinHandle<()>>,
+) -> Result<(), Fault> {
+    threads.reserve(1)?;
+    let ended = Arc::new(alloc, Mutex::new(Vec::new(alloc)))?;
+    let idle = IdleWorkers::new(alloc)?;
+    let port = Arc::try_clone(port)?;
+    let run = move || port.serve_all(rt, alloc, &handler, ended, idle);
+    let Ok(thread) = thread::spawn(&rt, run) else {
+        return Err(Fault::Memory);
+    };
+    threads.push_reserved(thread);
+    Ok(())
+}
+
+/// Starts the thread that takes the connections of a port, once the service begins. It ends once the port is closed.
+pub(crate) fn start_taking<
+    R: System,
+    S: Connection + Send + Sync + Drop + 'static,
+    L: Listening<S> + Send + Sync + Drop + 'static,
+>(
+    rt: R,
+    port: &Arc<Port<S, L>>,
+    state: &Arc<ServiceState>,
+    threads: &mut Vec<JoinHandle<()>>,
+) -> Result<(), Fault> {
+    threads.reserve(1)?;
+    let port = Arc::try_clone(port)?;
+    let state = Arc::try_clone(state)?;
+    let Ok(thread) = Builder::new()
+        .stack_size(STACK)
+        .spawn(&rt, move || port.take_all(&rt, &state))
+    else {
+        return Err(Fault::Memory);
+    };
+    threads.push_reserved(thread);
+    Ok(())
 }

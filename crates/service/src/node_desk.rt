@@ -3,9 +3,12 @@
 use crate::served_node::ServedNode;
 use ballot::{Memory, NodeId};
 use cluster::{Deployment, Link, NodeDesk, Status};
+use maildrop::{Name, Op, Outcome, Ticket};
+use session::DeskStopped;
 use std::sync::Wait;
+use std::time::{Clock, Duration};
 
-impl<D: Deployment, R: Wait + Copy, L: Link> ServedNode for NodeDesk<D, R, L> {
+impl<D: Deployment, R: Wait + Clock + Copy, L: Link> ServedNode for NodeDesk<D, R, L> {
     fn me(&self) -> NodeId {
         NodeDesk::me(self)
     }
@@ -32,5 +35,22 @@ impl<D: Deployment, R: Wait + Copy, L: Link> ServedNode for NodeDesk<D, R, L> {
 
     fn status(&self) -> Option<Status> {
         NodeDesk::status(self)
+    }
+
+    fn submit(&self, user: Name, op: Op) -> Option<Ticket> {
+        NodeDesk::submit(self, user, op)
+    }
+
+    fn outcome_within(
+        &self,
+        user: Name,
+        ticket: Ticket,
+        time: Duration,
+    ) -> Result<Option<Outcome>, DeskStopped> {
+        NodeDesk::outcome_within(self, user, ticket, time)
+    }
+
+    fn forget(&self, user: Name, ticket: Ticket) {
+        NodeDesk::forget(self, user, ticket);
     }
 }

@@ -1,43 +1,57 @@
-//! The operator's port.
-ghost use Rattle.std.specs.Prelude.{◌≤◌, IfSome, OnOk};
-ghost use Rattle.std.specs.Io.KnownBytes.{Appends};
+//! The connections of operators.
+ghost use Rattle.std.specs.Prelude.{◌≤◌, IfSome};
 ghost use Rattle.script.specs.Requests.{longest_request};
 
-use crate::board::Board;
-use crate::delivery::{deliver, texts_in};
+use crate::asking::{Absence, Unanswered, ask};
+use crate::connection::Connection;
+use crate::delivery::{Delivered, Delivery, message_in, texts_in};
+use crate::delivery_budget::DeliveryBudget;
 use crate::fault::Fault;
 use crate::handler::Handler;
+use crate::operator_limits::{BRIEF_LINE_MS, CUT_MS, LINE_MS, LONGEST_PAUSE_MS, LOOK_MS};
+use crate::operator_reader::OperatorReader;
+use crate::operator_stream::OperatorStream;
+use crate::pop::node_for;
+use crate::request_places::RequestPlaces;
+use crate::requests::awaits_nodes;
+use crate::say::say;
 use crate::served_node::ServedNode;
+use crate::standing::put_standing;
+use crate::state::ServiceState;
+use crate::writing::{put, put_number_line};
 use ballot::{Memory, NodeId};
-use maildrop::{Name, Op, Outcome};
+use maildrop::{Key, Name, Op, Outcome};
 use script::{KeyPrefix, LONGEST_REQUEST, Request, parse_request};
-use session::Desk;
 use std::alloc::Global;
-use std::io::{BufReader, BufWriter, Read, Write};
-use std::net::{Net, TcpStream};
+use std::io::Read;
+use std::net::{Shutdown, SocketAddr};
 use std::sync::{Arc, Wait};
 use std::time::{Clock, Duration};
 
-/// How many bytes of a mailbox file are read at a time, and how many bytes of an answer are gathered at most.
-const PIECE: usize = 4096;
+/// Room for what is told of nine nodes, or of anything shorter.
+const ANSWER_ROOM: usize = 576;
 
-/// How long an operator may leave what is asked of him undone: to send the next of his request, or to read the next of his answer.
-/// Then the connection is closed, so that it holds up no end of the service, and no other operator's place.
-const LONGEST_PAUSE_SECONDS: u64 = 60;
+/// What all connections of operators share.
+#[derive(Drop)]
+struct SharedLimits {
+    places: RequestPlaces,
+    budget: DeliveryBudget,
+}
 
 /// Answers operators: one request a connection.
 #[derive(Drop)]
 pub(crate) struct OperatorHandler<R, N: ServedNode> {
-    /// The system: waits, the clock and the ports that are woken at the end.
-    pub rt: R,
+    /// The system: waits and the clock.
+    rt: R,
     /// Where its memory comes from.
-    pub alloc: Global,
+    alloc: Global,
     /// The nodes of the service.
-    pub nodes: Arc<Vec<N>>,
+    nodes: Arc<Vec<N>>,
     /// What all threads of the service see.
-    pub board: Arc<Board>,
-    /// All ports of the service, which are woken when it stops.
-    pub ports: Arc<Vec<u16>>,
+    state: Arc<ServiceState>,
+    limits: Arc<SharedLimits>,
+    /// A short answer. Its room is taken before the connection comes.
+    answer: Vec<u8>,
 }
 
 /// Reads up to the line feed into the buffer. Returns how many bytes stand before it, or nothing if these are too many or
@@ -59,121 +73,144 @@ fn read_line<S: Read>(reader: &mut S, line: &mut [u8; LONGEST_REQUEST]) -> Optio
     None
 }
 
+/// Hears a request.
+fn hear<S: Read>(reader: &mut S) -> Option<Request> {
+    let mut line = [0u8; LONGEST_REQUEST];
+    match read_line(reader, &mut line) {
+        Some(len) => parse_request(&line[..len]),
+        None => None,
+    }
+}
+
 /// Says a line.
-pub(crate) fn say<W: Write>(writer: &mut W, line: &[u8]) -> Result<(), Fault>
-    ensures { OnOk result (Appends (W.contents writer.old) (W.contents writer.new) line.now) }
-{
-    match writer.write_all(line) {
-        Ok(()) => Ok(()),
-        Err(_) => Err(Fault::Write),
+fn tell(stream: &OperatorStream, line: &[u8]) -> Result<(), Fault> {
+    let mut writer = stream;
+    say(&mut writer, line)
+}
+
+/// Says why a node didn't answer. A client that has gone is told nothing.
+fn tell_why(stream: &OperatorStream, why: Unanswered) -> Result<(), Fault> {
+    match why {
+        Unanswered::Stopped => tell(stream, b"down\n"),
+        Unanswered::Gone => Err(Fault::Write),
     }
 }
 
-/// Says a line at once.
-pub(crate) fn say_now<W: Write>(writer: &mut W, line: &[u8]) -> Result<(), Fault> {
-    say(writer, line)?;
-    match writer.flush() {
-        Ok(()) => Ok(()),
-        Err(_) => Err(Fault::Write),
-    }
-}
-
-/// The line that reports the state of a node.
-fn standing<N: ServedNode>(alloc: Global, node: &N) -> Result<String, Fault> {
-    let number = node.me().get();
+/// Whether a node is up.
+fn is_up<N: ServedNode>(node: &N) -> bool {
     match node.status() {
-        Some(status) if status.up => {
-            let role = if status.active { "active" } else { "passive" };
-            let slot = status.slot_out;
-            Ok(format!(in alloc; "node {number} up {role} slot {slot}\n")?)
-        }
-        _ => Ok(format!(in alloc; "node {number} down\n")?),
+        Some(status) => status.up,
+        None => false,
     }
 }
 
-/// Has a user's lock broken, and reports the outcome.
-fn break_lock<D: Desk<Op, Outcome>, W: Write>(
-    desk: &mut D,
-    user: Name,
-    writer: &mut W,
-) -> Result<(), Fault> {
-    match desk.ask(user, Op::Break) {
-        Ok((_, Outcome::Done)) => say(writer, b"done\n"),
-        Ok(_) => say(writer, b"no such user\n"),
-        Err(_) => say(writer, b"down\n"),
+/// The node of this number, if it runs here and is up. Any that is up, if no number is given.
+fn node_up<N: ServedNode>(nodes: &[N], number: Option<NodeId>) -> Option<&N> {
+    let Some(number) = number else {
+        return node_for(nodes, None);
+    };
+    for node in nodes {
+        if node.me() == number && is_up(node) {
+            return Some(node);
+        }
     }
+    None
 }
 
-impl<R: Net + Wait + Clock + Copy, N: ServedNode + Desk<Op, Outcome> + Drop> OperatorHandler<R, N> {
-    fn node(&self, number: NodeId) -> Option<&N> {
-        self.nodes.iter().find(|node| node.me() == number)
+/// Adds the state of each node.
+fn put_status<N: ServedNode>(nodes: &[N], text: &mut Vec<u8>) -> Result<(), Memory> {
+    for node in nodes {
+        put_standing(text, node.me(), &node.status())?;
     }
+    put(text, b"end\n")
+}
 
-    /// A desk of a node, if it runs here.
-    fn desk(&self, number: NodeId) -> Result<Option<N>, Fault> {
-        match self.node(number) {
-            None => Ok(None),
-            Some(node) => Ok(Some(node.share()?)),
+/// The slot of the node that is furthest.
+fn furthest_slot<N: ServedNode>(nodes: &[N]) -> u64 {
+    let mut furthest = 0;
+    for node in nodes {
+        if let Some(status) = node.status() {
+            furthest = furthest.max(status.slot_out);
         }
     }
+    furthest
+}
 
-    fn tell_status<W: Write>(&self, writer: &mut W) -> Result<(), Fault> {
-        for node in self.nodes.iter() {
-            let line = standing(self.alloc, node)?;
-            say(writer, line.as_bytes())?;
-        }
-        say(writer, b"end\n")
-    }
-
-    fn crash<W: Write>(&self, number: NodeId, writer: &mut W) -> Result<(), Fault> {
-        match self.node(number) {
-            Some(node) if node.crash() => say(writer, b"crashed\n"),
-            _ => say(writer, b"down\n"),
-        }
-    }
-
-    /// Has the messages of the mailbox file that follows delivered, and reports their outcomes.
-    fn deliver_mail<S: Read, W: Write>(
-        &self,
-        number: NodeId,
-        user: Name,
-        count: u64,
-        key: &Option<KeyPrefix>,
-        reader: &mut S,
-        writer: &mut W,
-    ) -> Result<(), Fault> {
-        let texts = match texts_in(self.alloc, reader, count)? {
-            Ok(texts) => texts,
-            Err(refusal) => return say(writer, refusal.line()),
+impl<R: Wait + Clock + Copy, N: ServedNode + Drop> OperatorHandler<R, N> {
+    /// Answers operators of these nodes. The files that are delivered at a time have so many bytes together.
+    pub(crate) fn new(
+        rt: R,
+        alloc: Global,
+        nodes: Arc<Vec<N>>,
+        state: Arc<ServiceState>,
+        delivery_bytes: u64,
+    ) -> Result<Self, Memory> {
+        let limits = SharedLimits {
+            places: RequestPlaces::new(),
+            budget: DeliveryBudget::new(delivery_bytes),
         };
-        match self.desk(number)? {
-            Some(mut desk) => deliver(self.alloc, &mut desk, user, texts, key, writer),
-            None => say(writer, b"down\n"),
+        Ok(OperatorHandler {
+            rt,
+            alloc,
+            nodes,
+            state,
+            limits: Arc::new(alloc, limits)?,
+            answer: Vec::with_capacity(alloc, ANSWER_ROOM)?,
+        })
+    }
+
+    /// Serves a connection that has a place. One whose request waits for nodes keeps it until it is answered.
+    fn serve_in_place(&mut self, stream: &OperatorStream) {
+        let Ok(mut reader) = OperatorReader::new(self.rt, stream, LINE_MS) else {
+            self.limits.places.leave(&self.rt);
+            return;
+        };
+        match hear(&mut reader) {
+            Some(request) if awaits_nodes(&request) => {
+                let _closed = self.answer_by_nodes(&request, &mut reader, stream);
+                self.limits.places.leave(&self.rt);
+            }
+            request => {
+                self.limits.places.leave(&self.rt);
+                let _closed = self.answer_at_once(&request, stream, true);
+            }
         }
     }
 
-    /// Has a user's lock broken, and reports the outcome.
-    fn break_at<W: Write>(&self, number: NodeId, user: Name, writer: &mut W) -> Result<(), Fault> {
-        match self.desk(number)? {
-            Some(mut desk) => break_lock(&mut desk, user, writer),
-            None => say(writer, b"down\n"),
+    /// Serves a connection that has no place, or may not even wait for the end of the service.
+    fn serve_without_place(&mut self, stream: &OperatorStream, may_wait: bool) {
+        let Ok(mut reader) = OperatorReader::new(self.rt, stream, BRIEF_LINE_MS) else {
+            return;
+        };
+        let request = hear(&mut reader);
+        let _closed = self.answer_at_once(&request, stream, may_wait);
+    }
+
+    /// Answers a request that waits for no node. Others are not answered.
+    fn answer_at_once(
+        &mut self,
+        request: &Option<Request>,
+        stream: &OperatorStream,
+        may_wait: bool,
+    ) -> Result<(), Fault> {
+        match request {
+            None => tell(stream, b"bad request\n"),
+            Some(Request::Status) => self.tell_status(stream),
+            Some(Request::Sessions) => self.tell_sessions(stream),
+            Some(Request::Stats) => self.tell_stats(stream),
+            Some(Request::Kick { user }) => self.kick(user, stream),
+            Some(Request::Crash { node }) => self.crash(*node, stream),
+            Some(Request::Stop { now, wait }) => self.stop(*now, *wait, stream, may_wait),
+            Some(Request::Deliver { .. } | Request::Put { .. } | Request::Break { .. }) => Ok(()),
         }
     }
 
-    /// Stops the service, and reports it. Listeners are woken last, since that may have to wait for descriptors.
-    fn stop<W: Write>(&self, writer: &mut W) -> Result<(), Fault> {
-        self.board.begin_stop(&self.rt);
-        let said = say_now(writer, b"stopping\n");
-        self.board.stop(&self.rt, &self.ports);
-        said
-    }
-
-    /// Performs a request, and answers it.
-    fn perform<S: Read, W: Write>(
+    /// Answers a request that waits for nodes.
+    fn answer_by_nodes(
         &self,
         request: &Request,
-        reader: &mut S,
-        writer: &mut W,
+        reader: &mut OperatorReader<'_, R>,
+        stream: &OperatorStream,
     ) -> Result<(), Fault> {
         match request {
             Request::Deliver {
@@ -181,68 +218,293 @@ impl<R: Net + Wait + Clock + Copy, N: ServedNode + Desk<Op, Outcome> + Drop> Ope
                 user,
                 count,
                 key,
-            } => self.deliver_mail(*node, *user, *count, key, reader, writer),
-            Request::Break { node, user } => self.break_at(*node, *user, writer),
-            Request::Crash { node } => self.crash(*node, writer),
-            Request::Status => self.tell_status(writer),
-            Request::Stop => self.stop(writer),
+            } => self.deliver_mail(*node, *user, *count, key, reader, stream),
+            Request::Put {
+                node,
+                user,
+                count,
+                key,
+            } => self.put_message(node, *user, *count, key, reader, stream),
+            Request::Break { node, user } => self.break_lock(*node, *user, stream),
+            _ => Ok(()),
         }
     }
 
-    /// Hears a request, and answers it.
-    fn answer<S: Read, W: Write>(&self, reader: &mut S, writer: &mut W) -> Result<(), Fault> {
-        let mut line = [0u8; LONGEST_REQUEST];
-        let request = match read_line(reader, &mut line) {
-            Some(len) => parse_request(&line[..len]),
-            None => None,
-        };
-        match request {
-            Some(request) => self.perform(&request, reader, writer)?,
-            None => say(writer, b"bad request\n")?,
-        }
-        match writer.flush() {
-            Ok(()) => Ok(()),
-            Err(_) => Err(Fault::Write),
+    fn tell_status(&mut self, stream: &OperatorStream) -> Result<(), Fault> {
+        self.answer.clear();
+        put_status(&self.nodes, &mut self.answer)?;
+        tell(stream, self.answer.as_slice())
+    }
+
+    fn tell_sessions(&self, stream: &OperatorStream) -> Result<(), Fault> {
+        let lines = self.state.sessions().lines(&self.rt, self.alloc)?;
+        tell(stream, lines.as_slice())
+    }
+
+    fn tell_stats(&self, stream: &OperatorStream) -> Result<(), Fault> {
+        let slots = furthest_slot(&self.nodes);
+        let lines = self.state.stats(&self.rt, self.alloc, slots)?;
+        tell(stream, lines.as_slice())
+    }
+
+    /// Cuts the sessions of a user, and reports how many these are.
+    fn kick(&mut self, user: &Name, stream: &OperatorStream) -> Result<(), Fault> {
+        let count = self.state.sessions().kick(&self.rt, user);
+        self.answer.clear();
+        put_number_line(&mut self.answer, b"kicked ", count as u64)?;
+        tell(stream, self.answer.as_slice())
+    }
+
+    fn crash(&self, number: NodeId, stream: &OperatorStream) -> Result<(), Fault> {
+        match node_up(&self.nodes, Some(number)) {
+            Some(node) if node.crash() => {
+                self.state.log().crash(&self.rt, number);
+                tell(stream, b"crashed\n")
+            }
+            _ => tell(stream, b"down\n"),
         }
     }
 
-    /// Hears a request, and answers it. What was not written yet when a fault came is not said.
-    fn respond(&self, stream: &TcpStream) -> Result<(), Fault> {
-        let Ok(mut reader) = BufReader::with_capacity(self.alloc, PIECE, stream) else {
-            return Err(Fault::Memory);
+    /// Stops the service, and reports it, and the verdict if the client waits for that. Sessions that are open are cut if the
+    /// service is to stop now.
+    fn stop(
+        &self,
+        now: bool,
+        waits: bool,
+        stream: &OperatorStream,
+        may_wait: bool,
+    ) -> Result<(), Fault> {
+        self.state.log().stop(&self.rt);
+        self.state.stages().stop(&self.rt);
+        let told = tell(stream, b"stopping\n");
+        if !waits {
+            stream.shut(Shutdown::Both);
+        }
+        if now {
+            self.cut_sessions(may_wait);
+        }
+        told?;
+        if waits && may_wait {
+            return self.tell_verdict(stream);
+        }
+        Ok(())
+    }
+
+    /// Cuts the sessions that are open, and those that come until all have ended.
+    fn cut_sessions(&self, may_wait: bool) {
+        for _ in self.rt.forever() {
+            self.state.sessions().cut_all(&self.rt);
+            if !may_wait
+                || self
+                    .state
+                    .stages()
+                    .pauses(&self.rt, Duration::from_millis(CUT_MS))
+            {
+                return;
+            }
+        }
+    }
+
+    /// Reports the verdict, once there is one.
+    fn tell_verdict(&self, stream: &OperatorStream) -> Result<(), Fault> {
+        match self.state.verdicts().wait(&self.rt) {
+            Some(verdict) => {
+                let line = verdict.line(self.alloc)?;
+                tell(stream, line.as_bytes())
+            }
+            None => Ok(()),
+        }
+    }
+
+    /// Waits until a file of so many bytes may come, for as long as its node is up and its client is there.
+    fn take_room(&self, node: &N, count: u64, stream: &OperatorStream) -> Result<(), Unanswered> {
+        let look = Duration::from_millis(LOOK_MS);
+        let mut absence = Absence::new();
+        for _ in self.rt.forever() {
+            if self.limits.budget.take_within(&self.rt, count, look) {
+                return Ok(());
+            }
+            if !is_up(node) {
+                return Err(Unanswered::Stopped);
+            }
+            if absence.look(stream) {
+                return Err(Unanswered::Gone);
+            }
+        }
+        unreachable!()
+    }
+
+    /// Has the messages of the mailbox file that follows delivered, and reports their outcomes.
+    fn deliver_mail(
+        &self,
+        number: NodeId,
+        user: Name,
+        count: u64,
+        key: &Option<KeyPrefix>,
+        reader: &mut OperatorReader<'_, R>,
+        stream: &OperatorStream,
+    ) -> Result<(), Fault> {
+        let Some(node) = node_up(&self.nodes, Some(number)) else {
+            return tell(stream, b"down\n");
         };
-        let Ok(mut writer) = BufWriter::with_capacity(self.alloc, PIECE, stream) else {
-            return Err(Fault::Memory);
+        if let Err(why) = self.take_room(node, count, stream) {
+            return tell_why(stream, why);
+        }
+        let told = self.deliver_file(node, user, count, key, reader, stream);
+        self.limits.budget.give(&self.rt, count);
+        told
+    }
+
+    fn deliver_file(
+        &self,
+        node: &N,
+        user: Name,
+        count: u64,
+        key: &Option<KeyPrefix>,
+        reader: &mut OperatorReader<'_, R>,
+        stream: &OperatorStream,
+    ) -> Result<(), Fault> {
+        if reader.begin_file().is_err() {
+            return Err(Fault::Read);
+        }
+        let texts = match texts_in(self.alloc, reader, count) {
+            Ok(texts) => texts,
+            Err(error) => return error.tell(stream),
         };
-        let answered = self.answer(&mut reader, &mut writer);
-        let (_stream, unsaid) = writer.into_parts();
-        drop(unsaid);
-        answered
+        let mut delivered = Delivered::new();
+        let delivery = self.delivery(node, user, stream);
+        let told = delivery.deliver_all(texts, key, &mut delivered);
+        self.note(node, &user, &delivered);
+        told
+    }
+
+    /// Has the message that follows delivered, and reports its outcome.
+    fn put_message(
+        &self,
+        number: &Option<NodeId>,
+        user: Name,
+        count: u64,
+        key: &Option<Key>,
+        reader: &mut OperatorReader<'_, R>,
+        stream: &OperatorStream,
+    ) -> Result<(), Fault> {
+        let Some(node) = node_up(&self.nodes, *number) else {
+            return tell(stream, b"down\n");
+        };
+        if !self.state.accounts().has(&user) {
+            return tell(stream, b"no such user\n");
+        }
+        if let Err(why) = self.take_room(node, count, stream) {
+            return tell_why(stream, why);
+        }
+        let told = self.put_file(node, user, count, key, reader, stream);
+        self.limits.budget.give(&self.rt, count);
+        told
+    }
+
+    fn put_file(
+        &self,
+        node: &N,
+        user: Name,
+        count: u64,
+        key: &Option<Key>,
+        reader: &mut OperatorReader<'_, R>,
+        stream: &OperatorStream,
+    ) -> Result<(), Fault> {
+        if reader.begin_file().is_err() {
+            return Err(Fault::Read);
+        }
+        let text = match message_in(self.alloc, reader, count) {
+            Ok(text) => text,
+            Err(error) => return error.tell(stream),
+        };
+        let mut delivered = Delivered::new();
+        let delivery = self.delivery(node, user, stream);
+        let told = delivery.deliver_one(text, *key, &mut delivered);
+        self.note(node, &user, &delivered);
+        told
+    }
+
+    /// A delivery to a user at a node, for the client of a connection.
+    fn delivery<'a>(
+        &self,
+        node: &'a N,
+        user: Name,
+        stream: &'a OperatorStream,
+    ) -> Delivery<'a, R, N> {
+        Delivery {
+            rt: self.rt,
+            alloc: self.alloc,
+            node,
+            stream,
+            user,
+        }
+    }
+
+    /// Notes what has become of a delivery.
+    fn note(&self, node: &N, user: &Name, delivered: &Delivered) {
+        let Delivered {
+            stored,
+            octets,
+            refused,
+        } = *delivered;
+        self.state.counters().stored(&self.rt, stored, octets);
+        self.state
+            .log()
+            .delivery(&self.rt, node.me(), user, stored, refused);
+    }
+
+    /// Has a user's lock broken, and reports the outcome.
+    fn break_lock(&self, number: NodeId, user: Name, stream: &OperatorStream) -> Result<(), Fault> {
+        let Some(node) = node_up(&self.nodes, Some(number)) else {
+            return tell(stream, b"down\n");
+        };
+        match ask(&self.rt, node, stream, user, Op::Break) {
+            Ok((_, Outcome::Done)) => tell(stream, b"done\n"),
+            Ok(_) => tell(stream, b"no such user\n"),
+            Err(why) => tell_why(stream, why),
+        }
     }
 }
 
-impl<R: Net + Wait + Clock + Copy, N: ServedNode + Desk<Op, Outcome> + Drop> Handler
+/// An answer goes out at once, and may be left unread for no more than so many milliseconds.
+fn prepare(stream: &OperatorStream, pause_ms: u64) {
+    stream.set_nodelay();
+    stream.set_write_timeout(Duration::from_millis(pause_ms));
+}
+
+impl<R: Wait + Clock + Copy, N: ServedNode + Drop> Handler<OperatorStream>
     for OperatorHandler<R, N> {
-    fn serve(&mut self, stream: &TcpStream) {
-        // An outcome is reported as soon as it is there.
-        let _slower = stream.set_nodelay(true);
-        let pause = Some(Duration::from_secs(LONGEST_PAUSE_SECONDS));
-        let _reads = stream.set_read_timeout(pause);
-        let _writes = stream.set_write_timeout(pause);
-        let _closed = self.respond(stream);
+    fn serve(&mut self, stream: &Arc<OperatorStream>, _peer: SocketAddr) {
+        prepare(stream, LONGEST_PAUSE_MS);
+        if self.limits.places.take(&self.rt) {
+            self.serve_in_place(stream);
+        } else {
+            self.serve_without_place(stream, true);
+        }
+    }
+
+    fn serve_briefly(&mut self, stream: &OperatorStream, _peer: SocketAddr) {
+        prepare(stream, BRIEF_LINE_MS);
+        self.serve_without_place(stream, false);
     }
 
     fn share(&self) -> Result<Self, Memory> {
         let nodes = Arc::try_clone(&self.nodes)?;
-        let board = Arc::try_clone(&self.board)?;
-        let ports = Arc::try_clone(&self.ports)?;
+        let state = Arc::try_clone(&self.state)?;
+        let limits = Arc::try_clone(&self.limits)?;
         Ok(OperatorHandler {
             rt: self.rt,
             alloc: self.alloc,
             nodes,
-            board,
-            ports,
+            state,
+            limits,
+            answer: Vec::with_capacity(self.alloc, ANSWER_ROOM)?,
         })
+    }
+
+    fn is_open(&self) -> bool {
+        true
     }
 
     fn is_cut_at_the_end(&self) -> bool {

@@ -1,5 +1,5 @@
 //! What a service is started with.
-ghost use Rattle.std.specs.Prelude.{◌≡◌, ◌↔◌, IfOk, IsErrOf};
+ghost use Rattle.std.specs.Prelude.{◌≡◌, ◌≤◌, ◌↔◌, IfOk, IfSome, IsErrOf};
 ghost use Rattle.service.specs.Options as spec;
 
 use crate::fault::Fault;
@@ -8,9 +8,16 @@ use ballot::{Cluster, Items, LAST_NODE};
 use maildrop::Limits;
 use node::WIDEST_WINDOW;
 use std::alloc::Global;
+use std::net::IpAddr;
 
 /// The highest number of milliseconds that may be asked for between two ticks.
 const LONGEST_TICK_MS: u64 = 1_000_000;
+
+/// The most seconds that a session may be silent, or a service be without a majority.
+const LONGEST_PAUSE: u64 = 1_000_000;
+
+/// The most bytes that files may have together that are delivered at a time.
+const MOST_DELIVERY_BYTES: u64 = 1 << 40;
 
 /// The highest port.
 const LAST_PORT: u64 = 65_535;
@@ -23,10 +30,17 @@ const ANY_NONCE: &[u8] = b"1";
 pub struct ServeOptions<'a> {
     /// The path of the accounts file.
     pub accounts: &'a str,
-    /// Node n takes POP3 connections at this port and n more: each 1 to 65535.
-    pub pop_port: u64,
-    /// The port that takes the operator's requests: 1 to 65535.
-    pub ctl_port: u64,
+    /// The port at which POP3 clients are served at whichever node leads, if there is one: 1 to 65535.
+    pub port: Option<u64>,
+    /// Node n takes POP3 connections at this port and n more, if the nodes have ports: each 1 to 65535. One of `port` and
+    /// this is given, or both.
+    pub pop_port: Option<u64>,
+    /// The address at which POP3 connections are taken.
+    pub listen: IpAddr,
+    /// The port of this machine that takes the operator's requests: 1 to 65535. Either this or `ctl_socket` is given.
+    pub ctl_port: Option<u64>,
+    /// The path of the Unix socket that takes the operator's requests.
+    pub ctl_socket: Option<&'a str>,
     /// How many nodes there are: 1 to 9.
     pub nodes: u64,
     /// For how many slots a node proposes at a time: 1 to 1,000.
@@ -41,6 +55,14 @@ pub struct ServeOptions<'a> {
     pub host: &'a [u8],
     /// How many milliseconds lie between two ticks of a node at least: 1 to 1,000,000.
     pub tick_ms: u64,
+    /// After how many seconds without a whole line a session ends: at most 1,000,000, and 0 for never.
+    pub idle_seconds: u64,
+    /// After how many seconds without a majority of the nodes the service ends: at most 1,000,000, and 0 for never.
+    pub no_majority_seconds: u64,
+    /// How many bytes the files have together that are delivered at a time: 1 to 2^40. One that is larger is alone.
+    pub delivery_bytes: u64,
+    /// The path of the file that gets a line for each event, or `-` for standard error, if there is one.
+    pub log: Option<&'a str>,
 }
 
 /// What the options of a service say, once each is in its range.
@@ -54,18 +76,57 @@ pub(crate) struct Settings {
     pub limits: Limits,
     /// What stands after the `@` of the greetings' timestamps.
     pub host: Items<u8>,
+    /// The port at which clients are served at whichever node leads.
+    pub port: Option<u16>,
     /// The ports of the nodes lie above this one: port `pop_port` + n is node n's.
-    pub pop_port: u16,
-    /// The port that takes the operator's requests.
-    pub ctl_port: u16,
+    pub pop_port: Option<u16>,
+    /// The address of these ports.
+    pub listen: IpAddr,
+    /// The port that takes the operator's requests. If there is none, a Unix socket takes them.
+    pub ctl_port: Option<u16>,
     /// How many milliseconds lie between two ticks of a node at least: 1 to 1,000,000.
     pub tick_ms: u64,
+    /// After how many seconds without a whole line a session ends: 0 for never.
+    pub idle_seconds: u64,
+    /// After how many seconds without a majority of the nodes the service ends: 0 for never.
+    pub no_majority_seconds: u64,
+    /// How many bytes the files have together that are delivered at a time.
+    pub delivery_bytes: u64,
 }
 
 fn is_between(low: u64, high: u64, number: u64) -> bool
     ensures { result ≡ spec.is_between low high number }
 {
     low <= number && number <= high
+}
+
+/// Whether a number that may be left out is in its range.
+fn may_be_between(low: u64, high: u64, number: Option<u64>) -> bool
+    ensures { result ≡ spec.may_be_between low high number }
+{
+    match number {
+        None => true,
+        Some(number) => is_between(low, high, number),
+    }
+}
+
+/// Whether clients and the operator have a way in each: clients one or two, the operator one of two.
+fn have_ways_in(options: &ServeOptions<'_>) -> bool
+    ensures { result ≡ spec.have_ways_in options.now }
+{
+    (options.port.is_some() || options.pop_port.is_some())
+        && ((options.ctl_port.is_some() && options.ctl_socket.is_none())
+            || (options.ctl_port.is_none() && options.ctl_socket.is_some()))
+}
+
+/// Whether the ports are in their ranges.
+fn are_ports(options: &ServeOptions<'_>) -> bool
+    requires { options.now.nodes ≤ 9 }
+    ensures { result ≡ spec.are_ports options.now }
+{
+    may_be_between(1, LAST_PORT, options.port)
+        && may_be_between(0, LAST_PORT - options.nodes, options.pop_port)
+        && may_be_between(1, LAST_PORT, options.ctl_port)
 }
 
 /// Whether the numbers that are no limits of a maildrop are in their ranges.
@@ -75,8 +136,22 @@ fn are_in_range(options: &ServeOptions<'_>) -> bool
     is_between(1, LAST_NODE as u64, options.nodes)
         && is_between(1, WIDEST_WINDOW, options.window)
         && is_between(1, LONGEST_TICK_MS, options.tick_ms)
-        && is_between(1, LAST_PORT, options.ctl_port)
-        && options.pop_port <= LAST_PORT - options.nodes
+        && options.idle_seconds <= LONGEST_PAUSE
+        && options.no_majority_seconds <= LONGEST_PAUSE
+        && is_between(1, MOST_DELIVERY_BYTES, options.delivery_bytes)
+        && are_ports(options)
+        && have_ways_in(options)
+}
+
+/// A port that is in its range, if it is given.
+fn port_of(number: Option<u64>) -> Option<u16>
+    requires { IfSome number (λ port. port ≤ 65535) }
+    ensures { result ≡ number }
+{
+    match number {
+        None => None,
+        Some(number) => Some(number as u16),
+    }
 }
 
 /// What the options say, or `Value` if one is out of its range.
@@ -86,9 +161,13 @@ pub(crate) fn settings_of(alloc: Global, options: &ServeOptions<'_>) -> Result<S
     ensures window { IfOk result (λ settings. settings.window ≡ options.now.window) }
     ensures limits { IfOk result (λ settings. settings.limits ≡ spec.limits_of options.now) }
     ensures host { IfOk result (λ settings. settings.host ≡ options.now.host.now) }
+    ensures port { IfOk result (λ settings. settings.port ≡ options.now.port) }
     ensures pop_port { IfOk result (λ settings. settings.pop_port ≡ options.now.pop_port) }
     ensures ctl_port { IfOk result (λ settings. settings.ctl_port ≡ options.now.ctl_port) }
     ensures tick { IfOk result (λ settings. settings.tick_ms ≡ options.now.tick_ms) }
+    ensures idle { IfOk result (λ settings. settings.idle_seconds ≡ options.now.idle_seconds) }
+    ensures no_majority { IfOk result (λ settings. settings.no_majority_seconds ≡ options.now.no_majority_seconds) }
+    ensures delivery { IfOk result (λ settings. settings.delivery_bytes ≡ options.now.delivery_bytes) }
 {
     if !are_in_range(options) || stamp(ANY_NONCE, options.host).is_none() {
         return Err(Fault::Value);
@@ -107,8 +186,13 @@ pub(crate) fn settings_of(alloc: Global, options: &ServeOptions<'_>) -> Result<S
         window: options.window,
         limits,
         host,
-        pop_port: options.pop_port as u16,
-        ctl_port: options.ctl_port as u16,
+        port: port_of(options.port),
+        pop_port: port_of(options.pop_port),
+        listen: options.listen,
+        ctl_port: port_of(options.ctl_port),
         tick_ms: options.tick_ms,
+        idle_seconds: options.idle_seconds,
+        no_majority_seconds: options.no_majority_seconds,
+        delivery_bytes: options.delivery_bytes,
     })
 }

@@ -1,16 +1,25 @@
 //! POP3 connections.
 
-use crate::board::Board;
+use crate::bounded_reader::BoundedReader;
 use crate::handler::Handler;
+use crate::login_gate::LoginGate;
+use crate::open_sessions::OpenSession;
+use crate::reply_writer::ReplyWriter;
 use crate::served_node::ServedNode;
-use ballot::Memory;
+use crate::session_bounds::WRITE_SECONDS;
+use crate::session_desk::SessionDesk;
+use crate::session_facts::{SessionFacts, SharedFacts, ending_of};
+use crate::state::ServiceState;
+use apop::Stamp;
+use ballot::{Memory, NodeId};
 use maildrop::{Op, Outcome};
-use session::{Desk, OpenGate, serve};
+use session::{Desk, End, Transcript, serve};
 use std::alloc::Global;
 use std::io::BufWriter;
-use std::net::TcpStream;
+use std::net::{SocketAddr, TcpStream};
 use std::random::RandomSource;
-use std::sync::{Arc, Wait};
+use std::sync::{Arc, Mutex, Wait};
+use std::time::{Clock, Duration, Instant};
 
 /// How many bytes of replies a connection gathers at most. Their room stays with it while it is idle.
 const GATHERED: usize = 4_096;
@@ -18,52 +27,191 @@ const GATHERED: usize = 4_096;
 /// Serves POP3 sessions (RFC 1939) at a node.
 #[derive(Drop)]
 pub(crate) struct PopHandler<R, N: ServedNode> {
-    /// The system: random bytes, and waits.
+    /// The system: random bytes, waits and the clock.
     pub rt: R,
     /// Where its memory comes from.
     pub alloc: Global,
-    /// The node that the sessions ask.
-    pub node: N,
+    /// The nodes of the service.
+    pub nodes: Arc<Vec<N>>,
+    /// The node whose port this is, if the port is a node's.
+    pub own: Option<NodeId>,
     /// What all threads of the service see.
-    pub board: Arc<Board>,
+    pub state: Arc<ServiceState>,
 }
 
-impl<R: RandomSource + Wait + Copy, N: ServedNode + Desk<Op, Outcome> + Drop> Handler
-    for PopHandler<R, N> {
-    fn serve(&mut self, stream: &TcpStream) {
-        // What is written goes out at once.
-        let _slower = stream.set_nodelay(true);
-        let Some(stamp) = self.board.new_stamp(&self.rt, self.alloc) else {
-            return;
+/// The node that a session asks: the one of this number if it is up, or else one that leads, or else any that is up.
+pub(crate) fn node_for<N: ServedNode>(nodes: &[N], own: Option<u8>) -> Option<&N> {
+    let mut chosen = None;
+    for node in nodes {
+        match node.status() {
+            Some(status) if status.up => {
+                if own == Some(node.me().get()) {
+                    return Some(node);
+                }
+                if status.active || chosen.is_none() {
+                    chosen = Some(node);
+                }
+            }
+            _ => {}
+        }
+    }
+    chosen
+}
+
+impl<R: RandomSource + Wait + Clock + Copy, N: ServedNode + Desk<Op, Outcome> + Drop> PopHandler<
+    R,
+    N,
+> {
+    /// A desk of the node that a session asks, if a node is up.
+    fn node(&self) -> Option<N> {
+        let own = match &self.own {
+            Some(number) => Some(number.get()),
+            None => None,
         };
-        let Ok(mut writer) = BufWriter::with_capacity(self.alloc, GATHERED, stream) else {
-            return;
+        match node_for(&self.nodes, own) {
+            Some(node) => node.share().ok(),
+            None => None,
+        }
+    }
+
+    /// Lists a session that begins. Returns what is known of it, unless there is no memory for it.
+    fn admit(
+        &self,
+        number: u64,
+        node: NodeId,
+        stream: &Arc<TcpStream>,
+        peer: SocketAddr,
+    ) -> Result<SharedFacts, Memory> {
+        let facts = Arc::new(self.alloc, Mutex::new(SessionFacts::new()))?;
+        let session = OpenSession {
+            node,
+            peer,
+            since: Instant::now(&self.rt).ok(),
+            facts: Arc::try_clone(&facts)?,
+            stream: Arc::try_clone(stream)?,
         };
-        let mut reader = stream;
+        self.state.sessions().add(&self.rt, number, session)?;
+        Ok(facts)
+    }
+
+    /// Serves a session to its end. Returns what it left, unless there is no memory to begin it.
+    fn converse(
+        &self,
+        stream: &TcpStream,
+        stamp: Stamp,
+        desk: &mut SessionDesk<R, N>,
+        facts: &Mutex<SessionFacts>,
+        gate: &mut LoginGate<'_, R>,
+    ) -> Option<Transcript> {
+        let Ok(writer) = BufWriter::with_capacity(self.alloc, GATHERED, stream) else {
+            return None;
+        };
+        let mut reader = BoundedReader::new(self.rt, stream, facts, self.state.idle_seconds());
+        let mut writer = ReplyWriter::new(self.rt, writer, facts, self.state.refusal());
         let transcript = serve(
             self.alloc,
             &mut reader,
             &mut writer,
-            self.board.accounts(),
+            self.state.accounts(),
             stamp,
-            &mut self.node,
-            &mut OpenGate,
+            desk,
+            gate,
         );
         // Nothing is written after a write that failed.
-        let (_stream, unsaid) = writer.into_parts();
-        drop(unsaid);
-        self.board.keep(&self.rt, transcript);
+        writer.discard();
+        Some(transcript)
+    }
+
+    /// Serves a session at a node to its end.
+    fn serve_at(
+        &self,
+        node: N,
+        number: u64,
+        stamp: Stamp,
+        stream: &Arc<TcpStream>,
+        peer: SocketAddr,
+    ) {
+        let me = node.me();
+        let Ok(facts) = self.admit(number, me, stream, peer) else {
+            return;
+        };
+        let mut gate = LoginGate {
+            rt: self.rt,
+            state: &self.state,
+            facts: &facts,
+            node: me,
+            peer,
+        };
+        let transcript = self.converse_at(node, stamp, stream, &facts, &mut gate);
+        self.state.sessions().remove(&self.rt, number);
+        if let Some(transcript) = transcript {
+            self.report(me, peer, &facts, transcript.end);
+            self.state.keep(&self.rt, transcript);
+        }
+    }
+
+    /// The same, with what is known of the session.
+    fn converse_at(
+        &self,
+        node: N,
+        stamp: Stamp,
+        stream: &TcpStream,
+        facts: &SharedFacts,
+        gate: &mut LoginGate<'_, R>,
+    ) -> Option<Transcript> {
+        let shared = Arc::try_clone(facts).ok()?;
+        let mut desk = SessionDesk {
+            rt: self.rt,
+            node,
+            facts: shared,
+        };
+        self.converse(stream, stamp, &mut desk, facts, gate)
+    }
+
+    /// Counts and logs a session that has ended.
+    fn report(&self, node: NodeId, peer: SocketAddr, facts: &Mutex<SessionFacts>, end: End) {
+        let facts = facts.lock(&self.rt);
+        self.state.counters().ended(&self.rt, &facts);
+        let ending = ending_of(end, facts.cut);
+        self.state
+            .log()
+            .session(&self.rt, node, peer, &facts, ending);
+    }
+}
+
+impl<R: RandomSource + Wait + Clock + Copy, N: ServedNode + Desk<Op, Outcome> + Drop> Handler<
+    TcpStream,
+> for PopHandler<R, N> {
+    fn serve(&mut self, stream: &Arc<TcpStream>, peer: SocketAddr) {
+        // What is written goes out at once, and a client that takes nothing isn't waited for without an end.
+        let _slower = stream.set_nodelay(true);
+        let _unbounded = stream.set_write_timeout(Some(Duration::from_secs(WRITE_SECONDS)));
+        let Some(node) = self.node() else {
+            return;
+        };
+        if let Some((number, stamp)) = self.state.new_stamp(&self.rt, self.alloc) {
+            self.serve_at(node, number, stamp, stream, peer);
+        }
+    }
+
+    fn serve_briefly(&mut self, _stream: &TcpStream, _peer: SocketAddr) {
+        // It is closed without a word.
     }
 
     fn share(&self) -> Result<Self, Memory> {
-        let node = self.node.share()?;
-        let board = Arc::try_clone(&self.board)?;
+        let nodes = Arc::try_clone(&self.nodes)?;
+        let state = Arc::try_clone(&self.state)?;
         Ok(PopHandler {
             rt: self.rt,
             alloc: self.alloc,
-            node,
-            board,
+            nodes,
+            own: self.own,
+            state,
         })
+    }
+
+    fn is_open(&self) -> bool {
+        !self.state.stages().is_stopping(&self.rt)
     }
 
     fn is_cut_at_the_end(&self) -> bool {

@@ -5,34 +5,32 @@ ghost use Rattle.service.specs.Options as spec;
 ghost use Rattle.service.specs.Faults as faults;
 ghost use Rattle.service.specs.Verdicts as verdicts;
 ghost use Rattle.service.specs.declared.verdict.Verdict.TheVariants.{Legal};
-ghost use Rattle.std.specs.List.{All};
-ghost use Rattle.cluster.specs.Members.{IsLogOf};
 ghost use Rattle.apop.specs.Accounts as table;
 ghost use Rattle.apop.specs.Accounts.{name_of};
 ghost use Rattle.maildrop.specs.Name.{are_different};
 
-use crate::board::Board;
+use crate::event_log::EventLog;
 use crate::fault::Fault;
 use crate::file::read_file;
-use crate::operator::say;
+use crate::operator_socket::remove_socket;
 use crate::options::{ServeOptions, Settings, settings_of};
-use crate::serving;
-use crate::serving::{Ports, ServiceThreads, join_all};
+use crate::say::say;
+use crate::state::ServiceState;
 use crate::system::System;
+use crate::threads;
+use crate::threads::{Ports, ServiceThreads, join_all};
 use crate::verdict::{Verdict, verdict_of};
 use apop::{Accounts, AccountsError};
 use ballot::{Items, NodeId};
 use cluster::{Cluster, Deployment, InboxLink, NodeDesk, Setup, StartError};
-use node::NodeLog;
 use std::alloc::Global;
+use std::fs::File;
 use std::io::{Eprint, Write};
 use std::marker::Brand;
-use std::net::{Net, TcpListener, TcpStream};
-use std::random::RandomSource;
 use std::rt::Files;
 use std::sync::{Arc, Wait};
-use std::thread::Threads;
-use std::time::{Clock, Duration};
+use std::thread::JoinHandle;
+use std::time::Clock;
 
 /// The node that asks to lead as soon as the service starts.
 const FIRST_LEADER: u8 = 1;
@@ -100,15 +98,23 @@ fn desks_of<D: Deployment + Send + Sync + 'static, R: System>(
     Ok(desks)
 }
 
-/// Runs the nodes and their sessions until an operator stops them.
+/// How a service has ended.
+#[derive(Clone, Copy, Debug, PartialEq, Eq)]
+struct RunEnd {
+    verdict: Verdict,
+    /// Why it ended, unless an operator stopped it.
+    fault: Option<Fault>,
+}
+
+/// Runs the nodes and their sessions until an operator stops them, or they have been without a majority for too long.
 fn serve_cluster<D: Deployment + Send + Sync + 'static, R: System>(
     rt: R,
     alloc: Global,
     setup: &Setup,
     settings: &Settings,
-    ports: Ports,
-    board: &Arc<Board>,
-) -> Result<Verdict, Fault>
+    ports: &Ports,
+    state: &Arc<ServiceState>,
+) -> Result<RunEnd, Fault>
     requires deployment { setup.now ≡ D.setup }
     requires names { IsTrue (are_different setup.now.names) }
 {
@@ -121,63 +127,111 @@ fn serve_cluster<D: Deployment + Send + Sync + 'static, R: System>(
     if let Some(leader) = NodeId::new(FIRST_LEADER) {
         cluster.campaign(leader);
     }
-    let tick = Duration::from_millis(settings.tick_ms);
-    let (threads, started) = serving::start(rt, alloc, desks, ports, board, tick);
-    let logs = end_of(&rt, cluster, threads, board);
+    let (threads, started) = threads::start(rt, alloc, &desks, ports, state, settings);
+    let verdict = verdict_at_end(rt, alloc, cluster, threads, ports, state);
     started?;
-    match board.take_transcripts(&rt, alloc) {
-        Some(transcripts) => Ok(verdict_of(alloc, &logs, &transcripts)),
-        None => Ok(Verdict::Memory),
+    let fault = if state.stages().lacks_majority(&rt) {
+        Some(Fault::NoMajority)
+    } else {
+        None
+    };
+    Ok(RunEnd { verdict, fault })
+}
+
+/// Waits until the service has ended, and returns the verdict on all that was done. Operators who wait for the verdict are
+/// told it.
+fn verdict_at_end<D: Deployment + Send + Sync + 'static, R: System>(
+    rt: R,
+    alloc: Global,
+    cluster: Cluster<D, R, InboxLink<R>>,
+    threads: ServiceThreads,
+    ports: &Ports,
+    state: &ServiceState,
+) -> Verdict {
+    let ServiceThreads {
+        sessions,
+        nodes,
+        operators,
+    } = threads;
+    end_sessions(&rt, sessions, nodes, ports, state);
+    let logs = cluster.stop();
+    let verdict = match state.take_transcripts(&rt, alloc) {
+        Some(kept) => kept.numbered(verdict_of(alloc, &logs, kept.get())),
+        None => Verdict::Memory,
+    };
+    state.verdicts().announce(&rt, &verdict);
+    join_all(&rt, operators);
+    verdict
+}
+
+/// Waits until the service stops and its sessions have ended. Then no operator comes any more, and the nodes need no more
+/// time.
+fn end_sessions<R: System>(
+    rt: &R,
+    sessions: Vec<JoinHandle<()>>,
+    nodes: Vec<JoinHandle<()>>,
+    ports: &Ports,
+    state: &ServiceState,
+) {
+    state.stages().wait_for_stop(rt);
+    ports.close_pop(rt);
+    join_all(rt, sessions);
+    state.stages().end(rt);
+    ports.close_ctl(rt);
+    join_all(rt, nodes);
+}
+
+/// What the threads of a service with these settings share, with the accounts of a file.
+fn state_of<R: System + Files<File = File>>(
+    rt: &R,
+    alloc: Global,
+    options: &ServeOptions<'_>,
+    settings: &Settings,
+    accounts: Accounts,
+) -> Result<Arc<ServiceState>, Fault> {
+    let log = EventLog::open(rt, alloc, options.log)?;
+    let host = settings.host.copy()?;
+    let state = ServiceState::new(rt, alloc, accounts, host, settings.idle_seconds, log)?;
+    Ok(Arc::new(alloc, state)?)
+}
+
+/// Notes a fault in the log. Without memory for its text nothing is noted.
+fn note_fault<R: Wait + Clock>(rt: &R, alloc: Global, log: &EventLog, fault: Fault) {
+    if let Ok(text) = format!(in alloc; "{fault}") {
+        log.fault(rt, text.as_str());
     }
 }
 
-/// Waits until the sessions have ended, and then stops the nodes. Returns their logs. Operators who wait for a node until
-/// then are told that it has stopped.
-fn end_of<D: Deployment + Send + Sync + 'static, R: System>(
-    rt: &R,
-    cluster: Cluster<D, R, InboxLink<R>>,
-    threads: ServiceThreads,
-    board: &Board,
-) -> Vec<NodeLog>
-    ensures { All (λ log. IsLogOf D.setup log.opening.me log) result.items }
-{
-    let ServiceThreads {
-        sessions,
-        ticker,
-        operators,
-    } = threads;
-    join_all(rt, sessions);
-    board.end(rt);
-    join_all(rt, ticker);
-    let logs = cluster.stop();
-    join_all(rt, operators);
-    logs
-}
-
-/// Runs a service with these settings and the accounts of a file.
-fn run_with<R: System + Files>(
-    rt: R,
-    alloc: Global,
-    accounts: &str,
-    settings: &Settings,
-) -> Result<Verdict, Fault> {
-    let accounts = accounts_of(&rt, alloc, accounts)?;
-    let setup = setup_of(alloc, settings, &accounts)?;
-    let ports = Ports::open(&rt, alloc, settings)?;
-    let host = settings.host.copy()?;
-    let board = Arc::new(alloc, Board::new(alloc, accounts, host))?;
-    serve_cluster::<Brand, R>(rt, alloc, &setup, settings, ports, &board)
-}
-
-fn run<R: System + Files>(
+/// Runs a service with these settings.
+fn run_with<R: System + Files<File = File>>(
     rt: R,
     alloc: Global,
     options: &ServeOptions<'_>,
-) -> Result<Verdict, Fault>
+    settings: &Settings,
+) -> Result<RunEnd, Fault> {
+    let accounts = accounts_of(&rt, alloc, options.accounts)?;
+    let setup = setup_of(alloc, settings, &accounts)?;
+    let state = state_of(&rt, alloc, options, settings, accounts)?;
+    let ports = Ports::open(&rt, alloc, settings, options.ctl_socket)?;
+    let end = serve_cluster::<Brand, R>(rt, alloc, &setup, settings, &ports, &state);
+    if let Some(path) = options.ctl_socket {
+        remove_socket(&rt, path);
+    }
+    if let Err(fault) = &end {
+        note_fault(&rt, alloc, state.log(), *fault);
+    }
+    end
+}
+
+fn run<R: System + Files<File = File>>(
+    rt: R,
+    alloc: Global,
+    options: &ServeOptions<'_>,
+) -> Result<RunEnd, Fault>
     ensures values { (¬ spec.AreGood options.now) → IsErrOf result Fault.Value }
 {
     match settings_of(alloc, options) {
-        Ok(settings) => run_with(rt, alloc, options.accounts, &settings),
+        Ok(settings) => run_with(rt, alloc, options, &settings),
         Err(fault) => Err(fault),
     }
 }
@@ -192,25 +246,29 @@ fn tell<W: Write>(alloc: Global, writer: &mut W, verdict: &Verdict) -> Result<u8
     Ok(verdict.status())
 }
 
+/// Reports how a service has ended: writes the line of its verdict, and returns the exit status, or why it ended.
+fn report<W: Write>(alloc: Global, writer: &mut W, end: &RunEnd) -> Result<u8, Fault>
+    ensures status { IfOk result (λ status. status ≡ verdicts.status_of end.now.verdict) }
+    ensures written { OnOk result (Appends (W.contents writer.old) (W.contents writer.new) (verdicts.text_of end.now.verdict ++ 10 ∷ [])) }
+{
+    let told = tell(alloc, writer, &end.verdict);
+    match end.fault {
+        None => told,
+        Some(fault) => Err(fault),
+    }
+}
+
 /// Serves POP3 (RFC 1939) at a port of each node, and an operator's requests at a port of their own, until an operator
 /// stops it: then no connection is taken any more, the sessions go on to their ends, the nodes stop, and what an audit
 /// says of all that they did is written. Returns the exit status: 0 if that is `audit ok`, 1 if it is something else
 /// and after a fault of memory, reading, writing or the network, 2 for options or an accounts file that are none. A fault
 /// is reported on standard error.
-pub fn serve_run<
-    R: Net<Listener = TcpListener, Stream = TcpStream>
-        + Threads
-        + Wait
-        + Clock
-        + RandomSource
-        + Copy
-        + Send
-        + Sync
-        + 'static
-        + Files
-        + Eprint,
-    W: Write,
->(rt: R, alloc: Global, writer: &mut W, options: &ServeOptions<'_>) -> u8
+pub fn serve_run<R: System + Files<File = File> + Eprint, W: Write>(
+    rt: R,
+    alloc: Global,
+    writer: &mut W,
+    options: &ServeOptions<'_>,
+) -> u8
     ensures values { (¬ spec.AreGood options.now) → result ≡ 2 }
     ensures statuses { result ≤ 2 }
 
@@ -218,7 +276,7 @@ pub fn serve_run<
     ensures told { result ≡ 0 → Appends (W.contents writer.old) (W.contents writer.new) (verdicts.text_of Legal ++ 10 ∷ []) }
 {
     let fault = match run(rt, alloc, options) {
-        Ok(verdict) => match tell(alloc, writer, &verdict) {
+        Ok(end) => match report(alloc, writer, &end) {
             Ok(status) => return status,
             Err(fault) => fault,
         },

@@ -2,6 +2,9 @@
 
 use ballot::{Memory, NodeId};
 use cluster::Status;
+use maildrop::{Name, Op, Outcome, Ticket};
+use session::DeskStopped;
+use std::time::Duration;
 
 /// A node of the service. Its desk has operations performed, and has the trait of its own, `session::Desk`.
 pub trait ServedNode {
@@ -27,4 +30,20 @@ pub trait ServedNode {
 
     /// How the node stands, or nothing once its cluster has ended.
     fn status(&self) -> Option<Status>;
+
+    /// Submits an operation. Returns its ticket, or nothing if the node has stopped. The outcome is kept until it is taken by
+    /// `outcome_within` or let go by `forget`.
+    fn submit(&self, user: Name, op: Op) -> Option<Ticket>;
+
+    /// The outcome of an operation that was submitted here, which may be awaited at most this long. Nothing if it isn't there
+    /// yet, and an error if the node has stopped.
+    fn outcome_within(
+        &self,
+        user: Name,
+        ticket: Ticket,
+        time: Duration,
+    ) -> Result<Option<Outcome>, DeskStopped>;
+
+    /// Nobody awaits the outcome of an operation any more.
+    fn forget(&self, user: Name, ticket: Ticket);
 }

@@ -7,7 +7,7 @@ use std::thread::Threads;
 use std::time::Clock;
 
 /// What a service asks of the system: sockets, threads, the clock and random bytes, by a handle of no bytes.
-pub(crate) trait System: Net<Listener = TcpListener, Stream = TcpStream>
+pub trait System: Net<Listener = TcpListener, Stream = TcpStream>
     + Threads
     + Wait
     + Clock

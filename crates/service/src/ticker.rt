@@ -1,8 +1,9 @@
 //! The time of the nodes.
 
-use crate::board::Board;
 use crate::fault::Fault;
+use crate::majority::is_majority;
 use crate::served_node::ServedNode;
+use crate::state::ServiceState;
 use cluster::Patience;
 use std::alloc::Global;
 use std::sync::{Arc, Wait};
@@ -32,6 +33,15 @@ impl<N: ServedNode> Watched<N> {
     }
 }
 
+/// What a look at all nodes found.
+#[derive(Clone, Copy, Debug, PartialEq, Eq)]
+struct Look {
+    /// How many are up.
+    up: usize,
+    /// Whether nobody waits for a node, and all that are up have come equally far.
+    are_at_rest: bool,
+}
+
 /// Tells the nodes on a thread of its own that time has passed, again and again, until the sessions have ended.
 pub(crate) fn start<
     R: Threads + Wait + Clock + Copy + Send + 'static,
@@ -40,43 +50,48 @@ pub(crate) fn start<
     rt: R,
     alloc: Global,
     nodes: &[N],
-    board: Arc<Board>,
+    state: &Arc<ServiceState>,
     every: Duration,
-) -> Result<JoinHandle<()>, Fault> {
+    threads: &mut Vec<JoinHandle<()>>,
+) -> Result<(), Fault> {
+    threads.reserve(1)?;
     let mut watched = Vec::new(alloc);
     for node in nodes {
         let patience = Patience::new(node.me());
         let node = node.share()?;
         watched.push(Watched { node, patience })?;
     }
-    match thread::spawn(&rt, move || run(&rt, watched, &board, every)) {
-        Ok(thread) => Ok(thread),
-        Err(_) => Err(Fault::Memory),
-    }
+    let state = Arc::try_clone(state)?;
+    let Ok(thread) = thread::spawn(&rt, move || run(&rt, watched, &state, every)) else {
+        return Err(Fault::Memory);
+    };
+    threads.push_reserved(thread);
+    Ok(())
 }
 
 /// A tick has the nodes send again whatever awaits an answer, and after a change of the leader that is all that was ever
 /// decided. So it is put off while something that was sent waits to be heard: the answer may lie there, and a node that
-/// has much to hear doesn't wait in vain. Nodes at rest need no time, and their logs don't grow by it.
+/// has much to hear doesn't wait in vain. Nodes at rest need no time, and their logs don't grow by it. Nor do nodes without a
+/// majority, since nothing is decided there.
 fn run<R: Wait + Clock, N: ServedNode + Drop>(
     rt: &R,
     mut nodes: Vec<Watched<N>>,
-    board: &Board,
+    state: &ServiceState,
     every: Duration,
 ) {
     let mut put_off = 0;
     for _ in rt.forever() {
-        if board.pauses(rt, every) {
+        if state.stages().pauses(rt, every) {
             return;
         }
         // A thread that makes a long step holds the lock, and this waits for it.
-        let are_at_rest = are_at_rest(&nodes);
+        let look = look_at(&nodes);
         if put_off < MOST_PUT_OFF && has_unheard(&nodes) {
             put_off += 1;
             continue;
         }
         put_off = 0;
-        if !are_at_rest {
+        if !look.are_at_rest && is_majority(look.up, nodes.len()) {
             tick_all(&mut nodes);
         }
     }
@@ -87,9 +102,10 @@ fn has_unheard<N: ServedNode>(nodes: &[Watched<N>]) -> bool {
     nodes.iter().any(|watched| watched.node.has_unheard())
 }
 
-/// Whether nobody waits for a node, and all that are up have come equally far. Looks at each node.
-fn are_at_rest<N: ServedNode>(nodes: &[Watched<N>]) -> bool {
+/// Looks at each node.
+fn look_at<N: ServedNode>(nodes: &[Watched<N>]) -> Look {
     let mut front = None;
+    let mut up: usize = 0;
     let mut are_at_rest = true;
     for watched in nodes {
         match watched.node.status() {
@@ -97,11 +113,12 @@ fn are_at_rest<N: ServedNode>(nodes: &[Watched<N>]) -> bool {
                 let is_apart = front.is_some_and(|slot| slot != status.slot_out);
                 are_at_rest = are_at_rest && !status.waiting && !is_apart;
                 front = Some(status.slot_out);
+                up = up.saturating_add(1);
             }
             _ => {}
         }
     }
-    are_at_rest
+    Look { up, are_at_rest }
 }
 
 fn tick_all<N: ServedNode>(nodes: &mut [Watched<N>]) {

@@ -100,6 +100,18 @@ pub fn answer<R: Net<Stream = TcpStream>>(
     read_all(alloc, &stream)
 }
 
+/// What a port answers to these bytes, up to the end of the connection, which the service closes.
+pub fn whole_answer<R: Net<Stream = TcpStream>>(
+    rt: &R,
+    alloc: Global,
+    port: u16,
+    bytes: &[u8],
+) -> Result<Vec<u8>, Fail> {
+    let stream = connect(rt, port)?;
+    send(&stream, bytes)?;
+    read_all(alloc, &stream)
+}
+
 /// What a node says to a client that sends these lines, behind the greeting.
 pub fn replies<R: Net<Stream = TcpStream>>(
     rt: &R,

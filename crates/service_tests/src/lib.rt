@@ -2,13 +2,19 @@
 #![tactic(auto)]
 
 #[cfg(test)]
+mod bounds_tests;
+#[cfg(test)]
 mod clients;
 #[cfg(test)]
 mod hostile_tests;
 #[cfg(test)]
 mod operator_tests;
 #[cfg(test)]
+mod operators_tests;
+#[cfg(test)]
 mod plays;
+#[cfg(test)]
+mod ports_tests;
 #[cfg(test)]
 mod running;
 #[cfg(test)]

@@ -1,6 +1,6 @@
 //! What an operator is answered.
 
-use crate::plays::Row::{Asks, Ctl, Misled, Operator, Says, Shows};
+use crate::plays::Row::{Asks, AsksAtEnd, Ctl, Misled, Operator, Says, Shows};
 use crate::plays::{STOP, Scene, play};
 use crate::running::{file, remove, start};
 use std::test::*;
@@ -10,15 +10,18 @@ const REQUESTS: Scene = Scene {
     // No mailbox file: it has no From line.
     mailbox: "hello\n",
     rows: &[
-        Asks("", "bad request\n"),
+        AsksAtEnd("", "bad request\n"),
         Asks("\n", "bad request\n"),
-        Asks("status", "bad request\n"),
+        AsksAtEnd("status", "bad request\n"),
         Asks("status \n", "bad request\n"),
         Asks("status 1\n", "bad request\n"),
         Asks("status\r\n", "bad request\n"),
         Asks("STATUS\n", "bad request\n"),
         Asks(" status\n", "bad request\n"),
-        Asks("stop now\n", "bad request\n"),
+        Asks("stop soon\n", "bad request\n"),
+        Asks("stop wait now\n", "bad request\n"),
+        Asks("kick zoe\n", "kicked 0\n"),
+        Asks("sessions\n", "end\n"),
         Asks("halt\n", "bad request\n"),
         Asks("USER alice\r\n", "bad request\n"),
         Asks("crash\n", "bad request\n"),
@@ -67,14 +70,15 @@ const DELIVERIES: Scene = Scene {
             "deliver 1 zoe 7\nFrom x\n",
             "op zoe 1/1 no such user\nend\n",
         ),
-        Asks("deliver 1 alice 8\nFrom x\n", "bad request\n"),
-        Asks("deliver 4 alice 8\nFrom x\n", "bad request\n"),
+        AsksAtEnd("deliver 1 alice 8\nFrom x\n", "bad request\n"),
+        // Nothing is read of a file for a node that isn't there.
+        Asks("deliver 4 alice 8\nFrom x\n", "down\n"),
         Asks("deliver 1 alice 05\nFrom ", "bad request\n"),
         Asks("deliver 1 alice -5\nFrom ", "bad request\n"),
         Asks("deliver 1 alice 1073741825\n", "bad request\n"),
-        Asks("deliver 1 alice 1073741824\nFrom ", "bad request\n"),
+        AsksAtEnd("deliver 1 alice 1073741824\nFrom ", "bad request\n"),
         Asks("deliver 1 alice 5\nhello", "bad mbox\n"),
-        Asks("deliver 4 alice 5\nhello", "bad mbox\n"),
+        Asks("deliver 4 alice 5\nhello", "down\n"),
         Asks("deliver 1 alice 1073741824\nhello", "bad mbox\n"),
         Asks("deliver 1 alice 3\nFro", "bad mbox\n"),
         Asks("deliver 1 alice 5 \nFrom ", "bad request\n"),

@@ -1,6 +1,8 @@
 //! Scenes: what operators and POP3 clients do at a service, row by row, and what each is told.
 
-use crate::clients::{GREETING, answer, connect, heard_at_last, line_after, read_all, send};
+use crate::clients::{
+    GREETING, answer, connect, heard_at_last, line_after, read_all, send, whole_answer,
+};
 use crate::running::{Running, ctl, file, remove};
 use std::alloc::Global;
 use std::io::{Eprint, Read};
@@ -25,8 +27,10 @@ pub enum Row {
     Shows(&'static str),
     /// `maildropd ctl status` at a node's POP3 port ends with this status.
     Misled(u16, u8),
-    /// The operator's port answers to these bytes and their end with these.
+    /// The operator's port answers to these bytes with these.
     Asks(&'static str, &'static str),
+    /// The same for bytes and their end.
+    AsksAtEnd(&'static str, &'static str),
     /// A client comes to a node, and is greeted.
     Comes(u16),
     /// A client comes to a node in vain: it is not greeted, and its connection ends, if it gets one.
@@ -130,8 +134,20 @@ impl Stage {
         ctl(rt, self.alloc, self.service.node(node), &["status"]).status == status
     }
 
-    /// Whether the operator's port answers to these bytes and their end with these.
+    /// Whether the operator's port answers to these bytes with these.
     fn answers<R: Net<Stream = TcpStream>>(
+        &self,
+        rt: &R,
+        bytes: &str,
+        lines: &str,
+    ) -> Result<bool, Fail> {
+        let port = self.service.ctl_port;
+        let said = whole_answer(rt, self.alloc, port, bytes.as_bytes())?;
+        Ok(said.as_slice() == lines.as_bytes())
+    }
+
+    /// Whether the operator's port answers to these bytes and their end with these.
+    fn answers_at_end<R: Net<Stream = TcpStream>>(
         &self,
         rt: &R,
         bytes: &str,
@@ -197,6 +213,7 @@ impl Stage {
             Row::Shows(part) => self.shows(rt, part),
             Row::Misled(node, status) => Ok(self.is_misled(rt, node, status)),
             Row::Asks(bytes, lines) => self.answers(rt, bytes, lines),
+            Row::AsksAtEnd(bytes, lines) => self.answers_at_end(rt, bytes, lines),
             Row::Comes(node) => self.come(rt, node),
             Row::Refused(node) => self.is_refused(rt, node),
             Row::Operator => self.come_as_operator(rt),

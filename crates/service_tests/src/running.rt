@@ -1,10 +1,11 @@
 //! Services that run while a test looks on.
 
 use crate::clients::{PATIENCE, local};
-use service::{ServeOptions, ctl_run, serve_run};
+use service::{CtlOptions, ServeOptions, ctl_run, serve_run};
 use std::alloc::Global;
+use std::fs::File;
 use std::io::{Eprint, Read, Write};
-use std::net::{Net, OpenListener, TcpListener, TcpStream};
+use std::net::{IpAddr, Ipv4Addr, Net, OpenListener, TcpListener, TcpStream};
 use std::random::RandomSource;
 use std::rt::Files;
 use std::sync::atomic::{AtomicBool, Ordering};
@@ -41,12 +42,15 @@ pub struct Told {
     pub lines: Vec<u8>,
 }
 
-/// The options of a service at these ports.
+/// The options of a service of three nodes at these ports, whose sessions may be silent for ever.
 pub fn options<'a>(accounts: &'a str, pop_port: u16, ctl_port: u16) -> ServeOptions<'a> {
     ServeOptions {
         accounts,
-        pop_port: u64::from(pop_port),
-        ctl_port: u64::from(ctl_port),
+        port: None,
+        pop_port: Some(u64::from(pop_port)),
+        listen: IpAddr::V4(Ipv4Addr::LOCALHOST),
+        ctl_port: Some(u64::from(ctl_port)),
+        ctl_socket: None,
         nodes: 3,
         window: 10,
         messages: 3,
@@ -54,6 +58,10 @@ pub fn options<'a>(accounts: &'a str, pop_port: u16, ctl_port: u16) -> ServeOpti
         ids: 1_000_000_000,
         host: b"localhost",
         tick_ms: 20,
+        idle_seconds: 0,
+        no_majority_seconds: 0,
+        delivery_bytes: 1 << 30,
+        log: None,
     }
 }
 
@@ -133,6 +141,16 @@ pub struct Plan {
     accounts: String,
     pop_port: u16,
     ctl_port: u16,
+    /// For how many seconds its sessions may be silent, 0 for ever.
+    idle_seconds: u64,
+    /// The path of its log, if it has one.
+    log: Option<String>,
+    /// The path of the socket at which its operator comes, if that is no port.
+    socket: Option<String>,
+    /// How many bytes the files have that are delivered at a time.
+    delivery_bytes: u64,
+    /// Whether it has one port for all nodes, that of node 1, and ends after a second without a majority.
+    has_one_port: bool,
     has_ended: Arc<AtomicBool>,
 }
 
@@ -155,9 +173,90 @@ pub fn planned<R: Net<Listener = TcpListener, Stream = TcpStream> + RandomSource
         accounts: file(rt, alloc, "accounts", accounts.as_bytes())?,
         pop_port: ports.first,
         ctl_port: ports.ctl(),
+        idle_seconds: 0,
+        log: None,
+        socket: None,
+        delivery_bytes: 1 << 30,
+        has_one_port: false,
         has_ended: Arc::try_clone(&has_ended)?,
     };
     Ok((plan, Site { ports, has_ended }))
+}
+
+/// The same service with a log of this path, whose sessions may be silent for a second.
+pub fn bounded<R: Net<Listener = TcpListener, Stream = TcpStream> + RandomSource + Files>(
+    rt: &R,
+    alloc: Global,
+    accounts: &str,
+    log: &str,
+) -> Result<(Plan, Site), Fail> {
+    let log = String::from_str(alloc, log)?;
+    let (mut plan, site) = planned(rt, alloc, accounts)?;
+    plan.idle_seconds = 1;
+    plan.log = Some(log);
+    Ok((plan, site))
+}
+
+/// The same service, to which files of so many bytes come at a time.
+pub fn with_few_bytes<R: Net<Listener = TcpListener, Stream = TcpStream> + RandomSource + Files>(
+    rt: &R,
+    alloc: Global,
+    accounts: &str,
+    delivery_bytes: u64,
+) -> Result<(Plan, Site), Fail> {
+    let (mut plan, site) = planned(rt, alloc, accounts)?;
+    plan.delivery_bytes = delivery_bytes;
+    Ok((plan, site))
+}
+
+/// The same service, whose operator comes by a socket of this path.
+pub fn at_socket<R: Net<Listener = TcpListener, Stream = TcpStream> + RandomSource + Files>(
+    rt: &R,
+    alloc: Global,
+    accounts: &str,
+    path: &str,
+) -> Result<(Plan, Site), Fail> {
+    let path = String::from_str(alloc, path)?;
+    let (mut plan, site) = planned(rt, alloc, accounts)?;
+    plan.socket = Some(path);
+    Ok((plan, site))
+}
+
+/// The same service at one port for all nodes, which ends after a second without a majority.
+pub fn at_one_port<R: Net<Listener = TcpListener, Stream = TcpStream> + RandomSource + Files>(
+    rt: &R,
+    alloc: Global,
+    accounts: &str,
+) -> Result<(Plan, Site), Fail> {
+    let (mut plan, site) = planned(rt, alloc, accounts)?;
+    plan.has_one_port = true;
+    Ok((plan, site))
+}
+
+/// A text, if there is one.
+fn text_of(text: &Option<String>) -> Option<&str> {
+    match text {
+        Some(text) => Some(text.as_str()),
+        None => None,
+    }
+}
+
+/// The options of a plan.
+fn options_of(plan: &Plan) -> ServeOptions<'_> {
+    let mut options = options(plan.accounts.as_str(), plan.pop_port, plan.ctl_port);
+    options.idle_seconds = plan.idle_seconds;
+    options.delivery_bytes = plan.delivery_bytes;
+    options.log = text_of(&plan.log);
+    options.ctl_socket = text_of(&plan.socket);
+    if options.ctl_socket.is_some() {
+        options.ctl_port = None;
+    }
+    if plan.has_one_port {
+        options.port = Some(u64::from(plan.pop_port.saturating_add(1)));
+        options.pop_port = None;
+        options.no_majority_seconds = 1;
+    }
+    options
 }
 
 /// Runs a service. Gives its exit status and what it wrote.
@@ -171,11 +270,11 @@ pub fn run<
         + Send
         + Sync
         + 'static
-        + Files
+        + Files<File = File>
         + Eprint,
 >(rt: R, alloc: Global, plan: &Plan) -> (u8, Vec<u8>) {
     let mut written = Vec::new(alloc);
-    let options = options(plan.accounts.as_str(), plan.pop_port, plan.ctl_port);
+    let options = options_of(plan);
     let status = serve_run(rt, alloc, &mut written, &options);
     remove(&rt, plan.accounts.as_str());
     plan.has_ended.store(true, Ordering::SeqCst);
@@ -243,13 +342,13 @@ pub fn begun<R: Net<Stream = TcpStream> + Threads + Clock>(
     }
 }
 
-/// Starts a service of three nodes with these accounts, and waits until it takes requests. A macro, since a test alone may
-/// give a thread all that a service asks of the system.
-macro_rules! start {
-    ($rt:ident, $alloc:ident, $accounts:expr) => {{
+/// Starts a service that is planned so, and waits until it takes requests. A macro, since a test alone may give a thread all
+/// that a service asks of the system.
+macro_rules! start_planned {
+    ($rt:ident, $alloc:ident, $planned:expr) => {{
         let mut service = None;
         for _ in 0..crate::running::STARTS {
-            let (plan, site) = crate::running::planned(&$rt, $alloc, $accounts)?;
+            let (plan, site) = $planned?;
             let thread = std::thread::spawn(&$rt, move || crate::running::run($rt, $alloc, &plan))
                 .map_err(|_| "no thread")?;
             service = crate::running::begun(&$rt, $alloc, site, thread)?;
@@ -261,7 +360,42 @@ macro_rules! start {
     }};
 }
 
+/// Starts a service of three nodes with these accounts, and waits until it takes requests.
+macro_rules! start {
+    ($rt:ident, $alloc:ident, $accounts:expr) => {
+        crate::running::start_planned!(
+            $rt,
+            $alloc,
+            crate::running::planned(&$rt, $alloc, $accounts)
+        )
+    };
+}
+
 pub(crate) use start;
+pub(crate) use start_planned;
+
+/// Calls `maildropd ctl` with these options, and these bytes on its standard input.
+pub fn ctl_with<R: Net<Listener = TcpListener, Stream = TcpStream> + Files + Eprint>(
+    rt: &R,
+    alloc: Global,
+    input: &[u8],
+    options: &CtlOptions<'_>,
+) -> Told {
+    let mut lines = Vec::new(alloc);
+    let mut reader = input;
+    let status = ctl_run(rt, alloc, &mut reader, &mut lines, options);
+    Told { status, lines }
+}
+
+/// The options of `maildropd ctl` at a port, with these words.
+pub fn at_port<'a>(port: u16, words: &'a [&'a str]) -> CtlOptions<'a> {
+    CtlOptions {
+        port: Some(u64::from(port)),
+        socket: None,
+        waits: false,
+        words,
+    }
+}
 
 /// Calls `maildropd ctl` with these words.
 pub fn ctl<R: Net<Listener = TcpListener, Stream = TcpStream> + Files + Eprint>(
@@ -270,9 +404,7 @@ pub fn ctl<R: Net<Listener = TcpListener, Stream = TcpStream> + Files + Eprint>(
     port: u16,
     words: &[&str],
 ) -> Told {
-    let mut lines = Vec::new(alloc);
-    let status = ctl_run(rt, alloc, &mut lines, u64::from(port), words);
-    Told { status, lines }
+    ctl_with(rt, alloc, &[], &at_port(port, words))
 }
 
 impl Told {
@@ -286,6 +418,11 @@ impl Running {
     /// The port of a node.
     pub fn node(&self, number: u16) -> u16 {
         self.ports.first.saturating_add(number)
+    }
+
+    /// The port for all nodes, if the service has one.
+    pub fn port_for_all(&self) -> u16 {
+        self.node(1)
     }
 
     /// Calls `maildropd ctl` with these words.

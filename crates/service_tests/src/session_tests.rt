@@ -191,8 +191,8 @@ const CRASH: Scene = Scene {
         Ctl("break 2 alice", 3, "down\n"),
         Ctl("deliver 2 alice FILE", 3, "down\n"),
         Ctl("deliver 2 alice FILE monday", 3, "down\n"),
-        Asks("deliver 2 alice 0\n", "end\n"),
-        Asks("deliver 2 alice 5\nhello", "bad mbox\n"),
+        Asks("deliver 2 alice 0\n", "down\n"),
+        Asks("deliver 2 alice 5\nhello", "down\n"),
         Shows("\nnode 2 down\nnode 3 up "),
         Says(
             0,

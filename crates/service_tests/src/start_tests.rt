@@ -2,7 +2,7 @@
 
 use crate::clients::local;
 use crate::running::{file, free_ports, options, remove};
-use service::{ServeOptions, ctl_run, serve_run};
+use service::{CtlOptions, ServeOptions, ctl_run, serve_run};
 use std::alloc::Global;
 use std::io::Eprint;
 use std::net::{Net, TcpListener, TcpStream};
@@ -69,8 +69,8 @@ const EDGES: &[(Choice, u64, u8)] = &[
 fn changed<'a>(options: &ServeOptions<'a>, choice: Choice, value: u64) -> ServeOptions<'a> {
     let mut changed = *options;
     match choice {
-        Choice::PopPort => changed.pop_port = value,
-        Choice::CtlPort => changed.ctl_port = value,
+        Choice::PopPort => changed.pop_port = Some(value),
+        Choice::CtlPort => changed.ctl_port = Some(value),
         Choice::Nodes => changed.nodes = value,
         Choice::Window => changed.window = value,
         Choice::TickMs => changed.tick_ms = value,
@@ -135,6 +135,19 @@ const WORDS: &[(&str, u8)] = &[
         3,
     ),
     ("deliver/1/alice/absent/k/k", 2),
+    ("stop/now", 1),
+    ("stop/wait", 2),
+    ("sessions", 1),
+    ("stats", 1),
+    ("kick/alice", 1),
+    ("kick", 2),
+    // The words of `put` have statuses of their own: 64 for words that are none, and 75 if nobody listens.
+    ("put", 64),
+    ("put/0/alice", 75),
+    ("put/9/alice/any key is one", 75),
+    ("put/10/alice", 64),
+    ("put/1/a b", 64),
+    ("put/1/alice/k/k", 64),
 ];
 
 /// The exit status of `maildropd ctl` with these words. It prints `bad request` where the status is 3, and else nothing.
@@ -148,8 +161,15 @@ fn status_of<R: Net<Listener = TcpListener, Stream = TcpStream> + Files + Eprint
     for word in words.split('/') {
         parts.push(word)?;
     }
+    let options = CtlOptions {
+        port: Some(port),
+        socket: None,
+        waits: false,
+        words: parts.as_slice(),
+    };
     let mut printed = Vec::new(alloc);
-    let status = ctl_run(rt, alloc, &mut printed, port, parts.as_slice());
+    let mut input: &[u8] = &[];
+    let status = ctl_run(rt, alloc, &mut input, &mut printed, &options);
     let wanted = if status == 3 { "bad request\n" } else { "" };
     if printed.as_slice() != wanted.as_bytes() {
         return Err(Fail::from("other lines"));

@@ -1,0 +1,5 @@
+use Rattle.service.proofs.delivery.message_in.Given as goal
+
+-- so many bytes are left
+abbrev pub decreases-loop-left : goal.decreases-loop-left
+decreases-loop-left g l = l.left

@@ -1,0 +1,65 @@
+//! Operations that a node is asked for on behalf of a client who may go.
+
+use crate::operator_limits::LOOK_MS;
+use crate::operator_stream::OperatorStream;
+use crate::served_node::ServedNode;
+use maildrop::{Name, Op, Outcome, Ticket};
+use std::sync::Wait;
+use std::time::Duration;
+
+/// Why an operation has no outcome.
+#[derive(Clone, Copy, Debug, PartialEq, Eq)]
+pub(crate) enum Unanswered {
+    /// The node has stopped. The operation may have been performed or not.
+    Stopped,
+    /// The client has gone, and nobody awaits the outcome any more.
+    Gone,
+}
+
+/// Whether a client has gone. It counts as gone once it seems so twice in a row, so whoever has sent all that it sends is
+/// still answered within the time between.
+#[derive(Clone, Copy, Debug, PartialEq, Eq)]
+pub(crate) struct Absence {
+    seems_gone: bool,
+}
+
+impl Absence {
+    /// Of a client that is there.
+    pub(crate) fn new() -> Self {
+        Absence { seems_gone: false }
+    }
+
+    /// Looks once more. Returns whether the client has gone.
+    pub(crate) fn look(&mut self, stream: &OperatorStream) -> bool {
+        let seemed_gone = self.seems_gone;
+        self.seems_gone = stream.has_gone();
+        seemed_gone && self.seems_gone
+    }
+}
+
+/// Asks a node for an operation, and waits for its outcome for as long as the node is up and the client of the connection is
+/// there.
+pub(crate) fn ask<R: Wait, N: ServedNode>(
+    rt: &R,
+    node: &N,
+    stream: &OperatorStream,
+    user: Name,
+    op: Op,
+) -> Result<(Ticket, Outcome), Unanswered> {
+    let Some(ticket) = node.submit(user, op) else {
+        return Err(Unanswered::Stopped);
+    };
+    let mut absence = Absence::new();
+    for _ in rt.forever() {
+        match node.outcome_within(user, ticket, Duration::from_millis(LOOK_MS)) {
+            Ok(Some(outcome)) => return Ok((ticket, outcome)),
+            Ok(None) => {}
+            Err(_) => return Err(Unanswered::Stopped),
+        }
+        if absence.look(stream) {
+            node.forget(user, ticket);
+            return Err(Unanswered::Gone);
+        }
+    }
+    unreachable!()
+}

@@ -1,0 +1,164 @@
+//! What all threads of a service share.
+ghost use Rattle.std.specs.Prelude.{◌≡◌, IfOk};
+ghost use Rattle.pop3_wire.specs.Reply.{invalid_login};
+
+use crate::counters::Counters;
+use crate::event_log::EventLog;
+use crate::open_sessions::OpenSessions;
+use crate::stages::Stages;
+use crate::transcripts::{KeptTranscripts, Transcripts};
+use crate::verdicts::Verdicts;
+use apop::{Accounts, Stamp, stamp};
+use ballot::{Items, Memory};
+use pop3_wire::Reply;
+use session::Transcript;
+use std::alloc::Global;
+use std::random::RandomSource;
+use std::sync::{Mutex, Wait};
+use std::time::Clock;
+
+/// What all threads of a service share: who may log in, how far the service has come, which sessions are open, and what
+/// those left that have ended.
+#[derive(Drop)]
+pub(crate) struct ServiceState {
+    accounts: Accounts,
+    host: Items<u8>,
+    /// What a login that is refused is told.
+    refusal: Items<u8>,
+    idle_seconds: u64,
+    stages: Stages,
+    verdicts: Verdicts,
+    /// How many sessions were greeted.
+    greeted: Mutex<u64>,
+    transcripts: Mutex<Transcripts>,
+    sessions: OpenSessions,
+    counters: Counters,
+    log: EventLog,
+}
+
+/// What a login that is refused is told.
+fn refusal_of(alloc: Global) -> Result<Items<u8>, Memory>
+    ensures { IfOk result (λ refusal. refusal ≡ invalid_login) }
+{
+    let reply: Reply<'_, Global> = Reply::InvalidLogin;
+    let text = reply.text(alloc)?;
+    Ok(Items::from_vec(text))
+}
+
+impl ServiceState {
+    /// Of a service that has seen nobody yet, whose sessions may be silent for so many seconds, or for ever if that is 0.
+    pub(crate) fn new<R: Clock>(
+        rt: &R,
+        alloc: Global,
+        accounts: Accounts,
+        host: Items<u8>,
+        idle_seconds: u64,
+        log: EventLog,
+    ) -> Result<Self, Memory> {
+        let refusal = refusal_of(alloc)?;
+        Ok(ServiceState {
+            accounts,
+            host,
+            refusal,
+            idle_seconds,
+            stages: Stages::new(),
+            verdicts: Verdicts::new(),
+            greeted: Mutex::new(0),
+            transcripts: Mutex::new(Transcripts::new(alloc)),
+            sessions: OpenSessions::new(alloc),
+            counters: Counters::new(rt),
+            log,
+        })
+    }
+
+    /// Who may log in.
+    pub(crate) fn accounts(&self) -> &Accounts {
+        &self.accounts
+    }
+
+    /// What a login that is refused is told.
+    pub(crate) fn refusal(&self) -> &[u8] {
+        self.refusal.get()
+    }
+
+    /// For how many seconds a session that is logged in may send no whole line: 0 for ever.
+    pub(crate) fn idle_seconds(&self) -> u64 {
+        self.idle_seconds
+    }
+
+    /// How far the service has come.
+    pub(crate) fn stages(&self) -> &Stages {
+        &self.stages
+    }
+
+    /// The verdict on the run, for those who wait for it.
+    pub(crate) fn verdicts(&self) -> &Verdicts {
+        &self.verdicts
+    }
+
+    /// The sessions that are open.
+    pub(crate) fn sessions(&self) -> &OpenSessions {
+        &self.sessions
+    }
+
+    /// What the service has done so far.
+    pub(crate) fn counters(&self) -> &Counters {
+        &self.counters
+    }
+
+    /// Where events are written.
+    pub(crate) fn log(&self) -> &EventLog {
+        &self.log
+    }
+
+    /// The answer to an operator who asks what the service has done: a line for each number, and `end`.
+    pub(crate) fn stats<R: Wait + Clock>(
+        &self,
+        rt: &R,
+        alloc: Global,
+        slots: u64,
+    ) -> Result<Vec<u8>, Memory> {
+        let open = self.sessions.count(rt);
+        self.counters.stats(rt, open, slots).text(alloc)
+    }
+
+    /// The number of a new session, counted from 1, and the timestamp of its greeting: 16 random hexadecimal digits, a dot
+    /// and the number, before the service's host. Returns nothing if the system has no random bytes.
+    pub(crate) fn new_stamp<R: RandomSource + Wait>(
+        &self,
+        rt: &R,
+        alloc: Global,
+    ) -> Option<(u64, Stamp)> {
+        let number = self.next_number(rt);
+        let mut bytes = [0u8; 8];
+        rt.fill_bytes(&mut bytes).ok()?;
+        let digits = u64::from_be_bytes(bytes);
+        let nonce = format!(in alloc; "{digits:016x}.{number}").ok()?;
+        match stamp(nonce.as_bytes(), self.host.get()) {
+            Some(stamp) => Some((number, stamp)),
+            None => None,
+        }
+    }
+
+    /// The number of a new session.
+    fn next_number<R: Wait>(&self, rt: &R) -> u64 {
+        let mut greeted = self.greeted.lock(rt);
+        let number = greeted.wrapping_add(1);
+        *greeted = number;
+        number
+    }
+
+    /// Keeps what a session left.
+    pub(crate) fn keep<R: Wait>(&self, rt: &R, transcript: Transcript) {
+        self.transcripts.lock(rt).add(transcript);
+    }
+
+    /// The transcripts of the sessions that have ended, or nothing if there was no memory for one of them.
+    pub(crate) fn take_transcripts<R: Wait>(
+        &self,
+        rt: &R,
+        alloc: Global,
+    ) -> Option<KeptTranscripts> {
+        self.transcripts.lock(rt).take(alloc)
+    }
+}

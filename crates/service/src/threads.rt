@@ -1,0 +1,261 @@
+//! The threads of a service, from its start to its end.
+ghost use Rattle.std.specs.Prelude.{◌≡◌, Some, IfErr};
+ghost use Rattle.service.specs.Faults.{IsFaultAt, IsPopFault, IsPortFault};
+
+use crate::fault::Fault;
+use crate::handler::Handler;
+use crate::listener::{Port, listen_at, start_reserve, start_serving, start_taking};
+use crate::operator::OperatorHandler;
+use crate::operator_stream::{OperatorListener, OperatorStream};
+use crate::options::Settings;
+use crate::pop::PopHandler;
+use crate::served_node::ServedNode;
+use crate::state::ServiceState;
+use crate::system::System;
+use crate::{majority, ticker};
+use ballot::NodeId;
+use maildrop::{Op, Outcome};
+use session::Desk;
+use std::alloc::Global;
+use std::net::{IpAddr, TcpListener, TcpStream};
+use std::rt::Files;
+use std::sync::{Arc, Wait};
+use std::thread::JoinHandle;
+use std::time::Duration;
+
+/// The most POP3 connections at a port at a time.
+const MOST_SESSIONS: usize = 4_096;
+
+/// The most connections of operators at a time.
+const MOST_OPERATORS: usize = 1_024;
+
+/// How many operators for whom there is no thread, no place or no memory wait for the thread of the reserve.
+const MOST_IN_RESERVE: usize = 16;
+
+/// A port of POP3 clients.
+#[derive(Drop)]
+struct PopPort {
+    /// The node whose own it is.
+    own: Option<NodeId>,
+    port: Arc<Port<TcpStream, TcpListener>>,
+}
+
+/// The ports of a service: those of POP3 clients, and the operator's.
+#[derive(Drop)]
+pub(crate) struct Ports {
+    pop: Vec<PopPort>,
+    ctl: Arc<Port<OperatorStream, OperatorListener>>,
+}
+
+/// Listens at a port of POP3 clients.
+fn open_pop_port<R: System>(
+    rt: &R,
+    alloc: Global,
+    address: IpAddr,
+    number: u16,
+    own: Option<NodeId>,
+    ports: &mut Vec<PopPort>,
+) -> Result<(), Fault>
+    ensures { IfErr result (λ fault. IsFaultAt address number fault) }
+{
+    let listener = listen_at(rt, address, number)?;
+    let port = Port::new(alloc, listener, MOST_SESSIONS, 0)?;
+    let port = Arc::new(alloc, port)?;
+    ports.push(PopPort { own, port })?;
+    Ok(())
+}
+
+/// Listens at the port of each node.
+fn open_node_ports<R: System>(
+    rt: &R,
+    alloc: Global,
+    settings: &Settings,
+    below: u16,
+    ports: &mut Vec<PopPort>,
+) -> Result<(), Fault>
+    requires { settings.now.pop_port ≡ Some below }
+    ensures { IfErr result (λ fault. IsPopFault settings.now fault) }
+{
+    for node in 1..=settings.cluster.get() {
+        let number = below.saturating_add(u16::from(node));
+        open_pop_port(rt, alloc, settings.listen, number, NodeId::new(node), ports)?;
+    }
+    Ok(())
+}
+
+/// Listens at the ports of POP3 clients.
+fn open_pop_ports<R: System>(
+    rt: &R,
+    alloc: Global,
+    settings: &Settings,
+    ports: &mut Vec<PopPort>,
+) -> Result<(), Fault>
+    ensures { IfErr result (λ fault. IsPopFault settings.now fault) }
+{
+    if let Some(number) = settings.port {
+        open_pop_port(rt, alloc, settings.listen, number, None, ports)?;
+    }
+    if let Some(below) = settings.pop_port {
+        open_node_ports(rt, alloc, settings, below, ports)?;
+    }
+    Ok(())
+}
+
+impl Ports {
+    /// Listens at all ports of a service. If it has no port for its operator, it has this socket.
+    pub(crate) fn open<R: System + Files>(
+        rt: &R,
+        alloc: Global,
+        settings: &Settings,
+        socket: Option<&str>,
+    ) -> Result<Ports, Fault>
+        ensures { IfErr result (λ fault. IsPortFault settings.now fault) }
+    {
+        let mut pop = Vec::new(alloc);
+        open_pop_ports(rt, alloc, settings, &mut pop)?;
+        let listener = OperatorListener::listen(rt, settings.ctl_port, socket)?;
+        let ctl = Port::new(alloc, listener, MOST_OPERATORS, MOST_IN_RESERVE)?;
+        let ctl = Arc::new(alloc, ctl)?;
+        Ok(Ports { pop, ctl })
+    }
+
+    /// Lets no POP3 client come any more.
+    pub(crate) fn close_pop<R: Wait>(&self, rt: &R) {
+        for port in &self.pop {
+            port.port.close(rt);
+        }
+    }
+
+    /// Lets no operator come any more. Those who are there are heard no longer.
+    pub(crate) fn close_ctl<R: Wait>(&self, rt: &R) {
+        self.ctl.close(rt);
+    }
+}
+
+/// The threads of a service.
+#[derive(Drop)]
+pub(crate) struct ServiceThreads {
+    /// Those of the POP3 ports. They end once these are closed and their sessions have ended.
+    pub(crate) sessions: Vec<JoinHandle<()>>,
+    /// Those that look after the nodes. They end once the sessions have ended.
+    pub(crate) nodes: Vec<JoinHandle<()>>,
+    /// Those of the operator's port. They end once it is closed and its connections have ended.
+    pub(crate) operators: Vec<JoinHandle<()>>,
+}
+
+/// Starts all threads of a service, and then has connections taken. If a thread can't be had, the service is stopped before
+/// it takes any.
+pub(crate) fn start<R: System, N: ServedNode + Desk<Op, Outcome> + Send + Sync + Drop + 'static>(
+    rt: R,
+    alloc: Global,
+    nodes: &Arc<Vec<N>>,
+    ports: &Ports,
+    state: &Arc<ServiceState>,
+    settings: &Settings,
+) -> (ServiceThreads, Result<(), Fault>) {
+    let mut threads = ServiceThreads {
+        sessions: Vec::new(alloc),
+        nodes: Vec::new(alloc),
+        operators: Vec::new(alloc),
+    };
+    let started = start_all(rt, alloc, nodes, ports, state, settings, &mut threads);
+    if started.is_ok() {
+        state.stages().begin(&rt);
+    } else {
+        state.stages().stop(&rt);
+    }
+    (threads, started)
+}
+
+fn start_all<R: System, N: ServedNode + Desk<Op, Outcome> + Send + Sync + Drop + 'static>(
+    rt: R,
+    alloc: Global,
+    nodes: &Arc<Vec<N>>,
+    ports: &Ports,
+    state: &Arc<ServiceState>,
+    settings: &Settings,
+    threads: &mut ServiceThreads,
+) -> Result<(), Fault> {
+    start_nodes(rt, alloc, nodes, state, settings, &mut threads.nodes)?;
+    for pop in &ports.pop {
+        start_pop(rt, alloc, nodes, pop, state, &mut threads.sessions)?;
+    }
+    start_operators(
+        rt,
+        alloc,
+        nodes,
+        &ports.ctl,
+        state,
+        settings,
+        &mut threads.operators,
+    )?;
+    for pop in &ports.pop {
+        start_taking(rt, &pop.port, state, &mut threads.sessions)?;
+    }
+    start_taking(rt, &ports.ctl, state, &mut threads.operators)
+}
+
+/// Starts what looks after the nodes.
+fn start_nodes<R: System, N: ServedNode + Send + Sync + Drop + 'static>(
+    rt: R,
+    alloc: Global,
+    nodes: &Arc<Vec<N>>,
+    state: &Arc<ServiceState>,
+    settings: &Settings,
+    threads: &mut Vec<JoinHandle<()>>,
+) -> Result<(), Fault> {
+    let tick = Duration::from_millis(settings.tick_ms);
+    ticker::start(rt, alloc, nodes, state, tick, threads)?;
+    if settings.no_majority_seconds > 0 {
+        let limit_ms = settings.no_majority_seconds.saturating_mul(1_000);
+        majority::start(rt, nodes, state, limit_ms, threads)?;
+    }
+    Ok(())
+}
+
+/// Starts what serves the sessions of a port.
+fn start_pop<R: System, N: ServedNode + Desk<Op, Outcome> + Send + Sync + Drop + 'static>(
+    rt: R,
+    alloc: Global,
+    nodes: &Arc<Vec<N>>,
+    pop: &PopPort,
+    state: &Arc<ServiceState>,
+    threads: &mut Vec<JoinHandle<()>>,
+) -> Result<(), Fault> {
+    let handler = PopHandler {
+        rt,
+        alloc,
+        nodes: Arc::try_clone(nodes)?,
+        own: pop.own,
+        state: Arc::try_clone(state)?,
+    };
+    start_serving(rt, alloc, &pop.port, handler, threads)
+}
+
+/// Starts what serves operators.
+fn start_operators<R: System, N: ServedNode + Desk<Op, Outcome> + Send + Sync + Drop + 'static>(
+    rt: R,
+    alloc: Global,
+    nodes: &Arc<Vec<N>>,
+    port: &Arc<Port<OperatorStream, OperatorListener>>,
+    state: &Arc<ServiceState>,
+    settings: &Settings,
+    threads: &mut Vec<JoinHandle<()>>,
+) -> Result<(), Fault> {
+    let handler = OperatorHandler::new(
+        rt,
+        alloc,
+        Arc::try_clone(nodes)?,
+        Arc::try_clone(state)?,
+        settings.delivery_bytes,
+    )?;
+    start_reserve(rt, port, handler.share()?, threads)?;
+    start_serving(rt, alloc, port, handler, threads)
+}
+
+/// Waits until these threads have ended.
+pub(crate) fn join_all<R: System>(rt: &R, threads: Vec<JoinHandle<()>>) {
+    for thread in threads {
+        thread.join(rt);
+    }
+}
