@@ -28,8 +28,9 @@ use std::fs::File;
 use std::io::{Eprint, Write};
 use std::marker::Brand;
 use std::rt::Files;
-use std::sync::Arc;
+use std::sync::{Arc, Wait};
 use std::thread::JoinHandle;
+use std::time::Clock;
 
 /// The node that asks to lead as soon as the service starts.
 const FIRST_LEADER: u8 = 1;
@@ -194,6 +195,13 @@ fn state_of<R: System + Files<File = File>>(
     Ok(Arc::new(alloc, state)?)
 }
 
+/// Notes a fault in the log. Without memory for its text nothing is noted.
+fn note_fault<R: Wait + Clock>(rt: &R, alloc: Global, log: &EventLog, fault: Fault) {
+    if let Ok(text) = format!(in alloc; "{fault}") {
+        log.fault(rt, text.as_str());
+    }
+}
+
 /// Runs a service with these settings.
 fn run_with<R: System + Files<File = File>>(
     rt: R,
@@ -208,6 +216,9 @@ fn run_with<R: System + Files<File = File>>(
     let end = serve_cluster::<Brand, R>(rt, alloc, &setup, settings, &ports, &state);
     if let Some(path) = options.ctl_socket {
         remove_socket(&rt, path);
+    }
+    if let Err(fault) = &end {
+        note_fault(&rt, alloc, state.log(), *fault);
     }
     end
 }
