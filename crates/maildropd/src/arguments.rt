@@ -73,7 +73,7 @@ pub(crate) fn optional_text_of<'a>(matches: &ArgMatches<'a>, name: &str) -> Opti
 
 /// The number of an option, if it was given.
 pub(crate) fn optional_number_of(matches: &ArgMatches<'_>, name: &str) -> Option<u64> {
-    matches.get_one::<u64>(name).copied()
+    matches.get_one::<u64>(name)
 }
 
 /// The bytes of an option, or none if it wasn't given.
