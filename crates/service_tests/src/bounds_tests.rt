@@ -2,7 +2,7 @@
 
 use crate::clients::{connect, line_after, send};
 use crate::plays::Row::{Comes, Ctl, Ends, Says};
-use crate::plays::{STOP, Scene, play};
+use crate::plays::{STOP, Scene, play_after};
 use crate::running::{Running, bounded, file, remove, start_planned};
 use std::alloc::Global;
 use std::io::{Read, Write};
@@ -114,7 +114,7 @@ fn clients_are_cut_at_their_bounds(rt: HostRuntime) -> Result<(), Fail> {
     let service = start_planned!(rt, alloc, bounded(&rt, alloc, BOUNDED.accounts, log));
     send_too_much(&rt, alloc, &service)?;
     let is_held_up = is_held_up(&rt, alloc, &service)?;
-    play(&rt, alloc, service, &BOUNDED)?;
+    play_after(&rt, alloc, service, &BOUNDED, 2)?;
     let is_logged = is_logged(&rt, alloc, log, LOGGED)?;
     remove(&rt, log);
     assert!(rt; is_held_up && is_logged);
