@@ -1,11 +1,11 @@
 //! The reader of mailboxes beside one of whole lists, over many files and cuts.
 
 use crate::plain_mailbox::{Lines, messages};
-use crate::random::Random;
+use crate::random::some_piece;
 use ballot::Memory;
 use maildrop::Text;
 use mboxrd::{MboxError, Reader};
-use samples::check;
+use samples::{Random, check};
 use std::alloc::Global;
 use std::test::Fail;
 
@@ -34,7 +34,7 @@ fn generated(alloc: Global, random: &mut Random) -> Result<Vec<u8>, Memory> {
         file.extend_from_slice(b"From x\n")?;
     }
     for _ in 0..random.below(12) {
-        file.extend_from_slice(random.piece(PIECES).as_bytes())?;
+        file.extend_from_slice(some_piece(random, PIECES).as_bytes())?;
     }
     Ok(file)
 }
@@ -60,34 +60,26 @@ fn read_cut(alloc: Global, file: &[u8], random: &mut Random) -> Result<Vec<Text>
 fn has_lines(text: &Text, lines: &Lines) -> bool {
     let mut place = 0usize;
     for line in text.get() {
-        if !lines
-            .get(place)
-            .is_some_and(|other| other.as_slice() == line)
-        {
-            return false;
+        match lines.get(place) {
+            Some(other) if other.as_slice() == line => {}
+            _ => return false,
         }
         place = place.saturating_add(1);
     }
     place == lines.len()
 }
 
-/// Whether these are the texts of the messages.
-fn are(texts: &[Text], messages: &[Lines]) -> bool {
-    if texts.len() != messages.len() {
-        return false;
-    }
-    for (text, lines) in texts.iter().zip(messages) {
-        if !has_lines(text, lines) {
-            return false;
-        }
-    }
-    true
-}
-
 /// Whether the reader answers what the plain one gives.
 fn is(answer: &Result<Vec<Text>, MboxError>, wanted: &Option<Vec<Lines>>) -> bool {
     match (answer, wanted) {
-        (Ok(texts), Some(messages)) => are(texts, messages),
+        (Ok(texts), Some(messages)) => {
+            for (text, lines) in texts.iter().zip(messages) {
+                if !has_lines(text, lines) {
+                    return false;
+                }
+            }
+            texts.len() == messages.len()
+        }
         (Err(error), None) => *error == MboxError::NoFromLine,
         _ => false,
     }

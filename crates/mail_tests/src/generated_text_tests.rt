@@ -1,10 +1,10 @@
 //! Texts and their replies beside plain lists of lines, over many texts.
 
-use crate::plain_text::{Lines, are_same, has_dots, octets, reply, top};
-use crate::random::Random;
+use crate::plain_text::{Lines, octets, reply, top};
+use crate::random::some_piece;
 use maildrop::Text;
 use pop3_wire::{Reply, stuffed, unstuffed};
-use samples::{check, text};
+use samples::{Random, check, text};
 use std::alloc::Global;
 use std::test::Fail;
 
@@ -21,7 +21,7 @@ struct Both {
 fn generated(alloc: Global, random: &mut Random) -> Result<Both, Fail> {
     let mut lines = Vec::new(alloc);
     for _ in 0..random.below(7) {
-        lines.push(random.piece(PIECES))?;
+        lines.push(some_piece(random, PIECES))?;
     }
     let text = text(alloc, &lines)?;
     Ok(Both { text, lines })
@@ -31,16 +31,19 @@ fn generated(alloc: Global, random: &mut Random) -> Result<Both, Fail> {
 fn check_lines(both: &Both) -> Result<(), Fail> {
     let lines = &both.lines;
     let mut place = 0usize;
+    let mut has_dots = false;
     for line in both.text.get() {
-        let same = lines
-            .get(place)
-            .is_some_and(|other| other.as_bytes() == line);
+        let same = match lines.get(place) {
+            Some(other) => other.as_bytes() == line,
+            None => false,
+        };
         check(same, "another line")?;
+        has_dots |= line.starts_with(b".");
         place = place.saturating_add(1);
     }
     check(place == lines.len(), "fewer lines")?;
     check(both.text.octets() == octets(lines) as u128, "other octets")?;
-    check(both.text.has_dots() == has_dots(lines), "other dots")
+    check(both.text.has_dots() == has_dots, "other dots")
 }
 
 /// The text goes to the wire as the plain lines do, and comes back the same.
@@ -70,7 +73,7 @@ fn check_replies(alloc: Global, both: &Both) -> Result<(), Fail> {
 fn equal_ones(both: &Both, others: &[Both]) -> Result<usize, Fail> {
     let mut equal = 0usize;
     for other in others {
-        let same = are_same(&both.lines, &other.lines);
+        let same = both.lines == other.lines;
         check(both.text.same(&other.text) == same, "another equality")?;
         if same {
             equal = equal.saturating_add(1);

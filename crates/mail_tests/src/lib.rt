@@ -1,9 +1,11 @@
-//! Tests of maildrops, mailboxes, accounts and the wire of what no clause says: the rows of operations, requests for
-//! memory that are refused, and the tables, texts and mailboxes beside plain lists. There is nothing here but tests.
+//! Tests of maildrops, mailboxes, accounts, the wire and scripts, of what no clause says: requests for memory that are
+//! refused, and the office, texts and mailboxes beside plain lists. There is nothing here but tests.
 #![tactic(auto)]
 
 #[cfg(test)]
 mod accounts_tests;
+#[cfg(test)]
+mod acts;
 #[cfg(test)]
 mod command_tests;
 #[cfg(test)]
@@ -25,6 +27,10 @@ mod plain_text;
 #[cfg(test)]
 mod random;
 #[cfg(test)]
+mod reading_tests;
+#[cfg(test)]
 mod short;
 #[cfg(test)]
 mod wire_tests;
+#[cfg(test)]
+mod writing_tests;

@@ -85,47 +85,6 @@ fn is_right<A: Allocator + Copy>(
     }
 }
 
-#[test]
-fn mailboxes_however_cut(rt: HostRuntime) -> Result<(), Fail> {
-    let alloc = rt.alloc();
-    for (mailbox, wanted, _, _) in ROWS {
-        for size in 1..70 {
-            let answer = read_in_pieces(alloc, mailbox.as_bytes(), size);
-            assert!(rt; is_right(alloc, &answer, *wanted)?, "{mailbox:?} by {size}");
-        }
-    }
-    Ok(())
-}
-
-/// Pieces with no line that begins a message, and how many of them a reader takes: `feed` refuses the one after these,
-/// or, where all are taken, `finish` refuses.
-const UNFIT: &[(&[&str], usize)] = &[
-    (&["Fx"], 0),
-    (&["From", "x"], 1),
-    (&["F", "r"], 2),
-    (&["From"], 1),
-];
-
-/// How many of the pieces a reader takes until a call answers that there is no such line, if one does.
-fn taken(alloc: Global, pieces: &[&str]) -> Option<usize> {
-    let mut reader = Reader::new(alloc);
-    for (place, piece) in pieces.iter().enumerate() {
-        if let Err(MboxError::NoFromLine) = reader.feed(piece.as_bytes()) {
-            return Some(place);
-        }
-    }
-    let answer = reader.finish();
-    matches!(&answer, Err(MboxError::NoFromLine)).then_some(pieces.len())
-}
-
-#[test]
-fn pieces_are_refused_by_the_call_that_can_tell(rt: HostRuntime) -> Result<(), Fail> {
-    for (pieces, wanted) in UNFIT {
-        check(taken(rt.alloc(), pieces) == Some(*wanted), "another call")?;
-    }
-    Ok(())
-}
-
 /// A mailbox that is read, whole or so many bytes at a time. Where a request is refused that only gives memory back, it
 /// is read all the same.
 #[derive(Clone, Copy)]
@@ -152,24 +111,6 @@ impl Scenario for Read {
     }
 }
 
-#[test]
-fn a_mailbox_is_refused_or_read_whole(rt: HostRuntime) -> Result<(), Fail> {
-    let alloc = rt.alloc();
-    for (mailbox, wanted, whole, single) in ROWS {
-        for (size, most) in [(0usize, *whole), (1, *single)] {
-            let reading = Read {
-                alloc,
-                mailbox,
-                wanted: *wanted,
-                size,
-            };
-            let requests = requests(alloc, &reading, most)?;
-            println!(rt; "mboxrd, {mailbox:?} by {size}: {requests}")?;
-        }
-    }
-    Ok(())
-}
-
 /// The mailbox of one text.
 #[derive(Clone, Copy)]
 struct Written;
@@ -188,8 +129,21 @@ impl Scenario for Written {
 }
 
 #[test]
-fn a_mailbox_is_refused_or_written_whole(rt: HostRuntime) -> Result<(), Fail> {
-    let requests = requests(rt.alloc(), &Written, 5)?;
-    println!(rt; "mboxrd::write: {requests}")?;
+fn a_mailbox_is_refused_or_whole(rt: HostRuntime) -> Result<(), Fail> {
+    let alloc = rt.alloc();
+    let made = requests(alloc, &Written, 5)?;
+    println!(rt; "mboxrd::write: {made}")?;
+    for (mailbox, wanted, whole, single) in ROWS {
+        for (size, most) in [(0usize, *whole), (1, *single)] {
+            let reading = Read {
+                alloc,
+                mailbox,
+                wanted: *wanted,
+                size,
+            };
+            let requests = requests(alloc, &reading, most)?;
+            println!(rt; "mboxrd, {mailbox:?} by {size}: {requests}")?;
+        }
+    }
     Ok(())
 }

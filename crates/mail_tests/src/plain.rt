@@ -1,5 +1,6 @@
 //! Maildrops as plain lists, beside which those of the office are tried.
 
+use crate::acts::Act;
 use crate::short::Short;
 use ballot::Memory;
 use std::alloc::Global;
@@ -10,16 +11,6 @@ pub const MESSAGES: u64 = 3;
 pub const OCTETS: u64 = 100;
 
 pub const IDS: u64 = 6;
-
-/// An operation in short. A key of 0 is none, and a lock is the number of a command.
-#[derive(Clone, Copy, Debug)]
-pub enum Act {
-    Mail { octets: u64, key: u64 },
-    Take,
-    Commit { lock: u64, uid: u64 },
-    Free { lock: u64 },
-    Break,
-}
 
 /// A maildrop: each message with its unique id and octets, and each key with its unique id.
 #[derive(Drop)]
@@ -49,21 +40,13 @@ impl Plain {
         match act {
             Act::Mail { octets, key } => self.mail(octets, key),
             Act::Take => Ok(self.take(number)),
-            Act::Commit { lock, uid } => Ok(self.commit(lock, uid)),
-            Act::Free { lock } => Ok(self.free(lock)),
+            Act::Commit { lock, uid, count } => Ok(self.give_back(lock, uid, count)),
+            Act::Free { lock } => Ok(self.give_back(lock, 0, 0)),
             Act::Break => {
                 self.holder = None;
                 Ok(Short::Done)
             }
         }
-    }
-
-    fn octets(&self) -> u64 {
-        let mut sum = 0u64;
-        for (_, octets) in &self.messages {
-            sum = sum.saturating_add(*octets);
-        }
-        sum
     }
 
     fn uid_of(&self, key: u64) -> Option<u64> {
@@ -82,7 +65,10 @@ impl Plain {
         if octets > OCTETS {
             return Ok(Short::TooLarge);
         }
-        let all = self.octets().saturating_add(octets);
+        let mut all = octets;
+        for (_, octets) in &self.messages {
+            all = all.saturating_add(*octets);
+        }
         if self.messages.len() as u64 >= MESSAGES || all > OCTETS {
             return Ok(Short::Full);
         }
@@ -110,19 +96,14 @@ impl Plain {
         Short::Taken(self.messages.len() as u64, sum)
     }
 
-    fn commit(&mut self, lock: u64, uid: u64) -> Short {
+    /// Removes so many messages from this unique id on, and gives the lock back.
+    fn give_back(&mut self, lock: u64, uid: u64, count: u64) -> Short {
         if self.holder != Some(lock) {
             return Short::NotHolder;
         }
-        self.messages.retain(|message| message.0 != uid);
-        self.holder = None;
-        Short::Done
-    }
-
-    fn free(&mut self, lock: u64) -> Short {
-        if self.holder != Some(lock) {
-            return Short::NotHolder;
-        }
+        let end = uid.saturating_add(count);
+        self.messages
+            .retain(|message| message.0 < uid || message.0 >= end);
         self.holder = None;
         Short::Done
     }

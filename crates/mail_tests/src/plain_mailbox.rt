@@ -54,7 +54,9 @@ pub fn messages(alloc: Global, file: &[u8]) -> Result<Option<Vec<Lines>>, Memory
         message.push(Vec::from_slice(alloc, unquoted(&line))?)?;
     }
     for message in messages.iter_mut() {
-        if message.last().is_some_and(|line| line.is_empty()) {
+        if let Some(line) = message.last()
+            && line.is_empty()
+        {
             let _ = message.pop();
         }
     }

@@ -15,29 +15,6 @@ pub fn octets(lines: &[&str]) -> u64 {
     octets
 }
 
-/// Whether a line begins with a dot.
-pub fn has_dots(lines: &[&str]) -> bool {
-    for line in lines {
-        if line.starts_with(".") {
-            return true;
-        }
-    }
-    false
-}
-
-/// Whether both have the same lines, one by one.
-pub fn are_same(lines: &[&str], others: &[&str]) -> bool {
-    if lines.len() != others.len() {
-        return false;
-    }
-    for (line, other) in lines.iter().zip(others) {
-        if *line != *other {
-            return false;
-        }
-    }
-    true
-}
-
 /// The header, which ends with the first empty line, and so many lines of the body behind it.
 pub fn top(alloc: Global, lines: &[&'static str], count: u32) -> Result<Lines, Memory> {
     let mut top = Vec::new(alloc);

@@ -1,20 +1,9 @@
-//! Numbers for generated calls.
+//! Pieces for generated files and texts.
 
-/// Numbers without an order, always the same of one seed.
-#[derive(Drop)]
-pub struct Random(pub u64);
+use samples::Random;
 
-impl Random {
-    /// A number below this one.
-    pub fn below(&mut self, limit: u64) -> u64 {
-        let next = self.0.wrapping_mul(6_364_136_223_846_793_005);
-        self.0 = next.wrapping_add(1_442_695_040_888_963_407);
-        (self.0 >> 33).checked_rem(limit).unwrap_or(0)
-    }
-
-    /// One of the pieces.
-    pub fn piece(&mut self, pieces: &[&'static str]) -> &'static str {
-        let place = self.below(pieces.len() as u64);
-        pieces.get(place as usize).copied().unwrap_or("")
-    }
+/// One of the pieces.
+pub fn some_piece(random: &mut Random, pieces: &[&'static str]) -> &'static str {
+    let place = random.below(pieces.len() as u64);
+    pieces.get(place as usize).copied().unwrap_or("")
 }

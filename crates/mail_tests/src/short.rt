@@ -4,7 +4,7 @@ use maildrop::Outcome;
 use std::alloc::Allocator;
 
 /// An outcome in short. Of `Taken`, how many messages there are, and the sum of their unique ids and octets.
-#[derive(Clone, Copy, Debug, PartialEq, Eq)]
+#[derive(Clone, Copy, PartialEq, Eq)]
 pub enum Short {
     NoSuchUser,
     TooLarge,

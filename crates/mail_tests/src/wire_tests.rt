@@ -112,25 +112,3 @@ fn a_text_is_refused_or_whole(rt: HostRuntime) -> Result<(), Fail> {
     }
     Ok(())
 }
-
-/// Bytes that begin with no wire form take no memory.
-#[test]
-fn no_wire_form(rt: HostRuntime) -> Result<(), Fail> {
-    let alloc = rt.alloc();
-    for bytes in [
-        "",
-        ".",
-        ".\r",
-        ".\n",
-        "a\r\n",
-        "a\n.\r\n",
-        ".a\r\n.\r\n",
-        "a\r\n.\n",
-        "..\r\n",
-    ] {
-        assert!(rt; unstuffed(alloc, bytes.as_bytes())?.is_none(), "{bytes:?}");
-    }
-    let (text, rest) = unstuffed(alloc, b".\r\n.\r\n")?.ok_or("no wire form")?;
-    assert_eq!(rt; (text.octets(), rest), (0, b".\r\n".as_slice()));
-    Ok(())
-}

@@ -1,10 +1,9 @@
 //! The acceptor beside a plain list, over many calls.
 
 use crate::plain_acceptor::{PlainAcceptor, SLOTS};
-use crate::random::Random;
+use crate::random::some_ballot;
 use acceptor::Acceptor;
-use ballot::Ballot;
-use samples::{Accepted, Number, are, ballot, check, pvalue};
+use samples::{Accepted, Number, Random, are, ballot, check, pvalue};
 use std::alloc::Global;
 use std::test::Fail;
 
@@ -18,28 +17,26 @@ struct Both {
     plain: PlainAcceptor,
 }
 
-fn is(ballot: Ballot, expected: (u64, u8)) -> bool {
-    (ballot.round, ballot.leader.get()) == expected
-}
-
 /// Whether both promise the same.
 fn promise_alike(both: &mut Both, asked: (u64, u8)) -> Result<bool, Fail> {
-    let promise = both.acceptor.p1a(ballot(asked)?)?;
-    let own = both.plain.p1a(asked);
+    let own = ballot(both.plain.p1a(asked))?;
+    let asked = ballot(asked)?;
     let told = both.plain.told()?;
-    Ok(is(promise.asked, asked) && is(promise.ballot, own) && are(promise.accepted.get(), &told))
+    let promise = both.acceptor.p1a(asked)?;
+    Ok(promise.asked == asked && promise.ballot == own && are(promise.accepted.get(), &told))
 }
 
 /// Whether both vote the same.
 fn vote_alike(alloc: Global, both: &mut Both, accepted: Accepted) -> Result<bool, Fail> {
+    let own = ballot(both.plain.p2a(accepted)?)?;
+    let asked = ballot(accepted.0)?;
     let vote = both.acceptor.p2a(pvalue(alloc, accepted)?)?;
-    let own = both.plain.p2a(accepted)?;
-    Ok(is(vote.asked, accepted.0) && vote.slot.get() == accepted.1 && is(vote.ballot, own))
+    Ok(vote.asked == asked && vote.slot.get() == accepted.1 && vote.ballot == own)
 }
 
 /// Makes a call of both. The higher `rounds` is, the higher are their ballots.
 fn call(alloc: Global, both: &mut Both, random: &mut Random, rounds: u64) -> Result<bool, Fail> {
-    let own = random.ballot(rounds);
+    let own = some_ballot(random, rounds);
     if random.below(4) == 0 {
         return promise_alike(both, own);
     }

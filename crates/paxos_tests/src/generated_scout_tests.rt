@@ -1,9 +1,9 @@
 //! The scout beside plain lists, over many promises.
 
 use crate::plain_scout::{Heard, PlainScout};
-use crate::random::Random;
+use crate::random::{some_ballot, some_node};
 use proposer::{Progress, Scout};
-use samples::{Accepted, Number, are, ballot, check, cluster, node, promise};
+use samples::{Accepted, Number, Random, are, ballot, check, cluster, node, promise};
 use std::alloc::Global;
 use std::test::Fail;
 
@@ -25,14 +25,14 @@ struct Both {
 
 /// A promise to one of so many acceptors, or to one beside them. Most are for the scout's ballot.
 fn generated(random: &mut Random, acceptors: u8) -> Short {
-    let from = random.node(acceptors.saturating_add(1));
+    let from = some_node(random, acceptors.saturating_add(1));
     let asked = if random.below(6) == 0 {
-        random.ballot(4)
+        some_ballot(random, 4)
     } else {
         OWN
     };
     let own = if random.below(8) == 0 {
-        random.ballot(4)
+        some_ballot(random, 4)
     } else {
         OWN
     };
@@ -43,51 +43,42 @@ fn generated(random: &mut Random, acceptors: u8) -> Short {
 fn generated_list(alloc: Global, random: &mut Random) -> Result<Vec<Accepted>, Fail> {
     let mut told = Vec::new(alloc);
     for _ in 0..random.below(9) {
-        let own = random.ballot(2);
+        let own = some_ballot(random, 2);
         let slot = random.below(2).saturating_add(1);
         told.push((own, slot, random.below(2)))?;
     }
     Ok(told)
 }
 
-/// Whether the scout makes of a promise what the plain one makes of it.
-fn is(progress: &Progress<Number>, heard: Heard, plain: &PlainScout) -> Result<bool, Fail> {
-    match (progress, heard) {
-        (Progress::Waiting, Heard::Waiting) | (Progress::Stale, Heard::Stale) => Ok(true),
-        (Progress::Preempted(own), Heard::Preempted(higher)) => Ok(*own == ballot(higher)?),
-        (Progress::Adopted(pvalues), Heard::Adopted) => Ok(are(pvalues.get(), plain.pvalues())),
-        _ => Ok(false),
-    }
+/// The kind of progress as a bit, and no bit if the scout makes something else of a promise than the plain one does.
+fn kind(progress: &Progress<Number>, heard: Heard, plain: &PlainScout) -> Result<u64, Fail> {
+    Ok(match (progress, heard) {
+        (Progress::Waiting, Heard::Waiting) => 1,
+        (Progress::Adopted(pvalues), Heard::Adopted) if are(pvalues.get(), plain.pvalues()) => 2,
+        (Progress::Preempted(own), Heard::Preempted(higher)) if *own == ballot(higher)? => 4,
+        (Progress::Stale, Heard::Stale) => 8,
+        _ => 0,
+    })
 }
 
-/// Has both hear a promise, and gives what the plain one makes of it.
+/// Has both hear a promise, and returns the kind of progress.
 fn hear(
     alloc: Global,
     both: &mut Both,
     (from, asked, own): Short,
     told: &[Accepted],
-) -> Result<Heard, Fail> {
+) -> Result<u64, Fail> {
+    let from_node = node(from)?;
     let heard = both.plain.hear(from, asked, own, told)?;
-    let promise = promise(alloc, asked, own, told)?;
-    let progress = both.scout.hear(node(from)?, promise)?;
-    check(
-        is(&progress, heard, &both.plain)?,
-        "another progress of a scout",
-    )?;
-    Ok(heard)
+    let progress = both
+        .scout
+        .hear(from_node, promise(alloc, asked, own, told)?)?;
+    let kind = kind(&progress, heard, &both.plain)?;
+    check(kind > 0, "another progress of a scout")?;
+    Ok(kind)
 }
 
-/// The kinds of progress, as bits.
-fn kind(heard: Heard) -> u64 {
-    match heard {
-        Heard::Waiting => 1,
-        Heard::Adopted => 2,
-        Heard::Preempted(_) => 4,
-        Heard::Stale => 8,
-    }
-}
-
-/// Has a scout among so many acceptors hear promises, and gives the kinds of progress that came.
+/// Has a scout among so many acceptors hear promises, and returns the kinds of progress that came.
 fn compare(alloc: Global, random: &mut Random, acceptors: u8) -> Result<u64, Fail> {
     let mut both = Both {
         scout: Scout::start(alloc, cluster(acceptors)?, ballot(OWN)?),
@@ -97,7 +88,7 @@ fn compare(alloc: Global, random: &mut Random, acceptors: u8) -> Result<u64, Fai
     for _ in 0..PROMISES {
         let short = generated(random, acceptors);
         let told = generated_list(alloc, random)?;
-        kinds |= kind(hear(alloc, &mut both, short, &told)?);
+        kinds |= hear(alloc, &mut both, short, &told)?;
     }
     Ok(kinds)
 }

@@ -1,6 +1,7 @@
 //! Each call of a leader.
 
-use ballot::{Items, Memory, Message, Payload, Promise, Sends, Vote};
+use crate::sent::{Sent, Short, check_sent};
+use ballot::{Items, Memory, Promise, Vote};
 use leader::Leader;
 use refusing::Refusal;
 use samples::{
@@ -11,7 +12,8 @@ use std::test::Fail;
 
 type Role<'h> = Leader<Number<Heap<'h>>, Heap<'h>>;
 
-type Sent<'h> = Sends<Number<Heap<'h>>, Heap<'h>>;
+/// A promise: of which node, the ballot that was asked for, the one that the acceptor has, and what it tells.
+type Told = (u8, (u64, u8), (u64, u8), &'static [Accepted]);
 
 /// A call of a leader among three nodes.
 #[derive(Clone, Copy, Debug)]
@@ -19,8 +21,7 @@ enum Call {
     /// A slot and a command.
     Propose(u64, u64),
     Campaign,
-    /// A promise of this node to the ballot, and what it tells.
-    Promise(u8, (u64, u8), &'static [Accepted]),
+    Promise(Told),
     /// A vote of this node for the ballot's pvalue of a slot.
     Vote(u8, (u64, u8), u64),
     Tick,
@@ -29,41 +30,56 @@ enum Call {
     Adopted((u64, u8)),
 }
 
-/// A message to all three nodes.
-#[derive(Clone, Copy, Debug, PartialEq, Eq)]
-enum Short {
-    P1a((u64, u8)),
-    P2a(Accepted),
-    Decision(u64, u64),
-    Other,
-}
-
 /// A call; what it sends to all nodes, whether the leader is then active, and how many requests for memory it makes at
 /// most. A command is copied for each node that it is sent to.
 type Row = (Call, &'static [Short], bool, u64);
 
 const NONE: &[Short] = &[];
 
-/// Node 2 adopts what node 1 had accepted, and has it decided.
-const ADOPTS: [Row; 9] = [
+/// Node 2 adopts what nodes 1 and 3 had accepted, equal pvalues once, and has it decided. Each node counts once, in each
+/// phase. A new pvalue takes a place in the scout's list and one in its index.
+const ADOPTS: [Row; 12] = [
     (Call::Propose(1, 50), NONE, false, 1),
     (Call::Propose(2, 60), NONE, false, 0),
     (Call::Campaign, &[Short::P1a((0, 2))], false, 1),
-    (Call::Promise(1, (0, 2), &[((0, 1), 1, 40)]), NONE, false, 2),
     (
-        Call::Promise(2, (0, 2), &[]),
-        &[Short::P2a(((0, 2), 1, 40)), Short::P2a(((0, 2), 2, 60))],
+        Call::Promise((1, (0, 2), (0, 2), &[((0, 1), 1, 40), ((0, 1), 3, 70)])),
+        NONE,
+        false,
+        2,
+    ),
+    (
+        Call::Promise((1, (0, 2), (0, 2), &[((0, 1), 9, 90)])),
+        NONE,
+        false,
+        0,
+    ),
+    (
+        Call::Promise((3, (0, 2), (0, 2), &[((0, 1), 3, 70), ((0, 1), 1, 40)])),
+        &[
+            Short::P2a(((0, 2), 1, 40)),
+            Short::P2a(((0, 2), 2, 60)),
+            Short::P2a(((0, 2), 3, 70)),
+        ],
         true,
-        10,
+        14,
     ),
     (Call::Vote(1, (0, 2), 1), NONE, true, 0),
+    (Call::Vote(1, (0, 2), 1), NONE, true, 0),
     (Call::Vote(3, (0, 2), 1), &[Short::Decision(1, 40)], true, 4),
-    (Call::Tick, &[Short::P2a(((0, 2), 2, 60))], true, 4),
+    (Call::Vote(2, (0, 2), 1), NONE, true, 0),
+    (
+        Call::Tick,
+        &[Short::P2a(((0, 2), 2, 60)), Short::P2a(((0, 2), 3, 70))],
+        true,
+        8,
+    ),
     (Call::Preempted((3, 3)), NONE, false, 0),
 ];
 
-/// Node 1 has the ballot that it campaigned for, until a higher one preempts it.
-const PREEMPTED: [Row; 7] = [
+/// Node 1 has the ballot that it campaigned for, until a higher one preempts it. A promise of a higher ballot ends its
+/// scout, and later ones change nothing.
+const PREEMPTED: [Row; 10] = [
     (Call::Campaign, &[Short::P1a((0, 1))], false, 1),
     (Call::Adopted((0, 2)), NONE, false, 0),
     (Call::Adopted((0, 1)), NONE, true, 0),
@@ -76,32 +92,10 @@ const PREEMPTED: [Row; 7] = [
     (Call::Preempted((0, 1)), NONE, true, 0),
     (Call::Preempted((1, 2)), NONE, false, 0),
     (Call::Campaign, &[Short::P1a((2, 1))], false, 1),
+    (Call::Promise((2, (2, 1), (2, 2), &[])), NONE, false, 0),
+    (Call::Promise((3, (2, 1), (2, 1), &[])), NONE, false, 0),
+    (Call::Campaign, &[Short::P1a((3, 1))], false, 1),
 ];
-
-fn in_short<'h>(message: &Message<Number<Heap<'h>>, Heap<'h>>) -> Short {
-    match message {
-        Message::P1a(ballot) => Short::P1a((ballot.round, ballot.leader.get())),
-        Message::P2a(pvalue) => {
-            let own = (pvalue.ballot.round, pvalue.ballot.leader.get());
-            Short::P2a((own, pvalue.slot.get(), pvalue.command.id()))
-        }
-        Message::Decision(slot, command) => Short::Decision(slot.get(), command.id()),
-        _ => Short::Other,
-    }
-}
-
-/// Checks that these messages are sent, each to the nodes 1, 2 and 3.
-fn check_sent<'h>(sends: &Sent<'h>, expected: &[Short]) -> Result<(), Fail> {
-    let all = expected.len().saturating_mul(3);
-    check(sends.len() == all, "more or fewer messages")?;
-    for (place, outgoing) in sends.get().iter().enumerate() {
-        let message = expected.get(place / 3).ok_or("no message")?;
-        let to = outgoing.to.get() as usize;
-        check(to == place % 3 + 1, "a message to another node")?;
-        check(in_short(&outgoing.message) == *message, "another message")?;
-    }
-    Ok(())
-}
 
 fn propose<'h>(
     heap: Heap<'h>,
@@ -119,11 +113,11 @@ fn propose<'h>(
 fn hear1<'h>(
     heap: Heap<'h>,
     leader: &mut Role<'h>,
-    (from, own, told): (u8, (u64, u8), &[Accepted]),
+    (from, asked, own, told): Told,
     refusal: Option<Refusal>,
 ) -> Result<Result<Sent<'h>, Memory>, Fail> {
     let from = node(from)?;
-    let promise: Promise<Number<Heap<'h>>, Heap<'h>> = promise(heap, own, own, told)?;
+    let promise: Promise<Number<Heap<'h>>, Heap<'h>> = promise(heap, asked, own, told)?;
     refuse(heap, refusal);
     Ok(leader.hear1(from, promise))
 }
@@ -157,7 +151,7 @@ fn called<'h>(
 ) -> Result<Result<Sent<'h>, Memory>, Fail> {
     match call {
         Call::Propose(place, value) => propose(heap, leader, place, value, refusal),
-        Call::Promise(from, own, told) => hear1(heap, leader, (from, own, told), refusal),
+        Call::Promise(told) => hear1(heap, leader, told, refusal),
         Call::Vote(from, own, place) => hear2(heap, leader, (from, own, place), refusal),
         Call::Preempted(higher) => {
             let higher = ballot(higher)?;
@@ -186,7 +180,7 @@ fn check_spent<'h>(heap: Heap<'h>, leader: &mut Role<'h>) -> Result<(), Fail> {
     for call in [
         Call::Propose(1, 70),
         Call::Campaign,
-        Call::Promise(3, (0, 2), &[]),
+        Call::Promise((3, (0, 2), (0, 2), &[])),
         Call::Vote(2, (0, 2), 1),
         Call::Tick,
         Call::Preempted((3, 3)),

@@ -5,7 +5,7 @@ use samples::Accepted;
 use std::alloc::Global;
 
 /// What a scout makes of a promise. What it adopts it has kept.
-#[derive(Clone, Copy, Debug, PartialEq, Eq)]
+#[derive(Clone, Copy)]
 pub enum Heard {
     Waiting,
     Adopted,

@@ -4,10 +4,12 @@
 
 mod maildrops;
 mod paxos;
+mod random;
 mod scenario;
 
 pub use maildrops::{alice, limits, mail, name, node_ticket, text, ticket, widest_limits};
 pub use paxos::{
     Accepted, Number, are, ballot, cluster, new_number, node, promise, pvalue, slot, three,
 };
+pub use random::Random;
 pub use scenario::{Heap, Scenario, check, refuse, requests};

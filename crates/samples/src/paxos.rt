@@ -103,9 +103,11 @@ pub fn promise<A: Allocator + Copy>(
 
 /// Whether the pvalues are these, in this order.
 pub fn are<A: Allocator + Copy>(pvalues: &[PValue<Number<A>>], expected: &[Accepted]) -> bool {
+    for (one, other) in pvalues.iter().zip(expected) {
+        let own = (one.ballot.round, one.ballot.leader.get());
+        if (own, one.slot.get(), one.command.id()) != *other {
+            return false;
+        }
+    }
     pvalues.len() == expected.len()
-        && pvalues.iter().zip(expected).all(|(one, other)| {
-            let own = (one.ballot.round, one.ballot.leader.get());
-            (own, one.slot.get(), one.command.id()) == *other
-        })
 }

@@ -59,13 +59,6 @@ const REQUESTS: Scene = Scene {
     ],
 };
 
-#[test]
-fn requests_are_refused(rt: HostRuntime) -> Result<(), Fail> {
-    let alloc = rt.alloc();
-    let service = start!(rt, alloc, REQUESTS.accounts);
-    play(&rt, alloc, service, &REQUESTS)
-}
-
 const DELIVERIES: Scene = Scene {
     accounts: "alice pass s3\n",
     mailbox: "From x\na\n\nFrom x\nb\n",
@@ -105,11 +98,20 @@ const DELIVERIES: Scene = Scene {
     ],
 };
 
+const SCENES: &[(&str, Scene)] = &[
+    ("requests are refused", REQUESTS),
+    ("deliveries are refused", DELIVERIES),
+];
+
 #[test]
-fn deliveries_are_refused(rt: HostRuntime) -> Result<(), Fail> {
+fn operators_are_answered(rt: HostRuntime) -> Result<(), Fail> {
     let alloc = rt.alloc();
-    let service = start!(rt, alloc, DELIVERIES.accounts);
-    play(&rt, alloc, service, &DELIVERIES)
+    for (name, scene) in SCENES {
+        println!(rt; "{name}")?;
+        let service = start!(rt, alloc, scene.accounts);
+        play(&rt, alloc, service, scene)?;
+    }
+    Ok(())
 }
 
 /// A file that is no mailbox: it has no From line.

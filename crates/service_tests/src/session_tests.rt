@@ -54,13 +54,6 @@ const ONE_MESSAGE: Scene = Scene {
     ],
 };
 
-#[test]
-fn a_message_is_delivered_read_and_removed(rt: HostRuntime) -> Result<(), Fail> {
-    let alloc = rt.alloc();
-    let service = start!(rt, alloc, ONE_MESSAGE.accounts);
-    play(&rt, alloc, service, &ONE_MESSAGE)
-}
-
 /// Neither a client that is logged in nor an operator says anything, and another client is answered.
 const SILENCE: Scene = Scene {
     accounts: ACCOUNTS,
@@ -80,13 +73,6 @@ const SILENCE: Scene = Scene {
         Ends(1),
     ],
 };
-
-#[test]
-fn the_silent_hold_up_nobody(rt: HostRuntime) -> Result<(), Fail> {
-    let alloc = rt.alloc();
-    let service = start!(rt, alloc, SILENCE.accounts);
-    play(&rt, alloc, service, &SILENCE)
-}
 
 /// A file is delivered under one key again and again: at each node, for another user, and after its messages were removed.
 const KEYS: Scene = Scene {
@@ -155,13 +141,6 @@ const KEYS: Scene = Scene {
     ],
 };
 
-#[test]
-fn a_delivery_under_a_key_is_stored_once(rt: HostRuntime) -> Result<(), Fail> {
-    let alloc = rt.alloc();
-    let service = start!(rt, alloc, KEYS.accounts);
-    play(&rt, alloc, service, &KEYS)
-}
-
 /// A lock is taken away: the next session gets it, and the one that had it goes on and removes nothing.
 const LOCKS: Scene = Scene {
     accounts: ACCOUNTS,
@@ -197,13 +176,6 @@ const LOCKS: Scene = Scene {
         STOP,
     ],
 };
-
-#[test]
-fn a_lock_is_broken(rt: HostRuntime) -> Result<(), Fail> {
-    let alloc = rt.alloc();
-    let service = start!(rt, alloc, LOCKS.accounts);
-    play(&rt, alloc, service, &LOCKS)
-}
 
 /// A node stops that isn't the leader. Its sessions go on until they need it.
 const CRASH: Scene = Scene {
@@ -253,13 +225,6 @@ const CRASH: Scene = Scene {
     ],
 };
 
-#[test]
-fn a_node_stops(rt: HostRuntime) -> Result<(), Fail> {
-    let alloc = rt.alloc();
-    let service = start!(rt, alloc, CRASH.accounts);
-    play(&rt, alloc, service, &CRASH)
-}
-
 /// The leader stops, and another node leads: what was stored is there, and more is.
 const LEADER: Scene = Scene {
     accounts: ACCOUNTS,
@@ -279,13 +244,6 @@ const LEADER: Scene = Scene {
         STOP,
     ],
 };
-
-#[test]
-fn the_leader_stops(rt: HostRuntime) -> Result<(), Fail> {
-    let alloc = rt.alloc();
-    let service = start!(rt, alloc, LEADER.accounts);
-    play(&rt, alloc, service, &LEADER)
-}
 
 /// Two of three nodes stop, and nothing is agreed on. Who waits is told that the last one has stopped.
 const NOBODY: Scene = Scene {
@@ -312,13 +270,6 @@ const NOBODY: Scene = Scene {
     ],
 };
 
-#[test]
-fn all_nodes_stop(rt: HostRuntime) -> Result<(), Fail> {
-    let alloc = rt.alloc();
-    let service = start!(rt, alloc, NOBODY.accounts);
-    play(&rt, alloc, service, &NOBODY)
-}
-
 /// Two of three nodes stop, and then the service. Operators who wait for what nobody can agree on are told that their node
 /// has stopped.
 const UNDECIDED: Scene = Scene {
@@ -344,13 +295,6 @@ const UNDECIDED: Scene = Scene {
     ],
 };
 
-#[test]
-fn operators_who_wait_are_told_of_the_end(rt: HostRuntime) -> Result<(), Fail> {
-    let alloc = rt.alloc();
-    let service = start!(rt, alloc, UNDECIDED.accounts);
-    play(&rt, alloc, service, &UNDECIDED)
-}
-
 /// The leader stops, and then the service. The time of the nodes goes on until the last session has ended, so another node
 /// comes to lead, which a session needs at its end.
 const LED_ANEW: Scene = Scene {
@@ -367,13 +311,6 @@ const LED_ANEW: Scene = Scene {
         Ends(0),
     ],
 };
-
-#[test]
-fn another_node_leads_after_the_stop(rt: HostRuntime) -> Result<(), Fail> {
-    let alloc = rt.alloc();
-    let service = start!(rt, alloc, LED_ANEW.accounts);
-    play(&rt, alloc, service, &LED_ANEW)
-}
 
 /// A session that is open when the service is stopped goes on to its end. Nobody else is taken any more.
 const STILL_OPEN: Scene = Scene {
@@ -399,9 +336,42 @@ const STILL_OPEN: Scene = Scene {
     ],
 };
 
+/// Scenes in which nothing stops before the service does.
+const SERVED: &[(&str, Scene)] = &[
+    ("a message is delivered read and removed", ONE_MESSAGE),
+    ("the silent hold up nobody", SILENCE),
+    ("a delivery under a key is stored once", KEYS),
+    ("a lock is broken", LOCKS),
+];
+
 #[test]
-fn an_open_session_ends_after_the_stop(rt: HostRuntime) -> Result<(), Fail> {
+fn clients_are_served(rt: HostRuntime) -> Result<(), Fail> {
     let alloc = rt.alloc();
-    let service = start!(rt, alloc, STILL_OPEN.accounts);
-    play(&rt, alloc, service, &STILL_OPEN)
+    for (name, scene) in SERVED {
+        println!(rt; "{name}")?;
+        let service = start!(rt, alloc, scene.accounts);
+        play(&rt, alloc, service, scene)?;
+    }
+    Ok(())
+}
+
+/// Scenes in which a node stops, or the service while somebody is there.
+const STOPPED: &[(&str, Scene)] = &[
+    ("a node stops", CRASH),
+    ("the leader stops", LEADER),
+    ("all nodes stop", NOBODY),
+    ("operators who wait are told of the end", UNDECIDED),
+    ("another node leads after the stop", LED_ANEW),
+    ("an open session ends after the stop", STILL_OPEN),
+];
+
+#[test]
+fn nodes_and_the_service_stop(rt: HostRuntime) -> Result<(), Fail> {
+    let alloc = rt.alloc();
+    for (name, scene) in STOPPED {
+        println!(rt; "{name}")?;
+        let service = start!(rt, alloc, scene.accounts);
+        play(&rt, alloc, service, scene)?;
+    }
+    Ok(())
 }

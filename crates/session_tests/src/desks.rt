@@ -1,12 +1,17 @@
-//! The desk of a lone session with two messages.
+//! What sessions of alice are served with: her account, a timestamp, and a desk with two messages.
 
-use apop::{Stamp, stamp};
+use apop::{Accounts, Stamp, stamp};
 use samples::{alice, limits, mail};
 use server::LoneDesk;
 use std::alloc::Allocator;
 use std::test::Fail;
 
-/// The timestamp of a lone session.
+/// The account of alice, the only one.
+pub fn accounts<A: Allocator + Copy>(alloc: A) -> Result<Accounts<A>, Fail> {
+    Ok(Accounts::read(alloc, b"alice pass s\n")?)
+}
+
+/// The timestamp of each greeting.
 pub fn lone_stamp() -> Result<Stamp, Fail> {
     Ok(stamp(b"1.1", b"localhost").ok_or("no stamp")?)
 }

@@ -1,16 +1,13 @@
-//! What a gate, a writer and a transcript see of a session.
+//! When a line is heard and its reply is written, as a gate, a writer and a desk see it.
 
-use crate::desks::{desk_of_two, lone_stamp};
-use apop::Accounts;
+use crate::desks::{accounts, desk_of_two, lone_stamp};
 use maildrop::{Name, Op, Outcome, Ticket};
-use samples::check;
 use server::LoneDesk;
-use session::{Desk, DeskStopped, End, Gate, Transcript, serve};
+use session::{Desk, DeskStopped, Gate, serve};
 use std::alloc::Global;
 use std::cell::RefCell;
 use std::io;
 use std::io::Write;
-use std::process::Abort;
 use std::test::Fail;
 
 /// What happened, a letter each: `(` a line is entered, `)` it is left, `w` a reply is written, `d` the desk is asked or
@@ -66,8 +63,8 @@ impl Write for Replies<'_> {
     }
 }
 
-/// The desk of two messages. Only while a line is heard, or at a hangup, it is asked or told anything, so its letters
-/// show when a line is heard.
+/// The desk of two messages. It is asked only while a line is heard, or at a hangup, so its letters show when a line is
+/// heard.
 #[derive(Drop)]
 struct NotedDesk<'a> {
     events: &'a Events,
@@ -90,9 +87,10 @@ impl Desk<Op, Outcome> for NotedDesk<'_> {
     }
 }
 
-/// What happens in a session of these lines, whose writer takes so many replies, and the transcript.
-fn served(alloc: Global, mut lines: &[u8], replies: usize) -> Result<(String, Transcript), Fail> {
-    let accounts = Accounts::read(alloc, b"alice pass s\n")?;
+/// What happens in a session of these lines, whose writer takes so many replies.
+fn served(alloc: Global, mut lines: &[u8], replies: usize) -> Result<String, Fail> {
+    let accounts = accounts(alloc)?;
+    let stamp = lone_stamp()?;
     let events = RefCell::new(String::new(alloc));
     let mut desk = NotedDesk {
         events: &events,
@@ -103,8 +101,7 @@ fn served(alloc: Global, mut lines: &[u8], replies: usize) -> Result<(String, Tr
         left: replies,
     };
     let mut gate = Watched { events: &events };
-    let stamp = lone_stamp()?;
-    let transcript = serve(
+    drop(serve(
         alloc,
         &mut lines,
         &mut writer,
@@ -112,40 +109,23 @@ fn served(alloc: Global, mut lines: &[u8], replies: usize) -> Result<(String, Tr
         stamp,
         &mut desk,
         &mut gate,
-    );
+    ));
     drop(gate);
     drop(writer);
     drop(desk);
-    Ok((events.into_inner(), transcript))
-}
-
-/// Checks what happens in each session: its lines, how many replies its writer takes, and the letters.
-fn assert_events(rt: &impl Abort, alloc: Global, rows: &[(&str, usize, &str)]) -> Result<(), Fail> {
-    for (lines, replies, expected) in rows {
-        let (events, _transcript) = served(alloc, lines.as_bytes(), *replies)?;
-        assert_eq!(rt; events.as_str(), *expected, "{lines:?}");
-    }
-    Ok(())
+    Ok(events.into_inner())
 }
 
 /// A reply is written between the entering of its line and its leaving, and a line whose reply was not written whole is
-/// not left. The greeting is no line's.
+/// not left. The greeting is no line's. A line is heard after the entering and before its reply is written: the desk is asked
+/// between the two by the line that takes the lock and by the one that gives it back. The Free of a hangup is no line's.
 #[test]
 fn a_gate_holds_each_line_and_its_reply(rt: HostRuntime) -> Result<(), Fail> {
-    let rows = [
+    for (lines, replies, expected) in [
         ("NOOP\r\nNOOP\r\nNOOP\r\n", 9, "w(w)(w)(w)"),
         ("NOOP\r\nQUIT\r\nNOOP\r\n", 9, "w(w)(w)"),
         ("NOOP\r\nNOOP\r\n", 1, "w(w"),
         ("NOOP\r\n", 0, "w"),
-    ];
-    assert_events(&rt, rt.alloc(), &rows)
-}
-
-/// A line is heard behind the entering of the gate, and before its reply is written: the desk is asked between the two
-/// by the line that takes the lock and by the one that gives it back. The Free of a hangup is no line's.
-#[test]
-fn a_gate_is_entered_before_its_line_is_heard(rt: HostRuntime) -> Result<(), Fail> {
-    let rows = [
         ("USER alice\r\nPASS s\r\nDELE 1\r\n", 9, "w(w)(dw)(w)d"),
         (
             "USER alice\r\nPASS s\r\nDELE 1\r\nQUIT\r\n",
@@ -153,27 +133,9 @@ fn a_gate_is_entered_before_its_line_is_heard(rt: HostRuntime) -> Result<(), Fai
             "w(w)(dw)(w)(dw)",
         ),
         ("USER alice\r\nPASS s\r\n", 2, "w(w)(dwd"),
-    ];
-    assert_events(&rt, rt.alloc(), &rows)
-}
-
-/// The second of three lines took the lock, and the end gave it back.
-fn check_asked(transcript: &Transcript) -> Result<(), Fail> {
-    check(transcript.end == End::HungUp, "another end")?;
-    check(transcript.lines.len() == 3, "more or fewer lines")?;
-    let [first, second] = transcript.asked.get() else {
-        return Err("more or fewer entries".into());
-    };
-    let is_taken = first.line == Some(1) && matches!(&first.op, Op::Take);
-    check(is_taken, "another first entry")?;
-    let is_freed = second.line.is_none() && matches!(&second.op, Op::Free { .. });
-    check(is_freed, "another second entry")
-}
-
-/// The entries of a login and of a client that hangs up.
-#[test]
-fn a_transcript_has_what_was_asked(rt: HostRuntime) -> Result<(), Fail> {
-    let lines = b"USER alice\r\nPASS s\r\nDELE 1\r\n";
-    let (_events, transcript) = served(rt.alloc(), lines, 9)?;
-    check_asked(&transcript)
+    ] {
+        let events = served(rt.alloc(), lines.as_bytes(), replies)?;
+        assert_eq!(rt; events.as_str(), expected, "{lines:?}");
+    }
+    Ok(())
 }

@@ -1,5 +1,5 @@
-//! Tests of sessions that no case of text can say: requests for memory that are refused, what a gate sees, what a
-//! transcript keeps, and which replies go out together. There is nothing here but tests.
+//! Tests of sessions that no case of text can say: requests for memory that are refused, what a gate sees, which replies go out
+//! together, and sessions over a service of one node, which is handed its own messages. There is nothing here but tests.
 #![tactic(auto)]
 
 #[cfg(test)]
@@ -9,12 +9,14 @@ mod gate_tests;
 #[cfg(test)]
 mod gathering_tests;
 #[cfg(test)]
-mod line_tests;
+mod one_node;
 #[cfg(test)]
-mod login_tests;
+mod one_node_tests;
 #[cfg(test)]
-mod quit_tests;
+mod refused;
+#[cfg(test)]
+mod refused_tests;
 #[cfg(test)]
 mod serve_tests;
 #[cfg(test)]
-mod sessions;
+mod writers;

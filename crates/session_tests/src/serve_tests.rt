@@ -1,10 +1,9 @@
 //! Whole sessions through `serve`.
 
-use crate::desks::{desk_of_two, lone_stamp};
-use crate::sessions::{accounts, taken};
+use crate::desks::{accounts, desk_of_two, lone_stamp};
 use maildrop::{Op, Outcome};
 use refusing::Refusal;
-use samples::{Heap, Scenario, check, requests};
+use samples::{Heap, Scenario, alice, check, requests};
 use server::LoneDesk;
 use session::{End, OpenGate, Transcript, serve};
 use std::test::Fail;
@@ -16,41 +15,21 @@ struct Served {
     replies: &'static str,
 }
 
-/// Whether a session ended rightly: with all replies, or for want of memory.
+/// Whether a session ended rightly: with all replies, or out of memory.
 fn is_end(heap: Heap, end: End, is_whole: bool) -> bool {
     match end {
-        // A list that is collected asks for less where its first request is refused.
+        // A list that is collected asks for less if its first request is refused.
         End::Closed => is_whole,
         End::Memory | End::DeskStopped => heap.has_refused(),
         _ => false,
     }
 }
 
-/// How many operations took the lock, and how many gave it back.
-fn locks_of(transcript: &Transcript<Heap>) -> (usize, usize) {
-    let (mut got, mut given) = (0usize, 0usize);
-    for asked in transcript.asked.get() {
-        match (asked.ticket, &asked.op) {
-            (Some(_), Op::Take) => got = got.saturating_add(1),
-            (Some(_), Op::Commit { .. } | Op::Free { .. }) => given = given.saturating_add(1),
-            _ => {}
-        }
-    }
-    (got, given)
-}
-
-/// No lock is held: what the session took it gave back.
-fn check_locks<'h>(
-    desk: &mut LoneDesk<Heap<'h>>,
-    transcript: &Transcript<Heap<'h>>,
-) -> Result<(), Fail> {
-    let (got, given) = locks_of(transcript);
-    check(got == given, "a lock is not given back")?;
-    let (_, outcome) = taken(desk)?;
-    check(
-        matches!(&outcome, Outcome::Taken(_)),
-        "the desk holds a lock",
-    )
+/// The session gave back the lock that it took.
+fn check_free<'h>(desk: &mut LoneDesk<Heap<'h>>) -> Result<(), Fail> {
+    let (_, outcome) = desk.perform(alice()?, Op::Take).ok_or("no ticket")?;
+    let is_free = matches!(&outcome, Outcome::Taken(_));
+    check(is_free, "the desk holds a lock")
 }
 
 impl Served {
@@ -100,7 +79,7 @@ impl Scenario for Served {
         let mut desk = desk_of_two(heap)?;
         let transcript = self.serve(heap, refusal, &mut desk, &mut room)?;
         self.check_written(heap, &transcript, &room)?;
-        check_locks(&mut desk, &transcript)
+        check_free(&mut desk)
     }
 }
 

@@ -1,13 +1,13 @@
-//! What happens in the run: three nodes, one of which is down, mail for two users at two nodes, and a session that removes
-//! a message.
+//! What happens to a service, and the run: three nodes, one of which is down, mail for two users at two nodes, and a session
+//! that removes a message.
 ghost use Rattle.std.specs.Prelude.{◌≡◌, IfOk};
 
-use apop::{Accounts, stamp};
+use apop::{Accounts, Stamp, stamp};
 use ballot::Cluster;
 use maildrop::Limits;
 use pop3_wire::{Line, LineBytes};
-use samples::{name, node, text};
-use std::alloc::{Allocator, Global};
+use samples::{check, name, node, text};
+use std::alloc::Allocator;
 use std::test::Fail;
 use world::{Config, Event, SessionId, World};
 
@@ -23,12 +23,12 @@ pub enum Happening {
     Campaign(u8),
     /// A message of these lines comes in at a node for a user.
     Mail(u8, &'static str, &'static [&'static str]),
-    /// The client connects to a node.
-    Connect(u8),
-    /// The client sends a line.
-    Line(&'static str),
-    /// The client is gone.
-    Hangup,
+    /// A client, which has this number, connects to a node.
+    Connect(u64, u8),
+    /// A client sends a line.
+    Line(u64, &'static str),
+    /// A client is gone.
+    Hangup(u64),
     /// So many events come by themselves: in the run all that do.
     Settle(u64),
 }
@@ -46,15 +46,15 @@ pub const RUN: &[Happening] = &[
     Happening::Settle(18),
     Happening::Mail(1, "alice", &["Subject: a3", "", "three"]),
     Happening::Settle(8),
-    Happening::Connect(2),
-    Happening::Line("USER alice"),
-    Happening::Line("PASS s3"),
+    Happening::Connect(1, 2),
+    Happening::Line(1, "USER alice"),
+    Happening::Line(1, "PASS s3"),
     Happening::Settle(9),
-    Happening::Line("STAT"),
-    Happening::Line("UIDL"),
-    Happening::Line("RETR 2"),
-    Happening::Line("DELE 1"),
-    Happening::Line("QUIT"),
+    Happening::Line(1, "STAT"),
+    Happening::Line(1, "UIDL"),
+    Happening::Line(1, "RETR 2"),
+    Happening::Line(1, "DELE 1"),
+    Happening::Line(1, "QUIT"),
     Happening::Settle(9),
 ];
 
@@ -68,80 +68,80 @@ pub const TOLD: &[u8] = b"+OK POP3 server ready <n.1@mail.test>\r\n\
 +OK message 1 deleted\r\n\
 +OK signing off\r\n";
 
-/// The client's session.
-pub fn session() -> SessionId {
-    SessionId::new(1)
+/// The accounts of alice and bob.
+pub fn accounts<A: Allocator + Copy>(alloc: A) -> Result<Accounts<A>, Fail> {
+    Ok(Accounts::read(alloc, b"alice pass s3\nbob pass s4\n")?)
 }
 
-/// The accounts of these rows.
-fn accounts_of<A: Allocator + Copy>(alloc: A, rows: &[u8]) -> Result<Accounts<A>, Fail> {
-    Ok(Accounts::read(alloc, rows)?)
+/// The timestamp of each greeting.
+pub fn new_stamp() -> Result<Stamp, Fail> {
+    Ok(stamp(b"n.1", b"mail.test").ok_or("no stamp")?)
 }
 
 /// What the service begins with.
 pub fn config<A: Allocator + Copy>(alloc: A) -> Result<Config<A>, Fail>
     ensures { IfOk result (λ config. config.window ≡ 10) }
 {
-    let accounts = accounts_of(alloc, b"alice pass s3\nbob pass s4\n")?;
     let limits = Limits::new(1_000, 1_000_000, 1_000_000).ok_or("no limits")?;
     let cluster = Cluster::new(3).ok_or("no cluster")?;
     Ok(Config {
-        accounts,
+        accounts: accounts(alloc)?,
         limits,
         cluster,
         window: 10,
     })
 }
 
-/// The service before the run.
-pub fn new_service(alloc: Global) -> Result<World, Fail> {
-    let config = config(alloc)?;
-    Ok(World::new(alloc, config)?)
-}
-
-/// The event that happens; none where all comes that comes by itself.
-pub fn event_of<A: Allocator + Copy>(
-    alloc: A,
-    happening: Happening,
-) -> Result<Option<Event<A>>, Fail> {
-    Ok(Some(match happening {
+/// The event that happens, if it doesn't come by itself.
+pub fn event_of<A: Allocator + Copy>(alloc: A, happening: Happening) -> Result<Event<A>, Fail> {
+    Ok(match happening {
         Happening::Crash(number) => Event::Crash(node(number)?),
         Happening::Campaign(number) => Event::Campaign(node(number)?),
-        Happening::Mail(number, user, lines) => mail_of(alloc, number, user, lines)?,
-        Happening::Connect(number) => connect_of(session(), number)?,
-        Happening::Line(words) => line_of(session(), words)?,
-        Happening::Hangup => Event::Hangup { session: session() },
-        Happening::Settle(_) => return Ok(None),
-    }))
+        Happening::Mail(number, user, lines) => Event::Mail {
+            node: node(number)?,
+            user: name(user)?,
+            text: text(alloc, lines)?,
+            key: None,
+        },
+        Happening::Connect(number, at) => Event::Connect {
+            session: SessionId::new(number),
+            node: node(at)?,
+            stamp: new_stamp()?,
+        },
+        Happening::Line(number, words) => Event::Line {
+            session: SessionId::new(number),
+            line: Line::Whole(LineBytes::new(words.as_bytes()).ok_or("no line")?),
+        },
+        Happening::Hangup(number) => Event::Hangup {
+            session: SessionId::new(number),
+        },
+        Happening::Settle(_) => Err("this comes by itself")?,
+    })
 }
 
-fn mail_of<A: Allocator + Copy>(
+/// What happens next happens; of what comes by itself so many events.
+pub fn step<A: Allocator + Copy>(
     alloc: A,
-    number: u8,
-    user: &str,
-    lines: &[&str],
-) -> Result<Event<A>, Fail> {
-    Ok(Event::Mail {
-        node: node(number)?,
-        user: name(user)?,
-        text: text(alloc, lines)?,
-        key: None,
-    })
+    world: &mut World<A>,
+    happening: Happening,
+) -> Result<(), Fail> {
+    match happening {
+        Happening::Settle(events) => {
+            let settled = world.settle(events)?;
+            check(settled == events, "fewer events come by themselves")
+        }
+        _ => Ok(world.step(event_of(alloc, happening)?)?),
+    }
 }
 
-/// A client connects to a node.
-pub fn connect_of<A: Allocator>(session: SessionId, number: u8) -> Result<Event<A>, Fail> {
-    Ok(Event::Connect {
-        session,
-        node: node(number)?,
-        stamp: stamp(b"n.1", b"mail.test").ok_or("no stamp")?,
-    })
-}
-
-/// A client sends a line.
-pub fn line_of<A: Allocator>(session: SessionId, words: &str) -> Result<Event<A>, Fail> {
-    Ok(Event::Line {
-        session,
-        line: Line::Whole(LineBytes::new(words.as_bytes()).ok_or("no line")?),
-    })
+/// All these happen.
+pub fn step_all<A: Allocator + Copy>(
+    alloc: A,
+    world: &mut World<A>,
+    happenings: &[Happening],
+) -> Result<(), Fail> {
+    for happening in happenings {
+        step(alloc, world, *happening)?;
+    }
+    Ok(())
 }

@@ -1,6 +1,6 @@
-//! What a node tells that has stopped: one that has crashed all that it did before, and one that found no memory nothing.
+//! What a stopped node reports: all that it did before if it has crashed, and nothing if it found no memory.
 
-use crate::happenings::{Happening, config, event_of};
+use crate::happenings::{Happening, config, event_of, step_all};
 use refusing::Refusal;
 use samples::{Heap, Scenario, alice, check, node, requests};
 use std::alloc::Allocator;
@@ -30,9 +30,9 @@ struct Last {
 const EVENTS: &[Last] = &[
     Last {
         before: &[
-            Happening::Connect(2),
-            Happening::Line("USER alice"),
-            Happening::Line("PASS s3"),
+            Happening::Connect(1, 2),
+            Happening::Line(1, "USER alice"),
+            Happening::Line(1, "PASS s3"),
         ],
         event: Happening::Mail(2, "alice", &["one"]),
         performed: 0,
@@ -41,10 +41,10 @@ const EVENTS: &[Last] = &[
     Last {
         before: &[
             Happening::Mail(2, "alice", &["one"]),
-            Happening::Connect(2),
-            Happening::Line("USER alice"),
+            Happening::Connect(1, 2),
+            Happening::Line(1, "USER alice"),
         ],
-        event: Happening::Line("PASS s3"),
+        event: Happening::Line(1, "PASS s3"),
         performed: 0,
         ticket: 2,
     },
@@ -53,12 +53,12 @@ const EVENTS: &[Last] = &[
             Happening::Crash(3),
             Happening::Campaign(1),
             Happening::Settle(4),
-            Happening::Connect(2),
-            Happening::Line("USER alice"),
-            Happening::Line("PASS s3"),
+            Happening::Connect(1, 2),
+            Happening::Line(1, "USER alice"),
+            Happening::Line(1, "PASS s3"),
             Happening::Settle(9),
         ],
-        event: Happening::Hangup,
+        event: Happening::Hangup(1),
         performed: 1,
         ticket: 2,
     },
@@ -89,40 +89,10 @@ const EVENTS: &[Last] = &[
     },
 ];
 
-/// What happens next happens; of what comes by itself so many events.
-fn step<'h>(heap: Heap<'h>, world: &mut World<Heap<'h>>, happening: Happening) -> Result<(), Fail> {
-    match (event_of(heap, happening)?, happening) {
-        (Some(event), _) => Ok(world.step(event)?),
-        (None, Happening::Settle(events)) => {
-            let settled = world.settle(events)?;
-            check(settled == events, "fewer events come by themselves")
-        }
-        (None, _) => Ok(()),
-    }
-}
-
-fn step_all<'h>(
-    heap: Heap<'h>,
-    world: &mut World<Heap<'h>>,
-    happenings: &[Happening],
-) -> Result<(), Fail> {
-    for happening in happenings {
-        step(heap, world, *happening)?;
-    }
-    Ok(())
-}
-
-/// The service behind these.
-pub fn service_behind<'h>(heap: Heap<'h>, before: &[Happening]) -> Result<World<Heap<'h>>, Fail> {
-    let mut world = World::new(heap, config(heap)?)?;
-    step_all(heap, &mut world, before)?;
-    Ok(world)
-}
-
 /// How many commands a node has performed, and the number of its last ticket for alice.
 type Told = (usize, u64);
 
-/// The node tells this, or nothing.
+/// The node reports this, or nothing.
 fn check_told<A: Allocator + Copy>(world: &World<A>, expected: Option<Told>) -> Result<(), Fail> {
     let node = node(STOPPING)?;
     let performed = world.performed(node).map(|performed| performed.len());
@@ -141,13 +111,13 @@ fn next_event<'h>(
     world: &World<Heap<'h>>,
     happening: Happening,
 ) -> Result<Event<Heap<'h>>, Fail> {
-    match event_of(heap, happening)? {
-        Some(event) => Ok(event),
-        None => Ok(world.next_oldest(0).ok_or("nothing comes by itself")?),
+    match happening {
+        Happening::Settle(_) => Ok(world.next_oldest(0).ok_or("nothing comes by itself")?),
+        _ => event_of(heap, happening),
     }
 }
 
-/// The node has told this, and tells it once it has crashed.
+/// The node reports this, also once it has crashed.
 fn check_crash<A: Allocator + Copy>(world: &mut World<A>, told: Told) -> Result<(), Fail> {
     check_told(world, Some(told))?;
     match world.step(Event::Crash(node(STOPPING)?)) {
@@ -156,7 +126,7 @@ fn check_crash<A: Allocator + Copy>(world: &mut World<A>, told: Told) -> Result<
     }
 }
 
-/// The node tells this behind the event, or nothing where there was no memory.
+/// The node reports this after the event, or nothing if there was no memory.
 fn check_behind<'h>(
     heap: Heap<'h>,
     world: &mut World<Heap<'h>>,
@@ -171,13 +141,14 @@ fn check_behind<'h>(
 }
 
 impl Last {
-    /// The event happens, some of whose requests may be refused.
+    /// The event happens after the others, some of whose requests may be refused.
     fn happen<'h>(
         &self,
         heap: Heap<'h>,
         refusal: Refusal,
         world: &mut World<Heap<'h>>,
     ) -> Result<(), Fail> {
+        step_all(heap, world, self.before)?;
         let event = next_event(heap, world, self.event)?;
         heap.refuse(refusal);
         let happened = world.step(event);
@@ -188,7 +159,8 @@ impl Last {
 
 impl Scenario for Last {
     fn run(&self, heap: Heap, refusal: Refusal) -> Result<(), Fail> {
-        let mut world = service_behind(heap, self.before)?;
+        let config = config(heap)?;
+        let mut world = World::new(heap, config)?;
         self.happen(heap, refusal, &mut world)
     }
 }

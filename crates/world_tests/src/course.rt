@@ -1,0 +1,80 @@
+//! The run, event by event, with a node that may stop before one of them.
+
+use crate::happenings::{Happening, LIMIT, RUN, config, event_of};
+use crate::told::{check_told, pass};
+use ballot::NodeId;
+use samples::{check, node};
+use std::alloc::Global;
+use std::test::Fail;
+use world::{Event, World};
+
+/// A service that takes the run.
+#[derive(Drop)]
+pub struct Course {
+    /// The service.
+    pub world: World,
+    /// What has happened so far, without the crash.
+    pub events: Vec<Event>,
+    node: NodeId,
+    /// How many events are still to come before the node crashes; None once it has.
+    left: Option<usize>,
+}
+
+impl Course {
+    /// The service before the run, with a node that crashes before the event at this place.
+    pub fn new(alloc: Global, number: u8, place: usize) -> Result<Course, Fail> {
+        let node = node(number)?;
+        let config = config(alloc)?;
+        Ok(Course {
+            world: World::new(alloc, config)?,
+            events: Vec::new(alloc),
+            node,
+            left: Some(place),
+        })
+    }
+
+    /// An event happens, the crash before it if it is time. The same event is kept.
+    fn step(&mut self, event: Event, kept: Event) -> Result<(), Fail> {
+        self.events.push(kept)?;
+        match self.left {
+            None => {}
+            Some(0) => {
+                self.left = None;
+                self.world.step(Event::Crash(self.node))?;
+            }
+            Some(left) => self.left = Some(left - 1),
+        }
+        pass(self.world.step(event), self.left.is_none(), false)
+    }
+
+    /// All that comes by itself happens: as many events as the run says, unless the node has crashed.
+    fn settle(&mut self, expected: u64) -> Result<(), Fail> {
+        for events in 0..LIMIT {
+            let (Some(event), Some(kept)) = (self.world.next_oldest(0), self.world.next_oldest(0))
+            else {
+                let is_expected = self.left.is_none() || events == expected;
+                return check(is_expected, "another number of events comes by itself");
+            };
+            self.step(event, kept)?;
+        }
+        Err("events come by themselves without end")?
+    }
+
+    fn happen(&mut self, alloc: Global, happening: Happening) -> Result<(), Fail> {
+        match happening {
+            Happening::Settle(expected) => self.settle(expected),
+            _ => {
+                let event = event_of(alloc, happening)?;
+                self.step(event, event_of(alloc, happening)?)
+            }
+        }
+    }
+
+    /// The run happens. The session is told all, or how that begins if the node is to crash.
+    pub fn run(&mut self, alloc: Global, is_whole: bool) -> Result<(), Fail> {
+        for happening in RUN {
+            self.happen(alloc, *happening)?;
+        }
+        check_told(&self.world, is_whole)
+    }
+}

@@ -1,0 +1,80 @@
+//! What an audit finds if logs or transcripts were changed.
+
+use crate::changes::{Change, make_change};
+use crate::runs::{LINES, Plan, audited, play};
+use audit::AuditError::{self, NoOrder, WrongAnswer};
+use samples::{check, node};
+use std::alloc::Global;
+use std::test::Fail;
+
+/// A session at one node of one.
+const ALONE: Plan = Plan {
+    nodes: 1,
+    lives: 9,
+    sessions: &[(0, LINES)],
+};
+
+/// Two sessions there, one after another.
+const TWO: Plan = Plan {
+    nodes: 1,
+    lives: 9,
+    sessions: &[(0, LINES), (0, LINES)],
+};
+
+/// A session at the second node of three.
+const SECOND: Plan = Plan {
+    nodes: 3,
+    lives: 9,
+    sessions: &[(1, LINES)],
+};
+
+/// A session at each of two nodes of three.
+const APART: Plan = Plan {
+    nodes: 3,
+    lives: 9,
+    sessions: &[(0, LINES), (1, LINES)],
+};
+
+/// A session at the second node of three, which crashes before it is asked for a second operation.
+const CRASHED: Plan = Plan {
+    nodes: 3,
+    lives: 1,
+    sessions: &[(1, LINES)],
+};
+
+/// A plan, what is changed of what is left of it, and why the audit then gives no events, if it doesn't.
+type Row = (Plan, Option<Change>, Option<AuditError>);
+
+fn check_row(alloc: Global, (plan, change, expected): Row) -> Result<(), Fail> {
+    let mut run = play(alloc, plan)?;
+    if let Some(change) = change {
+        make_change(&mut run, change)?;
+    }
+    check(audited(alloc, &run) == expected, "another finding")
+}
+
+/// What happened is legal, also if the answer to the last operation is lost. What could not come has no order, and what was
+/// told otherwise is wrong.
+#[test]
+fn an_audit_finds_what_was_changed(rt: HostRuntime) -> Result<(), Fail> {
+    let (first, second, third) = (node(1)?, node(2)?, node(3)?);
+    for row in [
+        (ALONE, None, None),
+        (TWO, None, None),
+        (APART, None, None),
+        (CRASHED, None, None),
+        (ALONE, Some(Change::NoOutcome), None),
+        (SECOND, Some(Change::WithoutP2a(1)), Some(NoOrder(first))),
+        (SECOND, Some(Change::Unsent(1)), Some(NoOrder(second))),
+        (SECOND, Some(Change::Unsent(2)), Some(NoOrder(third))),
+        (ALONE, Some(Change::NoTicket), Some(NoOrder(first))),
+        (ALONE, Some(Change::Reversed), Some(NoOrder(first))),
+        (ALONE, Some(Change::NameTwice), Some(NoOrder(first))),
+        (ALONE, Some(Change::NoSessions), Some(NoOrder(first))),
+        (ALONE, Some(Change::NoLogs), Some(WrongAnswer(0))),
+        (ALONE, Some(Change::OtherOutcome), Some(WrongAnswer(0))),
+    ] {
+        check_row(rt.alloc(), row)?;
+    }
+    Ok(())
+}
