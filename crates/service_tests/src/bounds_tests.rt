@@ -1,11 +1,11 @@
 //! Clients that say nothing, say too much or try secrets, a user who is cut off, and the log of it all.
 
-use crate::clients::{connect, line_after, read_all, send};
+use crate::clients::{connect, line_after, send};
 use crate::plays::Row::{Comes, Ctl, Ends, Says};
-use crate::plays::{STOP, Scene, play};
+use crate::plays::{STOP, Scene, play_after};
 use crate::running::{Running, bounded, file, remove, start_planned};
 use std::alloc::Global;
-use std::io::Read;
+use std::io::{Read, Write};
 use std::net::{Net, TcpStream};
 use std::rt::Files;
 use std::test::*;
@@ -55,8 +55,10 @@ fn send_too_much<R: Net<Stream = TcpStream>>(
     let client = connect(rt, service.node(1))?;
     let mut bytes = Vec::new(alloc);
     bytes.resize(TOO_MANY, b'x')?;
-    let _cut = send(&client, bytes.as_slice());
-    let _cut = read_all(alloc, &client);
+    let mut stream = &client;
+    let _cut = stream.write_all(bytes.as_slice());
+    let mut told = Vec::new(alloc);
+    let _cut = stream.read_to_end(&mut told);
     Ok(())
 }
 
@@ -73,8 +75,8 @@ fn is_held_up<R: Net<Stream = TcpStream> + Clock>(
     let next = line_after(alloc, &client, 1)?;
     let waited = since.elapsed(rt)?;
     Ok(
-        refused.as_slice() == b"-ERR invalid login\r\n"
-            && next.as_slice() == b"-ERR not in this state\r\n"
+        refused.as_slice() == b"-ERR invalid login\r\n".as_slice()
+            && next.as_slice() == b"-ERR not in this state\r\n".as_slice()
             && waited.as_secs() >= PAUSE_SECONDS,
     )
 }
@@ -112,7 +114,7 @@ fn clients_are_cut_at_their_bounds(rt: HostRuntime) -> Result<(), Fail> {
     let service = start_planned!(rt, alloc, bounded(&rt, alloc, BOUNDED.accounts, log));
     send_too_much(&rt, alloc, &service)?;
     let is_held_up = is_held_up(&rt, alloc, &service)?;
-    play(&rt, alloc, service, &BOUNDED)?;
+    play_after(&rt, alloc, service, &BOUNDED, 2)?;
     let is_logged = is_logged(&rt, alloc, log, LOGGED)?;
     remove(&rt, log);
     assert!(rt; is_held_up && is_logged);

@@ -172,7 +172,7 @@ fn long_lines_and_bytes_of_no_command(rt: HostRuntime) -> Result<(), Fail> {
     let alloc = rt.alloc();
     let service = start!(rt, alloc, ACCOUNTS);
     let mut line = Vec::new(alloc);
-    line.resize(1_000_000, b'x')?;
+    line.resize(60_000, b'x')?;
     line.extend_from_slice(b"\r\n\x00\xff\x80\r\nQUIT\r\n")?;
     let said = replies(&rt, alloc, service.node(2), line.as_slice())?;
     assert_eq!(rt;

@@ -242,12 +242,19 @@ impl Stage {
 pub fn play<
     R: Net<Listener = TcpListener, Stream = TcpStream> + Threads + RandomSource + Files + Eprint,
 >(rt: &R, alloc: Global, service: Running, scene: &Scene) -> Result<(), Fail> {
+    play_after(rt, alloc, service, scene, 0)
+}
+
+/// The same for a service that has greeted so many clients.
+pub fn play_after<
+    R: Net<Listener = TcpListener, Stream = TcpStream> + Threads + RandomSource + Files + Eprint,
+>(rt: &R, alloc: Global, service: Running, scene: &Scene, greeted: u64) -> Result<(), Fail> {
     let mut stage = Stage {
         alloc,
         service,
         path: file(rt, alloc, "mailbox", scene.mailbox.as_bytes())?,
         clients: Vec::new(alloc),
-        greeted: 0,
+        greeted,
     };
     stage.happen(rt, scene.rows)?;
     let Stage {

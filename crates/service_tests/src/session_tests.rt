@@ -204,8 +204,14 @@ const CRASH: Scene = Scene {
         Ends(0),
         Says(1, BOB, "+OK send PASS\r\n"),
         Ends(1),
+        // Whoever comes to its port from then on is served at a node that is up.
         Comes(2),
-        Says(2, BOB, "+OK send PASS\r\n"),
+        Says(
+            2,
+            BOB,
+            "+OK send PASS\r\n+OK maildrop has 0 messages (0 octets)\r\n",
+        ),
+        Says(2, QUIT, BYE),
         Ends(2),
         Comes(1),
         Says(3, ALICE, LOCKED),
@@ -318,7 +324,8 @@ const STILL_OPEN: Scene = Scene {
         Refused(1),
         Refused(2),
         Refused(3),
-        Ctl("status", 1, ""),
+        // Operators are heard until its end.
+        Shows("node 1 up "),
         Says(
             0,
             "STAT\r\nDELE 1\r\n",

@@ -4,6 +4,7 @@ use crate::clients::local;
 use crate::running::{file, free_ports, options, remove};
 use service::{CtlOptions, ServeOptions, ctl_run, serve_run};
 use std::alloc::Global;
+use std::fs::File;
 use std::io::Eprint;
 use std::net::{Net, TcpListener, TcpStream};
 use std::random::RandomSource;
@@ -209,7 +210,7 @@ fn status_with<
         + Send
         + Sync
         + 'static
-        + Files
+        + Files<File = File>
         + Eprint,
 >(rt: R, alloc: Global, bytes: &[u8]) -> Result<u8, Fail> {
     let path = file(&rt, alloc, "accounts", bytes)?;

@@ -2,6 +2,7 @@
 
 use ballot::NodeId;
 use service::{Fault, Verdict};
+use std::net::{IpAddr, Ipv4Addr};
 use std::test::*;
 
 #[test]
@@ -33,8 +34,20 @@ const FAULTS: &[(Fault, &str, u8)] = &[
     (Fault::Value, "bad value", 2),
     (Fault::Account(12), "accounts line 12", 2),
     (Fault::NameTwice(2), "accounts line 2: name twice", 2),
-    (Fault::Listen(65_535), "cannot listen on 127.0.0.1:65535", 1),
+    (
+        Fault::Listen(IpAddr::V4(Ipv4Addr::LOCALHOST), 65_535),
+        "cannot listen on 127.0.0.1:65535",
+        1,
+    ),
+    (
+        Fault::ListenSocket,
+        "cannot listen on the operator's socket",
+        1,
+    ),
     (Fault::Reach(1), "cannot reach 127.0.0.1:1", 1),
+    (Fault::ReachSocket, "cannot reach the operator's socket", 1),
+    (Fault::Log, "cannot open the log", 1),
+    (Fault::NoMajority, "no majority", 1),
     (Fault::Memory, "no memory", 1),
     (Fault::Read, "read failed", 1),
     (Fault::Write, "write failed", 1),
