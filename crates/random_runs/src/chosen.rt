@@ -32,7 +32,7 @@ impl Votes {
         }
     }
 
-    /// Counts the votes among these messages, all that were sent. Tells what may not be among them.
+    /// Counts the votes among these messages, all that were sent. Reports what may not be among them.
     pub fn count(&mut self, sent: &[Sent]) -> Result<Option<&'static str>, Fail> {
         for message in sent {
             match &message.envelope.message {
