@@ -12,7 +12,7 @@ use std::alloc::Global;
 use std::test::Fail;
 
 /// How many times chance decides what happens.
-const TURNS: u32 = 200;
+const TURNS: u32 = 220;
 
 /// How many events there may be before these, until the first client has logged in.
 const FIRST: usize = 200;
@@ -264,7 +264,7 @@ impl Play {
                 let _ = self.service.take(Happening::Collect(place))?;
                 Ok(())
             }
-            26..29 => self.operate(chance),
+            26..30 => self.operate(chance),
             _ => self.at_node(chance),
         }
     }
