@@ -109,9 +109,9 @@ fn finding_of(
 impl Totals {
     /// Plays the next service, and has it audited with a change, if that is to be made. What is found.
     fn run(&mut self, alloc: Global, change: Option<Change>) -> Result<Found, Fail> {
+        self.runs = self.runs.saturating_add(1);
         let mut chance = Chance::new(self.runs);
         let play = random_play(alloc, &mut chance, change.is_some())?;
-        self.runs = self.runs.saturating_add(1);
         self.performed = self.performed.saturating_add(play.service.longest().len());
         self.logins = self.logins.saturating_add(play.logins());
         finding_of(alloc, &play, &mut chance, change)
