@@ -10,6 +10,7 @@ pub struct Chance {
 }
 
 impl Chance {
+    /// The choices of this seed.
     pub fn new(seed: u64) -> Self {
         Chance {
             words: Pcg32::new(seed, 1),

@@ -24,6 +24,7 @@ pub struct Votes {
 }
 
 impl Votes {
+    /// None are counted yet.
     pub fn new(alloc: Global, cluster: Cluster) -> Self {
         Votes {
             alloc,

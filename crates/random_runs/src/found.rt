@@ -88,7 +88,7 @@ fn wrong_sessions(records: &Records, service: &Service, seats: &[Seat]) -> Optio
 }
 
 /// What is wrong with a service that is to be just what these records say, if something is.
-pub fn fault_of(
+fn fault_in(
     replayed: &mut Replayed,
     service: &Service,
     records: &Records,
@@ -103,7 +103,7 @@ pub fn fault_of(
 /// Whether a service is just what these records say.
 pub fn explains(alloc: Global, service: &Service, records: &Records) -> Result<Found, Fail> {
     let mut replayed = Replayed::new(alloc, service.cluster)?;
-    Ok(match fault_of(&mut replayed, service, records)? {
+    Ok(match fault_in(&mut replayed, service, records)? {
         Some(fault) => Found::Amiss(fault),
         None => Found::Explained,
     })

@@ -46,7 +46,10 @@ impl<'r> Sources<'r> {
         let Some(inputs) = self.inputs.get_mut(place_of(node)) else {
             return Ok(None);
         };
-        while let Some((input, rest)) = inputs.split_first() {
+        for _ in 0..inputs.len() {
+            let Some((input, rest)) = inputs.split_first() else {
+                break;
+            };
             *inputs = rest;
             if is_given(input) {
                 return Ok(Some(Happening::Given(node, input.copy()?)));

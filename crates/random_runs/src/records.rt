@@ -20,8 +20,10 @@ pub struct Records {
 impl Records {
     /// Adds the logs of the nodes, which are then gone.
     fn add_logs(&mut self, replayed: &mut Replayed) -> Result<(), Fail> {
-        while let Some(node) = replayed.nodes.pop() {
-            self.logs.push(node.into_log())?;
+        for _ in 0..replayed.nodes.len() {
+            if let Some(node) = replayed.nodes.pop() {
+                self.logs.push(node.into_log())?;
+            }
         }
         self.logs.reverse();
         Ok(())
