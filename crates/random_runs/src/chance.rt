@@ -10,26 +10,21 @@ pub struct Chance {
 }
 
 impl Chance {
+    /// The choices of this seed.
     pub fn new(seed: u64) -> Self {
         Chance {
             words: Pcg32::new(seed, 1),
         }
     }
 
-    /// A number below `count`, or 0 where there is none.
-    pub fn below(&mut self, count: u32) -> u32 {
-        let word = self.words.next_word();
+    /// A number below `count`, or 0 if there is none.
+    pub fn below(&mut self, count: usize) -> usize {
+        let word = self.words.next_word() as usize;
         if count == 0 { 0 } else { word % count }
     }
 
     /// One of the items, if there are some.
     pub fn pick<'a, T>(&mut self, items: &'a [T]) -> Option<&'a T> {
-        let count = u32::try_from(items.len()).unwrap_or(u32::MAX);
-        items.get(self.below(count) as usize)
-    }
-
-    /// Whether one of so many times has come.
-    pub fn one_in(&mut self, times: u32) -> bool {
-        self.below(times) == 0
+        items.get(self.below(items.len()))
     }
 }

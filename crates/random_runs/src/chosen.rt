@@ -24,6 +24,7 @@ pub struct Votes {
 }
 
 impl Votes {
+    /// None are counted yet.
     pub fn new(alloc: Global, cluster: Cluster) -> Self {
         Votes {
             alloc,
@@ -32,7 +33,7 @@ impl Votes {
         }
     }
 
-    /// Counts the votes among these messages, all that were sent. Tells what may not be among them.
+    /// Counts the votes among these messages, all that were sent. Reports what may not be among them.
     pub fn count(&mut self, sent: &[Sent]) -> Result<Option<&'static str>, Fail> {
         for message in sent {
             match &message.envelope.message {

@@ -1,29 +1,37 @@
 //! A service under random events.
 
 use crate::chance::Chance;
-use crate::samples::{LINES, config, greeting_stamp, line, name, text};
-use crate::talk::Talk;
-use ballot::{Cluster, NodeId, Slot};
-use maildrop::{Name, SharedCommand, Ticket};
+use crate::config::{USERS, WORDS, line, words_of};
+use crate::happening::Happening;
+use crate::service::Service;
+use ballot::NodeId;
+use maildrop::{Name, Op, Shared, Ticket};
+use node::Input;
+use samples::{cluster, mail, name, node};
 use std::alloc::Global;
 use std::test::Fail;
-use world::{Event, SessionId, World};
 
-/// How many events a run has before it comes to rest.
-const EVENTS: u32 = 250;
+/// How many times chance decides what happens.
+const TURNS: u32 = 220;
+
+/// How many events there may be before these, until the first client has logged in.
+const FIRST: usize = 200;
 
 /// How many events it may take to come to rest.
-const REST: u64 = 2_000;
+const REST: usize = 2_000;
 
 /// The largest cluster.
-const MOST_NODES: u32 = 5;
+const MOST_NODES: usize = 5;
+
+/// How many sessions a service may have.
+pub const SESSIONS: usize = 6;
 
 /// How many messages lie behind one that arrives late, at most.
-const LATEST: u32 = 60;
+const LATEST: usize = 60;
 
 /// What was asked of a node.
 #[derive(Clone, Copy, PartialEq, Eq)]
-pub enum Asked {
+pub enum Kind {
     Mail,
     Break,
     /// Take, Commit or Free.
@@ -35,7 +43,7 @@ pub enum Asked {
 pub struct Submitted {
     pub user: Name,
     pub ticket: Ticket,
-    pub asked: Asked,
+    pub kind: Kind,
 }
 
 /// What came of an event at a node.
@@ -47,87 +55,63 @@ enum Taken {
     Asked(Ticket),
 }
 
+/// What a session's client says, and what came of it.
+#[derive(Drop)]
+pub struct Talk {
+    /// The place of its user among all.
+    pub user: usize,
+    pub name: Name,
+    /// The node to which it is connected, if it is.
+    pub node: Option<NodeId>,
+    /// The numbers of the words that its session heard.
+    pub said: Vec<usize>,
+    /// The tickets that its node gave to what they asked for.
+    pub tickets: Vec<Ticket>,
+}
+
 /// A service, and what it was given.
 #[derive(Drop)]
 pub struct Play {
-    pub world: World,
-    pub cluster: Cluster,
+    pub service: Service,
     pub talks: Vec<Talk>,
     pub submitted: Vec<Submitted>,
+    /// How many users have clients and get mail.
+    users: usize,
+    alloc: Global,
 }
 
-/// What is asked for next.
-#[derive(Clone, Copy)]
-enum Choice {
-    Arrive,
-    Oldest,
-    Newest,
-    Line,
-    Connect,
-    Collect,
-    Hangup,
-    Mail,
-    Break,
-    Node,
+/// The clients of all sessions, each of one of so many users, which have said nothing yet.
+fn new_talks(alloc: Global, chance: &mut Chance, users: usize) -> Result<Vec<Talk>, Fail> {
+    let mut talks = Vec::new(alloc);
+    for _ in 0..SESSIONS {
+        let user = chance.below(users);
+        talks.push(Talk {
+            user,
+            name: name(USERS.get(user).ok_or("no user")?)?,
+            node: None,
+            said: Vec::new(alloc),
+            tickets: Vec::new(alloc),
+        })?;
+    }
+    Ok(talks)
 }
 
-/// How often each comes.
-const CHOICES: &[Choice] = &[
-    Choice::Arrive,
-    Choice::Arrive,
-    Choice::Arrive,
-    Choice::Arrive,
-    Choice::Oldest,
-    Choice::Oldest,
-    Choice::Oldest,
-    Choice::Oldest,
-    Choice::Oldest,
-    Choice::Oldest,
-    Choice::Oldest,
-    Choice::Oldest,
-    Choice::Newest,
-    Choice::Newest,
-    Choice::Line,
-    Choice::Line,
-    Choice::Line,
-    Choice::Line,
-    Choice::Line,
-    Choice::Connect,
-    Choice::Collect,
-    Choice::Hangup,
-    Choice::Mail,
-    Choice::Mail,
-    Choice::Break,
-    Choice::Node,
-    Choice::Node,
-];
+/// A service of one to five nodes, of which nothing has happened.
+fn new_play(alloc: Global, chance: &mut Chance) -> Result<Play, Fail> {
+    let nodes = chance.below(MOST_NODES).saturating_add(1);
+    let cluster = cluster(u8::try_from(nodes)?)?;
+    let users = chance.below(USERS.len()).saturating_add(1);
+    let talks = new_talks(alloc, chance, users)?;
+    Ok(Play {
+        service: Service::new(alloc, cluster)?,
+        talks,
+        submitted: Vec::new(alloc),
+        users,
+        alloc,
+    })
+}
 
 impl Play {
-    fn new(alloc: Global, cluster: Cluster) -> Result<Self, Fail> {
-        Ok(Play {
-            world: World::new(alloc, config(alloc, cluster)?)?,
-            cluster,
-            talks: Vec::new(alloc),
-            submitted: Vec::new(alloc),
-        })
-    }
-
-    /// The most that a node has performed.
-    pub fn longest(&self) -> &[(Slot, SharedCommand)] {
-        let mut longest: &[(Slot, SharedCommand)] = &[];
-        for number in 1..=self.cluster.get() {
-            let Some(node) = NodeId::new(number) else {
-                continue;
-            };
-            if let Some(performed) = self.world.performed(node)
-                && performed.len() > longest.len()
-            {
-                longest = performed;
-            }
-        }
-        longest
-    }
-
     /// How many sessions asked for a lock.
     pub fn logins(&self) -> usize {
         self.talks
@@ -136,190 +120,185 @@ impl Play {
             .count()
     }
 
-    /// Gives an event. Whether it could happen.
-    fn give(&mut self, event: Event) -> bool {
-        self.world.step(event).is_ok()
+    fn some_node(&self, chance: &mut Chance) -> Result<NodeId, Fail> {
+        let nodes = usize::from(self.service.cluster.get());
+        let number = chance.below(nodes).saturating_add(1);
+        node(u8::try_from(number)?)
     }
 
-    /// Gives an event that may have its node take an operation for the user, and keeps that.
-    fn ask(&mut self, event: Event, node: NodeId, user: Name, asked: Asked) -> Result<Taken, Fail> {
-        let before = self.world.last_ticket(node, user);
-        if !self.give(event) {
+    /// Something happens that may have the node take an operation for the user. Keeps that.
+    fn ask(
+        &mut self,
+        happening: Happening,
+        node: NodeId,
+        user: Name,
+        kind: Kind,
+    ) -> Result<Taken, Fail> {
+        let before = self.service.world.last_ticket(node, user);
+        if !self.service.take(happening)? {
             return Ok(Taken::Refused);
         }
-        let Some(ticket) = self.world.last_ticket(node, user) else {
+        let Some(ticket) = self.service.world.last_ticket(node, user) else {
             return Ok(Taken::Heard);
         };
         if before == Some(ticket) {
             return Ok(Taken::Heard);
         }
-        self.submitted.push(Submitted {
-            user,
-            ticket,
-            asked,
-        })?;
+        self.submitted.push(Submitted { user, ticket, kind })?;
         Ok(Taken::Asked(ticket))
     }
 
-    /// A client connects.
-    fn connect(&mut self, alloc: Global, chance: &mut Chance) -> Result<(), Fail> {
-        let Some(node) = some_node(chance, self.cluster) else {
+    /// The client says the words of this number, if it is connected and its session hears them.
+    fn say(&mut self, place: usize, number: usize) -> Result<(), Fail> {
+        let talk = self.talks.get(place).ok_or("no client")?;
+        let Some(node) = talk.node else {
             return Ok(());
         };
-        let session = SessionId::new(self.talks.len() as u64);
-        if self.give(Event::Connect {
-            session,
-            node,
-            stamp: greeting_stamp()?,
-        }) {
-            self.talks.push(Talk {
-                session,
-                node,
-                is_bob: chance.one_in(4),
-                lines: Vec::new(alloc),
-                tickets: Vec::new(alloc),
-            })?;
-        }
-        Ok(())
-    }
-
-    /// A client says something: most often the next of `LINES`.
-    fn say(&mut self, chance: &mut Chance) -> Result<(), Fail> {
-        let place = chance.below(count_of(self.talks.len())) as usize;
-        let Some(talk) = self.talks.get(place) else {
-            return Ok(());
-        };
-        let said = if chance.one_in(5) {
-            chance.below(count_of(LINES.len()))
-        } else {
-            count_of(talk.lines.len())
-        };
-        let (session, node, user) = (talk.session, talk.node, name(talk.user())?);
-        let line = line(talk.words(said))?;
-        let taken = self.ask(Event::Line { session, line }, node, user, Asked::Lock)?;
-        let Some(talk) = self.talks.get_mut(place) else {
-            return Ok(());
-        };
+        let user = talk.name;
+        let words = line(words_of(talk.user, number).as_bytes())?;
+        let taken = self.ask(Happening::Line(place, words), node, user, Kind::Lock)?;
+        let talk = self.talks.get_mut(place).ok_or("no client")?;
         match taken {
             Taken::Refused => {}
-            Taken::Heard => talk.lines.push(said)?,
+            Taken::Heard => talk.said.push(number)?,
             Taken::Asked(ticket) => {
-                talk.lines.push(said)?;
+                talk.said.push(number)?;
                 talk.tickets.push(ticket)?;
             }
         }
         Ok(())
     }
 
-    /// A client is gone.
-    fn hang_up(&mut self, chance: &mut Chance) -> Result<(), Fail> {
-        let Some(talk) = chance.pick(self.talks.as_slice()) else {
-            return Ok(());
+    /// A client says something: most often what comes next.
+    fn speak(&mut self, place: usize, chance: &mut Chance) -> Result<(), Fail> {
+        let talk = self.talks.get(place).ok_or("no client")?;
+        let number = if chance.below(6) == 0 {
+            chance.below(WORDS.len())
+        } else {
+            talk.said.len()
         };
-        let (session, node, user) = (talk.session, talk.node, name(talk.user())?);
-        let _ = self.ask(Event::Hangup { session }, node, user, Asked::Lock)?;
+        self.say(place, number)
+    }
+
+    /// A client connects, if it hasn't yet.
+    fn connect(&mut self, place: usize, node: NodeId) -> Result<(), Fail> {
+        if self.service.take(Happening::Connect(place, node))? {
+            let talk = self.talks.get_mut(place).ok_or("no client")?;
+            talk.node = Some(node);
+        }
         Ok(())
     }
 
-    /// A session takes its answer, if that is there.
-    fn collect(&mut self, chance: &mut Chance) {
-        if let Some(talk) = chance.pick(self.talks.as_slice()) {
-            let session = talk.session;
-            let _ = self.give(Event::Collect { session });
-        }
+    /// A client is gone.
+    fn hang_up(&mut self, place: usize) -> Result<(), Fail> {
+        let talk = self.talks.get(place).ok_or("no client")?;
+        let Some(node) = talk.node else {
+            return Ok(());
+        };
+        let user = talk.name;
+        let _ = self.ask(Happening::Hangup(place), node, user, Kind::Lock)?;
+        Ok(())
     }
 
     /// A message for a user comes in, or the user's lock is taken away.
-    fn operate(&mut self, alloc: Global, chance: &mut Chance, asked: Asked) -> Result<(), Fail> {
-        let Some(node) = some_node(chance, self.cluster) else {
-            return Ok(());
+    fn operate(&mut self, chance: &mut Chance) -> Result<(), Fail> {
+        let node = self.some_node(chance)?;
+        let user = name(USERS.get(chance.below(self.users)).ok_or("no user")?)?;
+        let (op, kind) = match chance.below(6) {
+            0 | 1 => (Op::Break, Kind::Break),
+            2 => (mail(self.alloc, &[".dots"])?, Kind::Mail),
+            _ => (mail(self.alloc, &["hello"])?, Kind::Mail),
         };
-        let user = name(if chance.one_in(4) { "bob" } else { "alice" })?;
-        let event = match asked {
-            Asked::Mail => Event::Mail {
-                node,
-                user,
-                text: text(alloc, if chance.one_in(3) { ".dots" } else { "hello" })?,
-                key: None,
-            },
-            _ => Event::Break { node, user },
-        };
-        let _ = self.ask(event, node, user, asked)?;
-        Ok(())
-    }
-
-    /// A message arrives that was sent not long ago, whether it came before or not.
-    fn arrive(&mut self, chance: &mut Chance) {
-        let sent = self.world.sent().len();
-        let back = chance.below(LATEST) as usize;
-        let _ = self.give(Event::Arrive(sent.saturating_sub(back).saturating_sub(1)));
-    }
-
-    /// One event, whatever it is.
-    fn turn(&mut self, alloc: Global, chance: &mut Chance) -> Result<(), Fail> {
-        let Some(choice) = chance.pick(CHOICES) else {
-            return Ok(());
-        };
-        match choice {
-            Choice::Arrive => self.arrive(chance),
-            Choice::Oldest => {
-                if let Some(event) = self.world.next_oldest(0) {
-                    let _ = self.give(event);
-                }
-            }
-            Choice::Newest => {
-                if let Some(event) = self.world.next_newest(0, 2) {
-                    let _ = self.give(event);
-                }
-            }
-            Choice::Line => self.say(chance)?,
-            Choice::Connect => self.connect(alloc, chance)?,
-            Choice::Collect => self.collect(chance),
-            Choice::Hangup => self.hang_up(chance)?,
-            Choice::Mail => self.operate(alloc, chance, Asked::Mail)?,
-            Choice::Break => self.operate(alloc, chance, Asked::Break)?,
-            Choice::Node => self.at_node(chance),
-        }
+        let input = Input::Submit(user, Shared::new(self.alloc, op)?);
+        let _ = self.ask(Happening::Given(node, input), node, user, kind)?;
         Ok(())
     }
 
     /// Time passes at a node, it asks to lead, or it crashes.
-    fn at_node(&mut self, chance: &mut Chance) {
-        let Some(node) = some_node(chance, self.cluster) else {
-            return;
+    fn at_node(&mut self, chance: &mut Chance) -> Result<(), Fail> {
+        let node = self.some_node(chance)?;
+        let input = match chance.below(12) {
+            0 => Input::Crash,
+            1..4 => Input::Campaign,
+            _ => Input::Tick,
         };
-        let event = match chance.below(12) {
-            0 => Event::Crash(node),
-            1..4 => Event::Campaign(node),
-            _ => Event::Tick(node),
-        };
-        let _ = self.give(event);
+        let _ = self.service.take(Happening::Given(node, input))?;
+        Ok(())
+    }
+
+    /// A message arrives that was sent not long ago, whether it came before or not.
+    fn arrive(&mut self, chance: &mut Chance) -> Result<(), Fail> {
+        let back = chance.below(LATEST).saturating_add(1);
+        let which = self.service.world.sent().len().saturating_sub(back);
+        let _ = self.service.take(Happening::Arrive(which))?;
+        Ok(())
+    }
+
+    /// What comes next by itself happens, up to so many times, the oldest first or the newest.
+    fn go_on(&mut self, times: usize, newest: bool) -> Result<(), Fail> {
+        for _ in 0..times {
+            let Some(happening) = self.service.next(newest) else {
+                return Ok(());
+            };
+            let _ = self.service.take(happening)?;
+        }
+        Ok(())
+    }
+
+    /// Chance decides what happens.
+    fn turn(&mut self, chance: &mut Chance) -> Result<(), Fail> {
+        let place = chance.below(SESSIONS);
+        match chance.below(32) {
+            0..8 => self.speak(place, chance),
+            8..16 => {
+                let times = chance.below(6);
+                self.go_on(times, chance.below(4) == 0)
+            }
+            16..21 => self.arrive(chance),
+            21..24 => {
+                let node = self.some_node(chance)?;
+                self.connect(place, node)
+            }
+            24 => self.hang_up(place),
+            25 => {
+                let _ = self.service.take(Happening::Collect(place))?;
+                Ok(())
+            }
+            26..30 => self.operate(chance),
+            _ => self.at_node(chance),
+        }
+    }
+
+    /// The first client logs in at node 1, and the service comes to rest.
+    fn log_in(&mut self) -> Result<(), Fail> {
+        self.connect(0, node(1)?)?;
+        self.say(0, 0)?;
+        self.say(0, 1)?;
+        self.go_on(FIRST, false)
+    }
+
+    /// Node 1 asks to lead, and the first client logs in, if it is to. Then chance decides what happens. Three of four
+    /// services then come to rest.
+    fn run(&mut self, chance: &mut Chance, logs_in: bool) -> Result<(), Fail> {
+        let _ = self
+            .service
+            .take(Happening::Given(node(1)?, Input::Campaign))?;
+        if logs_in {
+            self.log_in()?;
+        }
+        for _ in 0..TURNS {
+            self.turn(chance)?;
+        }
+        if chance.below(4) == 0 {
+            return Ok(());
+        }
+        self.go_on(REST, false)
     }
 }
 
-/// As many as a choice can be among.
-fn count_of(length: usize) -> u32 {
-    u32::try_from(length).unwrap_or(u32::MAX)
-}
-
-/// A node of the service.
-fn some_node(chance: &mut Chance, cluster: Cluster) -> Option<NodeId> {
-    let number = chance.below(u32::from(cluster.get())).saturating_add(1);
-    NodeId::new(u8::try_from(number).ok()?)
-}
-
-/// A service under random events, which has then come to rest.
-pub fn random_play(alloc: Global, chance: Chance) -> Result<Play, Fail> {
-    let mut chance = chance;
-    let nodes = chance.below(MOST_NODES).saturating_add(1);
-    let cluster = Cluster::new(u8::try_from(nodes).unwrap_or(1)).ok_or("no cluster")?;
-    let mut play = Play::new(alloc, cluster)?;
-    if let Some(first) = NodeId::new(1) {
-        let _ = play.give(Event::Campaign(first));
-    }
-    for _ in 0..EVENTS {
-        play.turn(alloc, &mut chance)?;
-    }
-    let _ = play.world.settle(REST);
+/// A service under random events. Its first client has logged in before, if it is to.
+pub fn random_play(alloc: Global, chance: &mut Chance, logs_in: bool) -> Result<Play, Fail> {
+    let mut play = new_play(alloc, chance)?;
+    play.run(chance, logs_in)?;
     Ok(play)
 }

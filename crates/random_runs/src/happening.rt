@@ -1,14 +1,14 @@
 //! What happens in a service.
 
-use crate::words::{greeting_stamp, line_again};
+use crate::config::{greeting_stamp, line};
 use ballot::NodeId;
-use maildrop::{Name, Op};
+use maildrop::Op;
 use node::Input;
 use pop3_wire::Line;
 use std::test::Fail;
 use world::{Event, SessionId};
 
-/// What happens in a service, with all that comes. Sessions are told by their places.
+/// What happens in a service, with all that comes. A session has its place as its number.
 #[derive(Drop)]
 pub enum Happening {
     /// The session connects to the node.
@@ -25,15 +25,9 @@ pub enum Happening {
     Arrive(usize),
 }
 
-/// The number of the session at this place.
+/// The session at this place.
 pub fn session_at(place: usize) -> SessionId {
-    SessionId::new((place as u64).saturating_add(1))
-}
-
-/// The place of the session of this number.
-pub fn place_of(session: SessionId) -> usize {
-    let number = session.get().saturating_sub(1);
-    usize::try_from(number).unwrap_or(usize::MAX)
+    SessionId::new(place as u64)
 }
 
 /// The event of a service.
@@ -44,9 +38,13 @@ pub fn event_of(happening: &Happening) -> Result<Event, Fail> {
             node: *node,
             stamp: greeting_stamp()?,
         },
-        Happening::Line(place, line) => Event::Line {
+        Happening::Line(place, Line::Whole(bytes)) => Event::Line {
             session: session_at(*place),
-            line: line_again(line)?,
+            line: line(bytes.get())?,
+        },
+        Happening::Line(place, Line::TooLong) => Event::Line {
+            session: session_at(*place),
+            line: Line::TooLong,
         },
         Happening::Hangup(place) => Event::Hangup {
             session: session_at(*place),
@@ -54,31 +52,27 @@ pub fn event_of(happening: &Happening) -> Result<Event, Fail> {
         Happening::Collect(place) => Event::Collect {
             session: session_at(*place),
         },
-        Happening::Given(node, input) => given(*node, input)?,
+        Happening::Given(node, input) => given_event(*node, input)?,
         Happening::Arrive(which) => Event::Arrive(*which),
     })
 }
 
 /// The event that gives a node this input.
-fn given(node: NodeId, input: &Input) -> Result<Event, Fail> {
+fn given_event(node: NodeId, input: &Input) -> Result<Event, Fail> {
     match input {
-        Input::Submit(user, op) => operation(node, *user, op.get()),
+        Input::Submit(user, op) => match op.get() {
+            Op::Mail { text, key } => Ok(Event::Mail {
+                node,
+                user: *user,
+                text: text.copy()?,
+                key: *key,
+            }),
+            Op::Break => Ok(Event::Break { node, user: *user }),
+            Op::Take | Op::Commit { .. } | Op::Free { .. } => Err("a lock isn't given")?,
+        },
         Input::Tick => Ok(Event::Tick(node)),
         Input::Campaign => Ok(Event::Campaign(node)),
         Input::Crash => Ok(Event::Crash(node)),
         Input::Arrive(_) => Err("a message isn't given")?,
-    }
-}
-
-fn operation(node: NodeId, user: Name, op: &Op) -> Result<Event, Fail> {
-    match op {
-        Op::Mail { text, key } => Ok(Event::Mail {
-            node,
-            user,
-            text: text.copy()?,
-            key: *key,
-        }),
-        Op::Break => Ok(Event::Break { node, user }),
-        Op::Take | Op::Commit { .. } | Op::Free { .. } => Err("a lock isn't given")?,
     }
 }

@@ -1,18 +1,19 @@
 //! Equality of inputs and of entries.
 
-use ballot::{Envelope, Message, PValue, Payload, Promise};
+use ballot::{Message, Payload, Promise};
 use maildrop::SharedCommand;
 use node::Input;
 use session::Asked;
 
-fn are_same_pvalues(some: &[PValue<SharedCommand>], others: &[PValue<SharedCommand>]) -> bool {
-    some.len() == others.len() && some.iter().zip(others).all(|(one, other)| one.same(other))
-}
-
 fn is_same_promise(one: &Promise<SharedCommand>, other: &Promise<SharedCommand>) -> bool {
+    let (some, others) = (one.accepted.get(), other.accepted.get());
     one.asked == other.asked
         && one.ballot == other.ballot
-        && are_same_pvalues(one.accepted.get(), other.accepted.get())
+        && some.len() == others.len()
+        && some
+            .iter()
+            .zip(others)
+            .all(|(left, right)| left.same(right))
 }
 
 fn is_same_message(one: &Message<SharedCommand>, other: &Message<SharedCommand>) -> bool {
@@ -30,17 +31,16 @@ fn is_same_message(one: &Message<SharedCommand>, other: &Message<SharedCommand>)
     }
 }
 
-fn is_same_envelope(one: &Envelope<SharedCommand>, other: &Envelope<SharedCommand>) -> bool {
-    one.from == other.from && one.to == other.to && is_same_message(&one.message, &other.message)
-}
-
-fn is_same_input(one: &Input, other: &Input) -> bool {
+/// Whether the inputs are the same.
+pub fn is_same_input(one: &Input, other: &Input) -> bool {
     match (one, other) {
         (Input::Submit(name, op), Input::Submit(name2, op2)) => {
             name == name2 && op.get().same(op2.get())
         }
-        (Input::Arrive(envelope), Input::Arrive(envelope2)) => {
-            is_same_envelope(envelope, envelope2)
+        (Input::Arrive(left), Input::Arrive(right)) => {
+            left.from == right.from
+                && left.to == right.to
+                && is_same_message(&left.message, &right.message)
         }
         (Input::Tick, Input::Tick)
         | (Input::Campaign, Input::Campaign)
@@ -49,15 +49,7 @@ fn is_same_input(one: &Input, other: &Input) -> bool {
     }
 }
 
-pub fn are_same_inputs(some: &[Input], others: &[Input]) -> bool {
-    some.len() == others.len()
-        && some
-            .iter()
-            .zip(others)
-            .all(|(one, other)| is_same_input(one, other))
-}
-
-/// Whether this came of what the entry tells. An outcome that it doesn't tell may be any.
+/// Whether this came of what the entry says. An outcome that it doesn't have may be any.
 fn is_told(entry: &Asked, found: &Asked) -> bool {
     let outcome = match (&entry.outcome, &found.outcome) {
         (None, _) => true,
@@ -71,7 +63,7 @@ fn is_told(entry: &Asked, found: &Asked) -> bool {
         && outcome
 }
 
-/// Whether these came of what the entries with tickets tell.
+/// Whether these came of what the entries with tickets say.
 pub fn are_told(entries: &[Asked], found: &[Asked]) -> bool {
     let mut found = found.iter();
     for entry in entries.iter().filter(|entry| entry.ticket.is_some()) {
