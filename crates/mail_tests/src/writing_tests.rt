@@ -1,7 +1,7 @@
 //! The lines that a run of a script writes, an operator's requests, and the messages of a script.
 
 use ballot::{Memory, NodeId, Slot};
-use maildrop::{Command, Name, Op, Outcome, Ticket};
+use maildrop::{Command, Name, Op, Outcome, Ticket, next_line};
 use refusing::Refusal as Refused;
 use samples::{Heap, Scenario, alice, check, node, requests, slot, ticket};
 use script::{
@@ -26,8 +26,11 @@ enum Written {
 /// What the lines speak of.
 type Parts = (NodeId, Slot, Name, Ticket);
 
-/// Writes the text of the message that a line of a script sends.
-fn put_message<A: Allocator + Copy>(out: &mut Vec<u8, A>, line: &[u8]) -> Result<(), Memory> {
+/// Writes the text of the message that the first line of a script sends.
+fn put_message<A: Allocator + Copy>(out: &mut Vec<u8, A>, script: &[u8]) -> Result<(), Memory> {
+    let Some((line, _)) = next_line(script) else {
+        return Ok(());
+    };
     if let Ok(Some(Statement::Command(ScriptCommand::Mail { written, .. }))) = parse(line) {
         let text = text_of(*out.allocator(), &written)?;
         out.extend_from_slice(text.block())?;
