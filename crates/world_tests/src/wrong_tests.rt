@@ -1,7 +1,7 @@
 //! What an audit finds if logs or transcripts were changed.
 
 use crate::changes::{Change, make_change};
-use crate::runs::{LINES, Plan, audited, play};
+use crate::runs::{LINES, Plan, Run, audited, play};
 use audit::AuditError::{self, NoOrder, WrongAnswer};
 use samples::{check, node};
 use std::alloc::Global;
@@ -45,25 +45,45 @@ const CRASHED: Plan = Plan {
 /// A plan, what is changed of what is left of it, and why the audit then gives no events, if it doesn't.
 type Row = (Plan, Option<Change>, Option<AuditError>);
 
-fn check_row(alloc: Global, (plan, change, expected): Row) -> Result<(), Fail> {
-    let mut run = play(alloc, plan)?;
+/// What an audit finds once a run was changed is as expected.
+fn check_run(
+    alloc: Global,
+    run: &mut Run,
+    change: &Option<Change>,
+    expected: &Option<AuditError>,
+) -> Result<(), Fail> {
     if let Some(change) = change {
-        make_change(&mut run, change)?;
+        make_change(run, *change)?;
     }
-    check(audited(alloc, &run) == expected, "another finding")
+    check(audited(alloc, run) == *expected, "another finding")
 }
 
-/// What happened is legal, also if the answer to the last operation is lost. What could not come has no order, and what was
-/// told otherwise is wrong.
+fn check_rows(alloc: Global, rows: &[Row]) -> Result<(), Fail> {
+    for (plan, change, expected) in rows {
+        let mut run = play(alloc, *plan)?;
+        check_run(alloc, &mut run, change, expected)?;
+    }
+    Ok(())
+}
+
+/// What happened is legal, also if the answer to the last operation is lost.
 #[test]
-fn an_audit_finds_what_was_changed(rt: HostRuntime) -> Result<(), Fail> {
-    let (first, second, third) = (node(1)?, node(2)?, node(3)?);
-    for row in [
+fn an_audit_finds_what_happened_legal(rt: HostRuntime) -> Result<(), Fail> {
+    let rows = [
         (ALONE, None, None),
         (TWO, None, None),
         (APART, None, None),
         (CRASHED, None, None),
         (ALONE, Some(Change::NoOutcome), None),
+    ];
+    check_rows(rt.alloc(), rows.as_slice())
+}
+
+/// What could not come has no order, and what was told otherwise is wrong.
+#[test]
+fn an_audit_finds_what_was_changed(rt: HostRuntime) -> Result<(), Fail> {
+    let (first, second, third) = (node(1)?, node(2)?, node(3)?);
+    let rows = [
         (SECOND, Some(Change::WithoutP2a(1)), Some(NoOrder(first))),
         (SECOND, Some(Change::Unsent(1)), Some(NoOrder(second))),
         (SECOND, Some(Change::Unsent(2)), Some(NoOrder(third))),
@@ -73,8 +93,6 @@ fn an_audit_finds_what_was_changed(rt: HostRuntime) -> Result<(), Fail> {
         (ALONE, Some(Change::NoSessions), Some(NoOrder(first))),
         (ALONE, Some(Change::NoLogs), Some(WrongAnswer(0))),
         (ALONE, Some(Change::OtherOutcome), Some(WrongAnswer(0))),
-    ] {
-        check_row(rt.alloc(), row)?;
-    }
-    Ok(())
+    ];
+    check_rows(rt.alloc(), rows.as_slice())
 }
