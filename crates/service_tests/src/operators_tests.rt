@@ -205,7 +205,7 @@ fn told_at_socket<R: Net<Listener = TcpListener, Stream = TcpStream> + Files + E
     path: &str,
 ) -> Result<(Told, u32, Told), Fail> {
     wait_for_socket(rt, path)?;
-    let mut options = CtlOptions {
+    let options = CtlOptions {
         port: None,
         socket: Some(path),
         waits: false,
@@ -213,8 +213,12 @@ fn told_at_socket<R: Net<Listener = TcpListener, Stream = TcpStream> + Files + E
     };
     let broken = ctl_with(rt, alloc, &[], &options);
     let mode = fs::metadata(rt, path)?.permissions().mode() & 0o777;
-    options.waits = true;
-    options.words = &["stop"];
+    let options = CtlOptions {
+        port: None,
+        socket: Some(path),
+        waits: true,
+        words: &["stop"],
+    };
     Ok((broken, mode, ctl_with(rt, alloc, &[], &options)))
 }
 

@@ -82,13 +82,29 @@ fn changed<'a>(options: &ServeOptions<'a>, choice: Choice, value: u64) -> ServeO
     changed
 }
 
+/// The exit status of a service whose options have this one changed, and whose accounts file can't be read.
+fn status_changed<
+    R: Net<Listener = TcpListener, Stream = TcpStream>
+        + Threads
+        + Wait
+        + Clock
+        + RandomSource
+        + Copy
+        + Send
+        + Sync
+        + 'static
+        + Files<File = File>
+        + Eprint,
+>(rt: R, alloc: Global, out: &mut Vec<u8>, choice: Choice, value: u64) -> u8 {
+    let options = changed(&options(ABSENT, 10_000, 10_009), choice, value);
+    serve_run(rt, alloc, out, &options)
+}
+
 #[test]
 fn options_are_in_their_ranges(rt: HostRuntime) -> Result<(), Fail> {
     let mut out = Vec::new(rt.alloc());
-    let any = options(ABSENT, 10_000, 10_009);
     for (choice, value, status) in EDGES {
-        let options = changed(&any, *choice, *value);
-        let given = serve_run(rt, rt.alloc(), &mut out, &options);
+        let given = status_changed(rt, rt.alloc(), &mut out, *choice, *value);
         assert_eq!(rt; given, *status, "{choice:?} {value}");
     }
     assert!(rt; out.is_empty());
