@@ -60,6 +60,15 @@ impl Course {
             gave_up: Arc::try_clone(&self.gave_up)?,
         })
     }
+
+    /// The flag of the first or the second client.
+    fn flag(&self, is_first: bool) -> Result<Flag, AllocError> {
+        if is_first {
+            Ok(Arc::try_clone(&self.first)?)
+        } else {
+            Ok(Arc::try_clone(&self.second)?)
+        }
+    }
 }
 
 /// A writer that keeps what is written on a page.
@@ -84,9 +93,11 @@ impl<R: Wait> Write for Client<R> {
 #[derive(Drop)]
 struct Turns<R: Wait + Clock> {
     rt: R,
-    talk: Talk,
-    is_first: bool,
-    course: Course,
+    tells: u32,
+    holds: u32,
+    told: Flag,
+    awaited: Flag,
+    gave_up: Flag,
     lines: u32,
 }
 
@@ -99,24 +110,14 @@ impl<R: Wait + Clock> Gate for Turns<R> {
 
     fn enter(&mut self) {
         self.lines = self.lines.wrapping_add(1);
-        let awaited = if self.is_first {
-            &self.course.second
-        } else {
-            &self.course.first
-        };
-        if self.lines == self.talk.holds && !wait_for(&self.rt, awaited) {
-            *self.course.gave_up.lock(&self.rt) = true;
+        if self.lines == self.holds && !wait_for(&self.rt, &self.awaited) {
+            *self.gave_up.lock(&self.rt) = true;
         }
     }
 
     fn leave(&mut self) {
-        if self.lines == self.talk.tells {
-            let told = if self.is_first {
-                &self.course.first
-            } else {
-                &self.course.second
-            };
-            *told.lock(&self.rt) = true;
+        if self.lines == self.tells {
+            *self.told.lock(&self.rt) = true;
         }
     }
 }
@@ -153,7 +154,9 @@ fn job_of<R: Wait + Clock + Copy>(
     let node = node(talk.node)?;
     let stamp = new_stamp()?;
     let page = Arc::try_clone(page)?;
-    let course = course.share()?;
+    let told = course.flag(is_first)?;
+    let awaited = course.flag(!is_first)?;
+    let gave_up = Arc::try_clone(&course.gave_up)?;
     Ok(Job {
         node,
         reader: talk.lines,
@@ -161,26 +164,29 @@ fn job_of<R: Wait + Clock + Copy>(
         stamp,
         gate: Turns {
             rt,
-            talk,
-            is_first,
-            course,
+            tells: talk.tells,
+            holds: talk.holds,
+            told,
+            awaited,
+            gave_up,
             lines: 0,
         },
     })
 }
 
-fn add_jobs<R: Wait + Clock + Copy>(
+fn jobs_of<R: Wait + Clock + Copy>(
     rt: R,
+    alloc: Global,
     talks: &[Talk],
     pages: &[Page],
     course: &Course,
-    jobs: &mut Vec<Served<R>>,
-) -> Result<(), Fail> {
+) -> Result<Vec<Served<R>>, Fail> {
+    let mut jobs = Vec::new(alloc);
     for (place, talk) in talks.iter().enumerate() {
         let page = pages.get(place).ok_or("no page")?;
         jobs.push(job_of(rt, *talk, place == 0, page, course)?)?;
     }
-    Ok(())
+    Ok(jobs)
 }
 
 /// Serves the clients, each on its page.
@@ -196,7 +202,6 @@ pub fn serve<
     course: &Course,
 ) -> Result<Vec<Option<Transcript>>, Fail> {
     let accounts = Arc::new(alloc, accounts(alloc)?)?;
-    let mut jobs = Vec::new(alloc);
-    add_jobs(rt, talks, pages, course, &mut jobs)?;
+    let jobs = jobs_of(rt, alloc, talks, pages, course)?;
     Ok(cluster.sessions(jobs, &accounts)?)
 }
