@@ -198,7 +198,7 @@ fn wait_for_socket<R: Net<Listener = TcpListener, Stream = TcpStream> + Clock>(
     Err(Fail::from("nobody listens"))
 }
 
-/// What a service tells whose operator comes by a socket: its state, who else may use the socket, and its end.
+/// The answers of a service over its socket: its state and its end, with the socket's mode between.
 fn told_at_socket<R: Net<Listener = TcpListener, Stream = TcpStream> + Files + Eprint + Clock>(
     rt: &R,
     alloc: Global,

@@ -70,7 +70,7 @@ impl Course {
         }
     }
 
-    /// The run happens. The session is told all, or how that begins if the node is to crash.
+    /// The run happens. The session gets all replies, or only the first ones if the node is to crash.
     pub fn run(&mut self, alloc: Global, is_whole: bool) -> Result<(), Fail> {
         for happening in RUN {
             self.happen(alloc, *happening)?;

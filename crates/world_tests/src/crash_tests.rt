@@ -5,7 +5,7 @@ use crate::happenings::{Happening, RUN};
 use std::alloc::Global;
 use std::test::Fail;
 
-/// The session is told no more if a node stops before the event at this place, and all if there is no such event.
+/// The session gets no further reply if a node stops before the event at this place, and all replies without such an event.
 fn check_crash(alloc: Global, number: u8, place: usize, events: usize) -> Result<(), Fail> {
     let mut course = Course::new(alloc, number, place)?;
     course.run(alloc, place == events)

@@ -50,7 +50,7 @@ fn happen<'h>(
     pass(happened, false, heap.has_refused())
 }
 
-/// All events happen. The session is told all, or how that begins if a request is refused.
+/// All events happen. The session gets all replies, or only the first ones if a request is refused.
 fn play<'h>(heap: Heap<'h>, world: &mut World<Heap<'h>>, events: Events<'h>) -> Result<(), Fail> {
     for event in events {
         happen(heap, world, event)?;

@@ -1,4 +1,4 @@
-//! What a session is told.
+//! The replies of a session.
 
 use crate::happenings::TOLD;
 use samples::check;
