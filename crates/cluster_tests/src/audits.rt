@@ -1,12 +1,12 @@
 //! What nodes and sessions on threads leave goes through an audit.
 
-use crate::services::node;
+use crate::clients::Page;
 use audit::{AuditError, audit};
 use ballot::{Items, Message};
 use maildrop::Outcome;
 use node::{Input, NodeLog};
-use samples::check;
-use session::{End, Transcript};
+use samples::{check, node};
+use session::Transcript;
 use std::alloc::Global;
 use std::test::Fail;
 
@@ -15,6 +15,8 @@ use std::test::Fail;
 pub struct Remains {
     pub logs: Vec<NodeLog>,
     pub transcripts: Vec<Transcript>,
+    /// What each session wrote.
+    pub pages: Vec<Page>,
 }
 
 /// The transcripts of sessions that all ran.
@@ -29,16 +31,8 @@ pub fn all_of(
     Ok(all)
 }
 
-/// Each session ended as it should.
-pub fn check_closed(transcripts: &[Transcript]) -> Result<(), Fail> {
-    for transcript in transcripts {
-        check(transcript.end == End::Closed, "a session ends otherwise")?;
-    }
-    Ok(())
-}
-
 /// An audit finds this wrong, or nothing.
-fn check_finding(
+pub fn check_finding(
     alloc: Global,
     remains: &Remains,
     expected: Option<AuditError>,
@@ -50,11 +44,6 @@ fn check_finding(
         }
         Err(error) => check(expected == Some(error), "an audit finds something else"),
     }
-}
-
-/// What happened is legal.
-pub fn check_legal(alloc: Global, remains: &Remains) -> Result<(), Fail> {
-    check_finding(alloc, remains, None)
 }
 
 fn is_p2a(input: &Input) -> bool {

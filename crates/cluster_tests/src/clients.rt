@@ -1,24 +1,79 @@
 //! Clients that send their lines, keep what they get, and are held by a gate.
 
-use crate::services::{Flag, wait_for};
+use crate::services::{Flag, Nodes, new_flag, wait_for};
 use apop::{Accounts, Stamp, stamp};
-use ballot::NodeId;
-use cluster::Job;
-use samples::check;
-use session::Gate;
+use cluster::{Deployment, Job};
+use samples::node;
+use session::{Gate, Transcript};
 use std::alloc::{AllocError, Global};
 use std::io;
 use std::io::Write;
 use std::sync::{Arc, Mutex, Wait};
 use std::test::Fail;
+use std::thread::Threads;
 use std::time::Clock;
 
 /// What is written to a client, for whoever shares it.
 pub type Page = Arc<Mutex<Vec<u8>>>;
 
+/// A client: its node, what it sends and what it is to get. Its lines are counted from 1.
+#[derive(Clone, Copy)]
+pub struct Talk {
+    pub node: u8,
+    pub lines: &'static [u8],
+    pub replies: &'static str,
+    /// After the reply to which line its flag is set; 0 for none.
+    pub tells: u32,
+    /// Which line waits for the other flag; 0 for none.
+    pub holds: u32,
+}
+
+/// What the threads of a test tell one another.
+#[derive(Drop)]
+pub struct Course {
+    /// The flag of the first client, for which a line of the second one waits.
+    pub first: Flag,
+    /// The flag of the second client, or that a node has crashed: a line of the first client waits for it.
+    pub second: Flag,
+    /// The sessions are over.
+    pub done: Flag,
+    /// A gate let go.
+    pub gave_up: Flag,
+}
+
+impl Course {
+    pub fn new(alloc: Global) -> Result<Course, AllocError> {
+        Ok(Course {
+            first: new_flag(alloc)?,
+            second: new_flag(alloc)?,
+            done: new_flag(alloc)?,
+            gave_up: new_flag(alloc)?,
+        })
+    }
+
+    /// The same flags.
+    pub fn share(&self) -> Result<Course, AllocError> {
+        Ok(Course {
+            first: Arc::try_clone(&self.first)?,
+            second: Arc::try_clone(&self.second)?,
+            done: Arc::try_clone(&self.done)?,
+            gave_up: Arc::try_clone(&self.gave_up)?,
+        })
+    }
+
+    /// The flag of the first or the second client.
+    fn flag(&self, is_first: bool) -> Result<Flag, AllocError> {
+        if is_first {
+            Ok(Arc::try_clone(&self.first)?)
+        } else {
+            Ok(Arc::try_clone(&self.second)?)
+        }
+    }
+}
+
 /// A writer that keeps what is written on a page.
 #[derive(Drop)]
-pub struct Client<R: Wait> {
+struct Client<R: Wait> {
     rt: R,
     page: Page,
 }
@@ -34,22 +89,16 @@ impl<R: Wait> Write for Client<R> {
     }
 }
 
-/// A line, counted from 1, and a flag.
+/// A client's gate. If a line waits too long it lets go, and sets a flag.
 #[derive(Drop)]
-pub struct At {
-    pub line: u32,
-    pub flag: Flag,
-}
-
-/// A gate that sets a flag once the reply to a line is written, and that holds a line until another flag is set. Where
-/// that takes too long it lets go, and says so by a third.
-#[derive(Drop)]
-pub struct Turns<R: Wait + Clock> {
-    pub rt: R,
-    pub lines: u32,
-    pub tells: At,
-    pub holds: At,
-    pub gave_up: Flag,
+struct Turns<R: Wait + Clock> {
+    rt: R,
+    tells: u32,
+    holds: u32,
+    told: Flag,
+    awaited: Flag,
+    gave_up: Flag,
+    lines: u32,
 }
 
 impl<R: Wait + Clock> Gate for Turns<R> {
@@ -61,34 +110,21 @@ impl<R: Wait + Clock> Gate for Turns<R> {
 
     fn enter(&mut self) {
         self.lines = self.lines.wrapping_add(1);
-        if self.lines == self.holds.line && !wait_for(&self.rt, &self.holds.flag) {
+        if self.lines == self.holds && !wait_for(&self.rt, &self.awaited) {
             *self.gave_up.lock(&self.rt) = true;
         }
     }
 
     fn leave(&mut self) {
-        if self.lines == self.tells.line {
-            *self.tells.flag.lock(&self.rt) = true;
+        if self.lines == self.tells {
+            *self.told.lock(&self.rt) = true;
         }
     }
 }
 
-pub fn new_page(alloc: Global) -> Result<Page, AllocError> {
-    Ok(Arc::new(alloc, Mutex::new(Vec::new(alloc)))?)
-}
-
-fn accounts_of(alloc: Global, rows: &[u8]) -> Result<Accounts, Fail> {
-    Ok(Accounts::read(alloc, rows)?)
-}
-
 /// The accounts of alice and bob.
 pub fn accounts(alloc: Global) -> Result<Accounts, Fail> {
-    accounts_of(alloc, b"alice pass s3\nbob pass s4\n")
-}
-
-/// The same, for sessions to share.
-pub fn new_accounts(alloc: Global) -> Result<Arc<Accounts>, Fail> {
-    Ok(Arc::new(alloc, accounts(alloc)?)?)
+    Ok(Accounts::read(alloc, b"alice pass s3\nbob pass s4\n")?)
 }
 
 /// The timestamp of each greeting.
@@ -96,28 +132,76 @@ pub fn new_stamp() -> Result<Stamp, Fail> {
     Ok(stamp(b"n.1", b"mail.test").ok_or("no stamp")?)
 }
 
-/// This is on the page.
-pub fn check_page<R: Wait>(rt: &R, page: &Page, replies: &str) -> Result<(), Fail> {
-    check(
-        page.lock(rt).as_slice() == replies.as_bytes(),
-        "other replies",
-    )
+/// A page for each client.
+pub fn new_pages(alloc: Global, talks: &[Talk]) -> Result<Vec<Page>, Fail> {
+    let mut pages = Vec::new(alloc);
+    for _ in talks {
+        pages.push(Arc::new(alloc, Mutex::new(Vec::new(alloc)))?)?;
+    }
+    Ok(pages)
 }
 
-/// A client that sends these lines to a node, and gets its replies on the page.
-pub fn new_client<R: Wait + Drop, G: Gate + Drop>(
+/// Whom a session is served to.
+type Served<R> = Job<&'static [u8], Client<R>, Turns<R>>;
+
+fn job_of<R: Wait + Clock + Copy>(
     rt: R,
-    node: NodeId,
-    lines: &'static [u8],
+    talk: Talk,
+    is_first: bool,
     page: &Page,
-    gate: G,
-) -> Result<Job<&'static [u8], Client<R>, G>, Fail> {
+    course: &Course,
+) -> Result<Served<R>, Fail> {
+    let node = node(talk.node)?;
+    let stamp = new_stamp()?;
     let page = Arc::try_clone(page)?;
+    let told = course.flag(is_first)?;
+    let awaited = course.flag(!is_first)?;
+    let gave_up = Arc::try_clone(&course.gave_up)?;
     Ok(Job {
         node,
-        reader: lines,
+        reader: talk.lines,
         writer: Client { rt, page },
-        stamp: new_stamp()?,
-        gate,
+        stamp,
+        gate: Turns {
+            rt,
+            tells: talk.tells,
+            holds: talk.holds,
+            told,
+            awaited,
+            gave_up,
+            lines: 0,
+        },
     })
+}
+
+fn jobs_of<R: Wait + Clock + Copy>(
+    rt: R,
+    alloc: Global,
+    talks: &[Talk],
+    pages: &[Page],
+    course: &Course,
+) -> Result<Vec<Served<R>>, Fail> {
+    let mut jobs = Vec::new(alloc);
+    for (place, talk) in talks.iter().enumerate() {
+        let page = pages.get(place).ok_or("no page")?;
+        jobs.push(job_of(rt, *talk, place == 0, page, course)?)?;
+    }
+    Ok(jobs)
+}
+
+/// Serves the clients, each on its page.
+pub fn serve<
+    D: Deployment + Send + Sync + 'static,
+    R: Threads + Wait + Clock + Copy + Send + Sync + 'static,
+>(
+    rt: R,
+    alloc: Global,
+    cluster: &Nodes<D, R>,
+    talks: &[Talk],
+    pages: &[Page],
+    course: &Course,
+) -> Result<Vec<Option<Transcript>>, Fail> {
+    let accounts = Arc::new(alloc, accounts(alloc)?)?;
+    let jobs = jobs_of(rt, alloc, talks, pages, course)?;
+    Ok(cluster.sessions(jobs, &accounts)?)
 }

@@ -2,12 +2,13 @@
 ghost use Rattle.std.specs.Prelude.{◌≡◌, IsTrue};
 ghost use Rattle.maildrop.specs.Name.{are_different};
 
-use crate::clients::{Client, new_accounts, new_client, new_page};
-use crate::services::{desk_of, end_watch, node, setup_of, start_watch};
-use cluster::{Cluster, Deployment, InboxLink, Job, Link, NodeDesk, Setup};
+use crate::clients::{Course, Talk, new_pages, serve};
+use crate::services::{DeskOf, Nodes, desk_of, end_watch, setup_of, start_watch};
+use cluster::{Deployment, Setup};
 use maildrop::Op;
-use samples::{alice, check};
-use session::{Desk, OpenGate, Transcript};
+use node::NodeLog;
+use samples::{alice, check, node};
+use session::Desk;
 use std::alloc::Global;
 use std::marker::Brand;
 use std::sync::Wait;
@@ -15,15 +16,26 @@ use std::test::Fail;
 use std::thread::Threads;
 use std::time::Clock;
 
-/// A client that asks the desk for nothing, so that no node need lead.
-const LINES: &[u8] = b"QUIT\r\n";
-
-type Nodes<D, R> = Cluster<D, R, InboxLink<R>>;
+/// A client of a node that isn't there, and one of the second. Neither asks the desk for anything, so no node need lead.
+const TALKS: &[Talk] = &[
+    Talk {
+        node: 4,
+        lines: b"QUIT\r\n",
+        replies: "",
+        tells: 0,
+        holds: 0,
+    },
+    Talk {
+        node: 2,
+        lines: b"QUIT\r\n",
+        replies: "",
+        tells: 0,
+        holds: 0,
+    },
+];
 
 /// The desk of a node that is no more: it answers nothing.
-fn check_stopped<D: Deployment, R: Wait, L: Link>(
-    desk: &mut NodeDesk<D, R, L>,
-) -> Result<(), Fail> {
+fn check_stopped<D: Deployment, R: Wait>(desk: &mut DeskOf<D, R>) -> Result<(), Fail> {
     let asked = desk.ask(alice()?, Op::Break);
     let told = desk.tell(alice()?, Op::Break);
     check(asked.is_err() && told.is_err(), "it gives something")?;
@@ -42,108 +54,79 @@ fn check_crash<
     check(is_down, "it stands as if it were up")
 }
 
-/// There is no fourth node: it has no desk, and nothing that could crash or be looked at.
-fn check_fourth<
+/// Only the second of two sessions is served.
+fn check_served<
     D: Deployment + Send + Sync + 'static,
-    R: Threads + Wait + Copy + Send + Sync + 'static,
->(cluster: &Nodes<D, R>) -> Result<(), Fail> {
-    let fourth = node(4)?;
-    check(cluster.desk(fourth)?.is_none(), "a node too many")?;
-    let was_up = cluster.crash(fourth);
-    check(!was_up && cluster.status(fourth).is_none(), "it is here")
-}
-
-/// A client of a node that isn't there, and one of the second.
-fn clients_of<R: Wait + Copy + Drop>(
-    rt: R,
-    alloc: Global,
-) -> Result<Vec<Job<&'static [u8], Client<R>, OpenGate>>, Fail> {
-    let (second, fourth) = (node(2)?, node(4)?);
-    let page = new_page(alloc)?;
-    let mut jobs = Vec::new(alloc);
-    jobs.push(new_client(rt, fourth, LINES, &page, OpenGate)?)?;
-    jobs.push(new_client(rt, second, LINES, &page, OpenGate)?)?;
-    Ok(jobs)
-}
-
-/// Serves both clients.
-fn served<D: Deployment + Send + Sync + 'static, R: Threads + Wait + Copy + Send + Sync + 'static>(
-    rt: R,
-    alloc: Global,
-    cluster: &Nodes<D, R>,
-) -> Result<Vec<Option<Transcript>>, Fail> {
-    let jobs = clients_of(rt, alloc)?;
-    let accounts = new_accounts(alloc)?;
-    Ok(cluster.sessions(jobs, &accounts)?)
-}
-
-/// The second of two sessions alone was served.
-fn check_second(transcripts: &[Option<Transcript>]) -> Result<(), Fail> {
-    let [first, second] = transcripts else {
-        return Err("another number of sessions".into());
-    };
-    check(first.is_none() && second.is_some(), "another one is served")
-}
-
-/// A cluster of which something is asked stops, and gives the logs of all its nodes.
-fn stops<D: Deployment + Send + Sync + 'static, R: Threads + Wait + Copy + Send + Sync + 'static>(
-    cluster: Nodes<D, R>,
-) -> Result<(), Fail> {
-    let second = node(2)?;
-    let mut desk = desk_of(&cluster, 2)?;
-    cluster.tick(second);
-    let logs = cluster.stop();
-    check(
-        logs.len() == 3 && !logs[1].inputs.is_empty(),
-        "a log is missing",
-    )?;
-    check_stopped(&mut desk)
-}
-
-fn check_running<
-    D: Deployment + Send + Sync + 'static,
-    R: Threads + Wait + Copy + Send + Sync + 'static,
+    R: Threads + Wait + Clock + Copy + Send + Sync + 'static,
 >(rt: R, alloc: Global, cluster: &Nodes<D, R>) -> Result<(), Fail> {
-    check_second(&served(rt, alloc, cluster)?)?;
-    check_fourth(cluster)?;
-    check_crash(cluster)
+    let course = Course::new(alloc)?;
+    let pages = new_pages(alloc, TALKS)?;
+    let transcripts = serve(rt, alloc, cluster, TALKS, &pages, &course)?;
+    let is_second = matches!(transcripts.as_slice(), [None, Some(_)]);
+    check(is_second, "another session is served")
 }
 
-/// A cluster of which something is asked is let go.
-fn is_let_go<
+/// The logs of all nodes, the second of which got a tick.
+fn check_logs(logs: &[NodeLog]) -> Result<(), Fail> {
+    let [_, second, _] = logs else {
+        return Err("another number of logs".into());
+    };
+    check(!second.inputs.is_empty(), "an input is missing")
+}
+
+/// A cluster of which something is asked ends: it stops, or is let go.
+fn end<
     D: Deployment + Send + Sync + 'static,
-    R: Threads + Wait + Copy + Send + Sync + 'static,
->(rt: R, alloc: Global, cluster: Nodes<D, R>) -> Result<(), Fail> {
-    let mut desk = desk_of(&cluster, 2)?;
-    check_running(rt, alloc, &cluster)?;
-    drop(cluster);
-    check_stopped(&mut desk)
+    R: Threads + Wait + Clock + Copy + Send + Sync + 'static,
+>(
+    rt: R,
+    alloc: Global,
+    cluster: Nodes<D, R>,
+    desk: &mut DeskOf<D, R>,
+    stops: bool,
+) -> Result<(), Fail> {
+    if stops {
+        desk.tick();
+        check_logs(&cluster.stop())?;
+    } else {
+        check_served(rt, alloc, &cluster)?;
+        check_crash(&cluster)?;
+        drop(cluster);
+    }
+    check_stopped(desk)
 }
 
-/// Both clusters are watched to their ends and beyond: a desk whose node is left in place would be asked in vain.
-fn ends<
+/// A cluster is watched to its end and beyond: a desk whose node is left in place would be asked in vain.
+fn end_watched<
+    D: Deployment + Send + Sync + 'static,
+    R: Threads + Wait + Clock + Copy + Send + Sync + 'static,
+>(rt: R, alloc: Global, setup: &Setup, stops: bool) -> Result<(), Fail>
+    requires deployment { setup.now ≡ D.setup }
+    requires names { IsTrue (are_different setup.now.names) }
+{
+    let cluster = Nodes::<D, R>::start(rt, alloc, setup)?;
+    let mut desk = desk_of(&cluster, 2)?;
+    let watch = start_watch(rt, alloc, &cluster)?;
+    let outcome = end(rt, alloc, cluster, &mut desk, stops);
+    end_watch(&rt, watch);
+    outcome
+}
+
+fn end_both<
     D: Deployment + Send + Sync + 'static,
     R: Threads + Wait + Clock + Copy + Send + Sync + 'static,
 >(rt: R, alloc: Global, setup: &Setup) -> Result<(), Fail>
     requires deployment { setup.now ≡ D.setup }
     requires names { IsTrue (are_different setup.now.names) }
 {
-    let cluster = Nodes::<D, R>::start(rt, alloc, setup)?;
-    let watch = start_watch(rt, alloc, &cluster)?;
-    let outcome = stops(cluster);
-    end_watch(&rt, watch);
-    outcome?;
-    let cluster = Nodes::<D, R>::start(rt, alloc, setup)?;
-    let watch = start_watch(rt, alloc, &cluster)?;
-    let outcome = is_let_go(rt, alloc, cluster);
-    end_watch(&rt, watch);
-    outcome
+    end_watched::<D, R>(rt, alloc, setup, true)?;
+    end_watched::<D, R>(rt, alloc, setup, false)
 }
 
 /// Once a cluster has stopped, or is let go, its desks answer that they have stopped. While it runs, one of its nodes
-/// crashes once, and one that isn't there neither crashes nor serves a session.
+/// crashes once, and one that isn't there serves no session.
 #[test]
 fn a_desk_outlives_its_cluster(rt: HostRuntime) -> Result<(), Fail> {
     let setup = setup_of(rt.alloc(), 3)?;
-    ends::<Brand, _>(rt, rt.alloc(), &setup)
+    end_both::<Brand, _>(rt, rt.alloc(), &setup)
 }

@@ -1,253 +1,171 @@
-//! When nodes send, and on which threads.
+//! What nodes hear, when they send, and on which threads.
 ghost use Rattle.std.specs.Prelude.{◌≡◌, IsTrue};
 ghost use Rattle.maildrop.specs.Name.{are_different};
 
-use crate::services::{
-    Flag, alone, desk_of, end_watch, mail_to_leader, new_flag, node, setup_of, start_watch,
-    wait_for,
-};
-use ballot::{Envelope, Message, NodeId};
-use cluster::{Cluster, Deployment, Link, NodeDesk, Setup};
+use crate::links::{Holding, ask};
+use crate::services::{Flag, SECONDS, alone, desk_of, new_flag, setup_of};
+use ballot::{Envelope, Message};
+use cluster::{Cluster, Deployment, NodeDesk, Setup};
 use crossbeam_channel::{Receiver, Sender, unbounded};
 use maildrop::SharedCommand;
-use samples::check;
-use std::alloc::{AllocError, Global};
+use node::{Input, NodeLog};
+use samples::{check, node};
+use std::alloc::Global;
 use std::marker::Brand;
-use std::sync::{Arc, Wait};
+use std::sync::Wait;
 use std::test::Fail;
 use std::thread;
-use std::thread::{JoinHandle, Threads};
+use std::thread::Threads;
 use std::time::{Clock, Duration};
 
-/// An envelope on its way, and a flag that is set once the node which sent it was looked at.
-#[derive(Drop)]
-struct Parcel {
-    envelope: Envelope<SharedCommand>,
-    seen: Flag,
-}
+/// How many envelopes come: several times what a node hears under one lock.
+const ENVELOPES: u64 = 200;
 
-/// A link that gives its envelopes to a postman, and waits until that has got the lock of the node.
-#[derive(Drop)]
-struct Posted<R: Wait + Clock> {
-    rt: R,
-    alloc: Global,
-    parcels: Sender<Parcel>,
-    gave_up: Flag,
-}
+type Held<D, R> = Cluster<D, R, Holding<R>>;
 
-impl<R: Wait + Clock> Posted<R> {
-    fn post(&self, envelope: Envelope<SharedCommand>) -> bool {
-        let Ok(seen) = new_flag(self.alloc) else {
-            return false;
-        };
-        let Ok(theirs) = Arc::try_clone(&seen) else {
-            return false;
-        };
-        let parcel = Parcel {
-            envelope,
-            seen: theirs,
-        };
-        self.parcels.send(&self.rt, parcel).is_ok() && wait_for(&self.rt, &seen)
-    }
-}
+type Answers = Receiver<Envelope<SharedCommand>>;
 
-impl<R: Wait + Clock> Link for Posted<R> {
-    fn send(&self, envelope: Envelope<SharedCommand>) {
-        let has_given_up = *self.gave_up.lock(&self.rt);
-        if !has_given_up && !self.post(envelope) {
-            *self.gave_up.lock(&self.rt) = true;
-        }
-    }
-}
-
-/// Looks at the node that sends, which takes its lock, and then hands the envelope on to it, until the test is done.
-fn carry<D: Deployment, R: Wait + Clock>(
-    rt: &R,
-    desk: &NodeDesk<D, R, Posted<R>>,
-    parcels: &Receiver<Parcel>,
-    done: &Flag,
-) {
-    for _ in rt.forever() {
-        if *done.lock(rt) {
-            return;
-        }
-        if let Ok(parcel) = parcels.recv_timeout(rt, Duration::from_millis(1)) {
-            let _status = desk.status();
-            *parcel.seen.lock(rt) = true;
-            let _is_in = desk.arrive(parcel.envelope);
-        }
-    }
-}
-
-/// A link of node 1 to a postman.
-fn posting_link<R: Wait + Clock + Drop>(
-    rt: R,
-    alloc: Global,
-    parcels: Sender<Parcel>,
-    gave_up: &Flag,
-) -> Result<Vec<(NodeId, Posted<R>)>, Fail> {
-    let gave_up = Arc::try_clone(gave_up)?;
-    let link = Posted {
-        rt,
-        alloc,
-        parcels,
-        gave_up,
+fn asks_for(input: &Input, round: u64) -> bool {
+    let Input::Arrive(envelope) = input else {
+        return false;
     };
-    alone(alloc, (node(1)?, link))
+    match &envelope.message {
+        Message::P1a(ballot) => ballot.round == round,
+        _ => false,
+    }
 }
 
-/// A thread that carries parcels until the test is done.
-#[derive(Drop)]
-struct Postman {
-    done: Flag,
-    thread: JoinHandle<()>,
+/// Each envelope is in the log of node 1, once and in order.
+fn check_logs(logs: &[NodeLog]) -> Result<(), Fail> {
+    let inputs = logs.first().ok_or("no log")?.inputs.get();
+    check(inputs.len() as u64 == ENVELOPES, "another number of inputs")?;
+    for (round, input) in (1..=ENVELOPES).zip(inputs) {
+        check(asks_for(input, round), "another input")?;
+    }
+    Ok(())
 }
 
-fn start_postman<
+/// Each envelope was answered, once.
+fn check_answers<R: Wait>(rt: &R, answers: &Answers) -> Result<(), Fail> {
+    for _ in 0..ENVELOPES {
+        drop(answers.try_recv(rt)?);
+    }
+    check(answers.try_recv(rt).is_err(), "an answer too many")
+}
+
+fn ask_often<
+    D: Deployment + Send + Sync + 'static,
+    R: Threads + Wait + Clock + Copy + Send + Sync + 'static,
+>(cluster: &Held<D, R>) -> Result<(), Fail> {
+    for round in 1..=ENVELOPES {
+        check(cluster.arrive(ask(1, round)?), "an envelope is lost")?;
+    }
+    Ok(())
+}
+
+/// A cluster to whose node 1, the only one here, all envelopes have come. Its link makes it late.
+fn asked<
     D: Deployment + Send + Sync + 'static,
     R: Threads + Wait + Clock + Copy + Send + Sync + 'static,
 >(
     rt: R,
     alloc: Global,
-    desk: &NodeDesk<D, R, Posted<R>>,
-    parcels: Receiver<Parcel>,
-) -> Result<Postman, Fail> {
-    let theirs = desk.share()?;
-    let done = new_flag(alloc)?;
-    let over = Arc::try_clone(&done)?;
-    let thread = thread::spawn(&rt, move || carry(&rt, &theirs, &parcels, &over))?;
-    Ok(Postman { done, thread })
+    setup: &Setup,
+    sent: Sender<Envelope<SharedCommand>>,
+    free: &Flag,
+) -> Result<Held<D, R>, Fail>
+    requires deployment { setup.now ≡ D.setup }
+    requires names { IsTrue (are_different setup.now.names) }
+{
+    let link = Holding::new(rt, sent, free, free, free)?;
+    let links = alone(alloc, (node(1)?, link))?;
+    let cluster = Held::<D, R>::start_over(rt, alloc, setup, links)?;
+    ask_often(&cluster)?;
+    Ok(cluster)
 }
 
-fn end_postman<R: Threads + Wait>(rt: &R, postman: Postman) {
-    *postman.done.lock(rt) = true;
-    postman.thread.join(rt);
-}
-
-/// Node 1 leads, and a message is stored there, while the postman carries parcels.
-fn mail<
-    D: Deployment + Send + Sync + 'static,
-    R: Threads + Wait + Clock + Copy + Send + Sync + 'static,
->(
-    rt: R,
-    alloc: Global,
-    cluster: &Cluster<D, R, Posted<R>>,
-    parcels: Receiver<Parcel>,
-) -> Result<(), Fail> {
-    let postman = start_postman(rt, alloc, &desk_of(cluster, 1)?, parcels)?;
-    let outcome = mail_to_leader(alloc, cluster);
-    end_postman(&rt, postman);
-    outcome
-}
-
-fn sends_unlocked<
+fn hears_all<
     D: Deployment + Send + Sync + 'static,
     R: Threads + Wait + Clock + Copy + Send + Sync + 'static,
 >(rt: R, alloc: Global, setup: &Setup) -> Result<(), Fail>
     requires deployment { setup.now ≡ D.setup }
     requires names { IsTrue (are_different setup.now.names) }
 {
-    let (sender, parcels) = unbounded(alloc)?;
-    let gave_up = new_flag(alloc)?;
-    let links = posting_link(rt, alloc, sender, &gave_up)?;
-    let cluster = Cluster::<D, R, Posted<R>>::start_over(rt, alloc, setup, links)?;
-    let watch = start_watch(rt, alloc, &cluster)?;
-    let outcome = mail(rt, alloc, &cluster, parcels);
-    end_watch(&rt, watch);
-    outcome?;
+    let (sent, answers) = unbounded(alloc)?;
+    let free = new_flag(alloc)?;
+    *free.lock(&rt) = true;
+    check_logs(&asked::<D, R>(rt, alloc, setup, sent.clone()?, &free)?.stop())?;
+    check_answers(&rt, &answers)?;
+    drop(asked::<D, R>(rt, alloc, setup, sent, &free)?);
+    check_answers(&rt, &answers)
+}
+
+/// What was in a node's inbox when its cluster stopped is in its log: each envelope once, in the order in which they came. A
+/// cluster that is let go has ended its threads too: each envelope that lay in an inbox is heard and answered by then.
+#[test]
+fn what_comes_is_heard_once(rt: HostRuntime) -> Result<(), Fail> {
+    let setup = setup_of(rt.alloc(), 3)?;
+    hears_all::<Brand, _>(rt, rt.alloc(), &setup)
+}
+
+/// What comes to a node whose thread is held lies in the inbox, until the thread is free. Others get the node's lock meanwhile.
+fn check_unheard<D: Deployment, R: Wait + Clock>(
+    rt: &R,
+    desk: &NodeDesk<D, R, Holding<R>>,
+    answers: &Answers,
+    free: &Flag,
+) -> Result<(), Fail> {
+    check(!desk.has_unheard(), "the inbox has something")?;
+    check(desk.arrive(ask(1, 1)?), "an envelope is lost")?;
+    drop(answers.recv_timeout(rt, Duration::from_secs(SECONDS))?);
+    check(!desk.has_unheard(), "the inbox has what was heard")?;
+    check(desk.status().is_some(), "there is no node")?;
+    check(desk.arrive(ask(1, 2)?), "an envelope is lost")?;
+    check(desk.has_unheard(), "the inbox has nothing")?;
+    *free.lock(rt) = true;
+    drop(answers.recv_timeout(rt, Duration::from_secs(SECONDS))?);
+    check(!desk.has_unheard(), "the inbox has what was heard")
+}
+
+/// Others get the lock of a node also while the thread of a caller is held, for which the node sends.
+fn check_campaign<
+    D: Deployment + Send + Sync + 'static,
+    R: Threads + Wait + Clock + Copy + Send + Sync + 'static,
+>(rt: R, desk: &NodeDesk<D, R, Holding<R>>, answers: &Answers, free: &Flag) -> Result<(), Fail> {
+    let theirs = desk.share()?;
+    *free.lock(&rt) = false;
+    let thread = thread::spawn(&rt, move || theirs.campaign())?;
+    let sent = answers.recv_timeout(&rt, Duration::from_secs(SECONDS));
+    let status = desk.status();
+    *free.lock(&rt) = true;
+    thread.join(&rt);
+    check(sent.is_ok() && status.is_some(), "the node sends nothing")
+}
+
+fn is_held<
+    D: Deployment + Send + Sync + 'static,
+    R: Threads + Wait + Clock + Copy + Send + Sync + 'static,
+>(rt: R, alloc: Global, setup: &Setup) -> Result<(), Fail>
+    requires deployment { setup.now ≡ D.setup }
+    requires names { IsTrue (are_different setup.now.names) }
+{
+    let (sent, answers) = unbounded(alloc)?;
+    let (here, free, gave_up) = (new_flag(alloc)?, new_flag(alloc)?, new_flag(alloc)?);
+    let link = Holding::new(rt, sent, &here, &free, &gave_up)?;
+    let links = alone(alloc, (node(1)?, link))?;
+    let cluster = Held::<D, R>::start_over(rt, alloc, setup, links)?;
+    let desk = desk_of(&cluster, 1)?;
+    check_unheard(&rt, &desk, &answers, &free)?;
+    check_campaign(rt, &desk, &answers, &free)?;
     check(!*gave_up.lock(&rt), "a node sends under its lock")
 }
 
-/// Another thread gets the lock of a node that sends.
+/// A desk tells whether something lies in an inbox that its node hasn't heard, and another thread gets the lock of a node that
+/// sends.
 #[test]
 fn a_node_sends_once_its_lock_is_free(rt: HostRuntime) -> Result<(), Fail> {
-    let setup = setup_of(rt.alloc(), 1)?;
-    sends_unlocked::<Brand, _>(rt, rt.alloc(), &setup)
-}
-
-/// A link that holds a node's answer to a campaign until another node sends its own.
-#[derive(Drop)]
-struct Meeting<R: Wait + Clock> {
-    rt: R,
-    envelopes: Sender<Envelope<SharedCommand>>,
-    here: Flag,
-    there: Flag,
-    met: Flag,
-}
-
-impl<R: Wait + Clock> Link for Meeting<R> {
-    fn send(&self, envelope: Envelope<SharedCommand>) {
-        if let Message::P1b(_) = &envelope.message {
-            *self.here.lock(&self.rt) = true;
-            *self.met.lock(&self.rt) = wait_for(&self.rt, &self.there);
-        } else {
-            let _sent = self.envelopes.send(&self.rt, envelope);
-        }
-    }
-}
-
-fn new_flags(alloc: Global) -> Result<[Flag; 2], AllocError> {
-    Ok([new_flag(alloc)?, new_flag(alloc)?])
-}
-
-fn clone_of(flags: &[Flag; 2], place: usize) -> Result<Flag, Fail> {
-    let flag = flags.get(place).ok_or("no flag")?;
-    Ok(Arc::try_clone(flag)?)
-}
-
-/// The link of the node at this place, which waits for that of the other.
-fn meeting_link<R: Wait + Clock + Copy>(
-    rt: R,
-    place: usize,
-    envelopes: Sender<Envelope<SharedCommand>>,
-    answering: &[Flag; 2],
-    met: &[Flag; 2],
-) -> Result<Meeting<R>, Fail> {
-    let other = if place == 0 { 1 } else { 0 };
-    let here = clone_of(answering, place)?;
-    let there = clone_of(answering, other)?;
-    let met = clone_of(met, place)?;
-    Ok(Meeting {
-        rt,
-        envelopes,
-        here,
-        there,
-        met,
-    })
-}
-
-/// The links of both nodes.
-fn meeting_links<R: Wait + Clock + Copy>(
-    rt: R,
-    alloc: Global,
-    envelopes: Sender<Envelope<SharedCommand>>,
-    answering: &[Flag; 2],
-    met: &[Flag; 2],
-) -> Result<Vec<(NodeId, Meeting<R>)>, Fail> {
-    let (one, two) = (node(1)?, node(2)?);
-    let first = meeting_link(rt, 0, envelopes.clone()?, answering, met)?;
-    let second = meeting_link(rt, 1, envelopes, answering, met)?;
-    let mut links = Vec::new(alloc);
-    links.push((one, first))?;
-    links.push((two, second))?;
-    Ok(links)
-}
-
-/// Node 1 asks to lead. What a campaign sends is sent before it returns, so nothing is waited for.
-fn campaign<
-    D: Deployment + Send + Sync + 'static,
-    R: Threads + Wait + Clock + Copy + Send + Sync + 'static,
->(
-    rt: &R,
-    cluster: &Cluster<D, R, Meeting<R>>,
-    envelopes: &Receiver<Envelope<SharedCommand>>,
-) -> Result<(), Fail> {
-    cluster.campaign(node(1)?);
-    for _ in 0..2 {
-        let envelope = envelopes.try_recv(rt)?;
-        check(cluster.arrive(envelope), "an envelope is lost")?;
-    }
-    Ok(())
+    let setup = setup_of(rt.alloc(), 3)?;
+    is_held::<Brand, _>(rt, rt.alloc(), &setup)
 }
 
 fn answers_at_once<
@@ -257,21 +175,22 @@ fn answers_at_once<
     requires deployment { setup.now ≡ D.setup }
     requires names { IsTrue (are_different setup.now.names) }
 {
-    let (sender, envelopes) = unbounded(alloc)?;
-    let answering = new_flags(alloc)?;
-    let met = new_flags(alloc)?;
-    let links = meeting_links(rt, alloc, sender, &answering, &met)?;
-    let cluster = Cluster::<D, R, Meeting<R>>::start_over(rt, alloc, setup, links)?;
-    campaign(&rt, &cluster, &envelopes)?;
-    let logs = cluster.stop();
-    check(logs.len() == 2, "a log is missing")?;
-    let have_met = *met[0].lock(&rt) && *met[1].lock(&rt);
+    let (sent, _answers) = unbounded(alloc)?;
+    let (one, two, gave_up) = (new_flag(alloc)?, new_flag(alloc)?, new_flag(alloc)?);
+    let first = Holding::new(rt, sent.clone()?, &one, &two, &gave_up)?;
+    let mut links = alone(alloc, (node(1)?, first))?;
+    links.push((node(2)?, Holding::new(rt, sent, &two, &one, &gave_up)?))?;
+    let cluster = Held::<D, R>::start_over(rt, alloc, setup, links)?;
+    check(cluster.arrive(ask(1, 1)?), "an envelope is lost")?;
+    check(cluster.arrive(ask(2, 1)?), "an envelope is lost")?;
+    drop(cluster);
+    let have_met = *one.lock(&rt) && *two.lock(&rt) && !*gave_up.lock(&rt);
     check(have_met, "a node waits for the other in vain")
 }
 
 /// Each of two nodes answers only while the other does: with one thread for both they would wait in vain.
 #[test]
 fn nodes_have_threads_of_their_own(rt: HostRuntime) -> Result<(), Fail> {
-    let setup = setup_of(rt.alloc(), 2)?;
+    let setup = setup_of(rt.alloc(), 3)?;
     answers_at_once::<Brand, _>(rt, rt.alloc(), &setup)
 }

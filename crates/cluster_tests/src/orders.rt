@@ -1,109 +1,86 @@
 //! The order that an audit gives, as a service as a value takes it.
 
 use crate::audits::Remains;
-use crate::clients::{Page, accounts, new_stamp};
+use crate::clients::{Page, Talk, accounts, new_stamp};
 use audit::{Event as Turn, audit};
 use ballot::{Memory, NodeId};
 use cluster::Setup;
-use maildrop::{Name, Op};
+use maildrop::Op;
 use node::{Input, NodeLog};
 use samples::check;
-use session::Transcript;
+use session::{End, Transcript};
 use std::alloc::Global;
 use std::collections::VecDeque;
 use std::sync::Wait;
 use std::test::Fail;
 use world::{Config, Event, Runs, SessionId, run};
 
-/// What is still to come of a cluster that has stopped.
-#[derive(Drop)]
-struct Coming {
-    /// What each node was given that neither a message nor a session brings.
-    given: Vec<VecDeque<Event>>,
-    /// The lines of each session.
-    lines: Vec<VecDeque<Event>>,
-}
-
-impl Coming {
-    /// What a turn of the order is in a service, where session i is that of transcript i.
-    fn take(&mut self, turn: Turn) -> Result<Event, Fail> {
-        match turn {
-            Turn::Connect { session, node } => connected(session, node),
-            Turn::Line(session) => first_of(&mut self.lines, session),
-            Turn::Hangup(session) => Ok(Event::Hangup {
-                session: session_of(session),
-            }),
-            Turn::Collect(session) => Ok(Event::Collect {
-                session: session_of(session),
-            }),
-            Turn::Given(node) => {
-                let place = usize::from(node.get()).saturating_sub(1);
-                first_of(&mut self.given, place)
-            }
-            Turn::Arrive(which) => Ok(Event::Arrive(which)),
-        }
-    }
-
-    /// What the turns of an order are in a service.
-    fn take_all(&mut self, alloc: Global, order: &[Turn]) -> Result<Vec<Event>, Fail> {
-        let mut events = Vec::new(alloc);
-        for turn in order {
-            events.push(self.take(*turn)?)?;
-        }
-        Ok(events)
-    }
-
-    /// Whether nothing is still to come.
-    fn is_over(&self) -> bool {
-        are_empty(&self.given) && are_empty(&self.lines)
-    }
-}
+/// What is still to come of a cluster that has stopped: for each node what it was given that neither a message nor a session
+/// brings, and after these the lines of each session.
+type Coming = Vec<VecDeque<Event>>;
 
 fn session_of(place: usize) -> SessionId {
     SessionId::new(place as u64)
 }
 
-fn connected(place: usize, node: NodeId) -> Result<Event, Fail> {
-    Ok(Event::Connect {
-        session: session_of(place),
-        node,
-        stamp: new_stamp()?,
-    })
-}
-
 /// Takes the first of the events at this place.
-fn first_of(coming: &mut Vec<VecDeque<Event>>, place: usize) -> Result<Event, Fail> {
+fn first_of(coming: &mut Coming, place: usize) -> Result<Event, Fail> {
     let events = coming.get_mut(place).ok_or("no such node or session")?;
     Ok(events.pop_front().ok_or("it has nothing to come")?)
 }
 
-fn are_empty(coming: &[VecDeque<Event>]) -> bool {
-    coming.iter().all(|events| events.is_empty())
+/// What a turn of the order is in a service of so many nodes, if session i is that of transcript i.
+fn event_of(coming: &mut Coming, nodes: usize, turn: Turn) -> Result<Event, Fail> {
+    Ok(match turn {
+        Turn::Connect { session, node } => Event::Connect {
+            session: session_of(session),
+            node,
+            stamp: new_stamp()?,
+        },
+        Turn::Line(session) => first_of(coming, nodes.saturating_add(session))?,
+        Turn::Hangup(session) => Event::Hangup {
+            session: session_of(session),
+        },
+        Turn::Collect(session) => Event::Collect {
+            session: session_of(session),
+        },
+        Turn::Given(node) => first_of(coming, usize::from(node.get()).saturating_sub(1))?,
+        Turn::Arrive(which) => Event::Arrive(which),
+    })
 }
 
-/// What an operation is to a service that is given it, if it isn't one of a session.
-fn operation_of(node: NodeId, user: Name, op: &Op) -> Result<Option<Event>, Memory> {
-    Ok(match op {
-        Op::Mail { text, key } => Some(Event::Mail {
-            node,
-            user,
-            text: text.copy()?,
-            key: *key,
-        }),
-        Op::Break => Some(Event::Break { node, user }),
-        Op::Take | Op::Commit { .. } | Op::Free { .. } => None,
-    })
+/// What the turns of an order are in a service, which leaves nothing out.
+fn take_all(
+    coming: &mut Coming,
+    nodes: usize,
+    order: &[Turn],
+    events: &mut Vec<Event>,
+) -> Result<(), Fail> {
+    for turn in order {
+        events.push(event_of(coming, nodes, *turn)?)?;
+    }
+    let is_over = coming.iter().all(|events| events.is_empty());
+    check(is_over, "the order leaves something out")
 }
 
 /// What an input is to a service that is given it, if neither a message nor a session brings it.
 fn given_by(node: NodeId, input: &Input) -> Result<Option<Event>, Memory> {
-    match input {
-        Input::Submit(user, op) => operation_of(node, *user, op.get()),
-        Input::Arrive(_) => Ok(None),
-        Input::Tick => Ok(Some(Event::Tick(node))),
-        Input::Campaign => Ok(Some(Event::Campaign(node))),
-        Input::Crash => Ok(Some(Event::Crash(node))),
-    }
+    Ok(match input {
+        Input::Submit(user, op) => match op.get() {
+            Op::Mail { text, key } => Some(Event::Mail {
+                node,
+                user: *user,
+                text: text.copy()?,
+                key: *key,
+            }),
+            Op::Break => Some(Event::Break { node, user: *user }),
+            Op::Take | Op::Commit { .. } | Op::Free { .. } => None,
+        },
+        Input::Arrive(_) => None,
+        Input::Tick => Some(Event::Tick(node)),
+        Input::Campaign => Some(Event::Campaign(node)),
+        Input::Crash => Some(Event::Crash(node)),
+    })
 }
 
 fn given_to(alloc: Global, log: &NodeLog) -> Result<VecDeque<Event>, Fail> {
@@ -128,34 +105,23 @@ fn lines_of(alloc: Global, place: usize, transcript: &Transcript) -> Result<VecD
     Ok(lines)
 }
 
-fn all_given(alloc: Global, logs: &[NodeLog]) -> Result<Vec<VecDeque<Event>>, Fail> {
-    let mut given = Vec::new(alloc);
-    for log in logs {
-        given.push(given_to(alloc, log)?)?;
+fn add_coming(alloc: Global, remains: &Remains, coming: &mut Coming) -> Result<(), Fail> {
+    for log in &remains.logs {
+        coming.push(given_to(alloc, log)?)?;
     }
-    Ok(given)
-}
-
-fn all_lines(alloc: Global, transcripts: &[Transcript]) -> Result<Vec<VecDeque<Event>>, Fail> {
-    let mut lines = Vec::new(alloc);
-    for (place, transcript) in transcripts.iter().enumerate() {
-        lines.push(lines_of(alloc, place, transcript)?)?;
+    for (place, transcript) in remains.transcripts.iter().enumerate() {
+        coming.push(lines_of(alloc, place, transcript)?)?;
     }
-    Ok(lines)
-}
-
-fn coming_of(alloc: Global, remains: &Remains) -> Result<Coming, Fail> {
-    let given = all_given(alloc, &remains.logs)?;
-    let lines = all_lines(alloc, &remains.transcripts)?;
-    Ok(Coming { given, lines })
+    Ok(())
 }
 
 /// The events of the order that an audit finds.
 fn events_of(alloc: Global, remains: &Remains) -> Result<Vec<Event>, Fail> {
-    let mut coming = coming_of(alloc, remains)?;
     let order = audit(alloc, &remains.logs, &remains.transcripts)?;
-    let events = coming.take_all(alloc, &order)?;
-    check(coming.is_over(), "the order leaves something out")?;
+    let mut coming = Vec::new(alloc);
+    add_coming(alloc, remains, &mut coming)?;
+    let mut events = Vec::new(alloc);
+    take_all(&mut coming, remains.logs.len(), &order, &mut events)?;
     Ok(events)
 }
 
@@ -173,33 +139,40 @@ fn played(alloc: Global, setup: &Setup, remains: &Remains) -> Result<Runs, Fail>
     Ok(run(alloc, config, events_of(alloc, remains)?)?)
 }
 
-/// A session was told this, wrote it and counted it.
-fn check_told<R: Wait>(
+/// A session ended as it should. It wrote its replies, counted them, and is told them by a service as a value.
+fn check_session<R: Wait>(
     rt: &R,
-    told: &[u8],
+    talk: &Talk,
     transcript: &Transcript,
     page: &Page,
+    told: &[u8],
 ) -> Result<(), Fail> {
+    check(transcript.end == End::Closed, "a session ends otherwise")?;
+    let is_written = page.lock(rt).as_slice() == talk.replies.as_bytes();
+    check(is_written, "other replies")?;
+    let is_told = told == talk.replies.as_bytes();
     check(
-        page.lock(rt).as_slice() == told,
+        is_told,
         "a service as a value tells a session something else",
     )?;
-    check(
-        transcript.count == told.len() as u128,
-        "a session counts another number of bytes",
-    )
+    let is_counted = transcript.count == told.len() as u128;
+    check(is_counted, "a session counts another number of bytes")
 }
 
-fn check_replies<R: Wait>(
+fn check_sessions<R: Wait>(
     rt: &R,
+    talks: &[Talk],
+    remains: &Remains,
     runs: &Runs,
-    transcripts: &[Transcript],
-    pages: &[Page],
 ) -> Result<(), Fail> {
-    for (place, page) in pages.iter().enumerate() {
+    let count = talks.len();
+    let are_all = runs.replies.len() == count && remains.transcripts.len() == count;
+    check(are_all, "another number of sessions")?;
+    for (place, talk) in talks.iter().enumerate() {
         let (_, told) = runs.replies.get(place).ok_or("no replies")?;
-        let transcript = transcripts.get(place).ok_or("no transcript")?;
-        check_told(rt, told, transcript, page)?;
+        let transcript = remains.transcripts.get(place).ok_or("no transcript")?;
+        let page = remains.pages.get(place).ok_or("no page")?;
+        check_session(rt, talk, transcript, page, told)?;
     }
     Ok(())
 }
@@ -210,13 +183,9 @@ pub fn check_order<R: Wait>(
     rt: &R,
     alloc: Global,
     setup: &Setup,
+    talks: &[Talk],
     remains: &Remains,
-    pages: &[Page],
 ) -> Result<(), Fail> {
     let runs = played(alloc, setup, remains)?;
-    check(
-        runs.replies.len() == pages.len() && remains.transcripts.len() == pages.len(),
-        "another number of sessions",
-    )?;
-    check_replies(rt, &runs, &remains.transcripts, pages)
+    check_sessions(rt, talks, remains, &runs)
 }

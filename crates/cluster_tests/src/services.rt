@@ -1,11 +1,11 @@
-//! Clusters of which tests ask things, and the watcher that ends one which doesn't answer.
+//! Clusters, the mail that comes in to them, and the watcher that ends one which doesn't answer.
 ghost use Rattle.std.specs.Prelude.{IfOk, IsTrue};
 ghost use Rattle.maildrop.specs.Name.{are_different as differ};
 
-use ballot::{Cluster as Size, Items, LAST_NODE, NodeId};
-use cluster::{Cluster, Deployment, Link, NodeDesk, Setup};
+use ballot::{Cluster as Size, Items, LAST_NODE};
+use cluster::{Cluster, Deployment, InboxLink, Link, NodeDesk, Setup};
 use maildrop::{Outcome, are_different};
-use samples::{check, mail, name, widest_limits};
+use samples::{check, mail, name, node, widest_limits};
 use session::Desk;
 use std::alloc::{AllocError, Global};
 use std::sync::{Arc, Mutex, Wait};
@@ -15,8 +15,8 @@ use std::thread::{JoinHandle, Threads};
 use std::time::{Clock, Duration};
 
 /// For how many seconds at least a test waits for anything before it gives up, so that none waits for ever: nearly the minute
-/// after which its runner ends it. A wait for what a right program does ends when that is done, so only where the whole test
-/// takes about its minute does one come near this bound. Where one reaches it the test has failed, or the runner ends it.
+/// after which its runner ends it. A wait for what a right program does ends when that is done, so one comes near this bound
+/// only if the whole test takes about its minute. If one reaches it, the test has failed, or the runner ends it.
 pub const SECONDS: u64 = 50;
 
 /// As many turns, each of which takes a millisecond or more.
@@ -24,6 +24,15 @@ const TURNS: u64 = SECONDS * 1_000;
 
 /// A flag that threads share.
 pub type Flag = Arc<Mutex<bool>>;
+
+/// A cluster whose nodes send to one another's inboxes.
+pub type Nodes<D, R> = Cluster<D, R, InboxLink<R>>;
+
+/// The desk of one of its nodes.
+pub type DeskOf<D, R> = NodeDesk<D, R, InboxLink<R>>;
+
+/// A message that comes in: at which node, for whom, its lines, and the unique id that it gets.
+pub type Mail = (u8, &'static str, &'static [&'static str], u64);
 
 /// A cluster of so many nodes, with a maildrop for alice and one for bob.
 pub fn setup_of(alloc: Global, nodes: u8) -> Result<Setup, Fail>
@@ -39,10 +48,6 @@ pub fn setup_of(alloc: Global, nodes: u8) -> Result<Setup, Fail>
         names,
         limits: widest_limits()?,
     })
-}
-
-pub fn node(number: u8) -> Result<NodeId, Fail> {
-    Ok(NodeId::new(number).ok_or("no node")?)
 }
 
 pub fn new_flag(alloc: Global) -> Result<Flag, AllocError> {
@@ -63,7 +68,7 @@ pub fn wait_a_turn<R: Clock>(rt: &R) {
     thread::sleep(rt, Duration::from_millis(1));
 }
 
-/// Waits until the flag is set, or the turns are over. Gives whether it is set.
+/// Waits until the flag is set, or the turns are over. Returns whether it is set.
 pub fn wait_for<R: Wait + Clock>(rt: &R, flag: &Flag) -> bool {
     for _ in 0..TURNS {
         if *flag.lock(rt) {
@@ -74,7 +79,7 @@ pub fn wait_for<R: Wait + Clock>(rt: &R, flag: &Flag) -> bool {
     false
 }
 
-/// Crashes the nodes of the desks where the flag isn't set in time, so that nobody waits for them any more.
+/// Crashes the nodes of the desks if the flag isn't set in time, so that nobody waits for them any more.
 fn crash_when_late<D: Deployment, R: Wait + Clock, L: Link>(
     rt: &R,
     done: &Flag,
@@ -87,7 +92,7 @@ fn crash_when_late<D: Deployment, R: Wait + Clock, L: Link>(
     }
 }
 
-/// A thread that crashes all nodes where a test takes too long.
+/// A thread that crashes all nodes if a test takes too long.
 #[derive(Drop)]
 pub struct Watch {
     done: Flag,
@@ -103,39 +108,18 @@ pub fn desk_of<
     Ok(cluster.desk(node(number)?)?.ok_or("no desk")?)
 }
 
-/// Node 1 leads, and alice has a message of 4 octets.
-pub fn mail_to_leader<
+/// Adds the desks of all nodes that are here.
+fn add_desks<
     D: Deployment + Send + Sync + 'static,
     R: Threads + Wait + Copy + Send + Sync + 'static,
     L: Link + Drop + Send + Sync + 'static,
->(alloc: Global, cluster: &Cluster<D, R, L>) -> Result<(), Fail> {
-    let mut desk = desk_of(cluster, 1)?;
-    desk.campaign();
-    deliver(alloc, &mut desk, "alice", &["hi"], 1)
-}
-
-/// Adds the desk of the node with this number, if that node is here.
-fn add_desk<
-    D: Deployment + Send + Sync + 'static,
-    R: Threads + Wait + Copy + Send + Sync + 'static,
-    L: Link + Drop + Send + Sync + 'static,
->(cluster: &Cluster<D, R, L>, number: u8, desks: &mut Vec<NodeDesk<D, R, L>>) -> Result<(), Fail> {
-    if let Some(desk) = cluster.desk(node(number)?)? {
-        desks.push(desk)?;
+>(cluster: &Cluster<D, R, L>, desks: &mut Vec<NodeDesk<D, R, L>>) -> Result<(), Fail> {
+    for number in 1..=LAST_NODE {
+        if let Some(desk) = cluster.desk(node(number)?)? {
+            desks.push(desk)?;
+        }
     }
     Ok(())
-}
-
-fn desks_of<
-    D: Deployment + Send + Sync + 'static,
-    R: Threads + Wait + Copy + Send + Sync + 'static,
-    L: Link + Drop + Send + Sync + 'static,
->(alloc: Global, cluster: &Cluster<D, R, L>) -> Result<Vec<NodeDesk<D, R, L>>, Fail> {
-    let mut desks = Vec::new(alloc);
-    for number in 1..=LAST_NODE {
-        add_desk(cluster, number, &mut desks)?;
-    }
-    Ok(desks)
 }
 
 /// Watches a cluster.
@@ -144,9 +128,10 @@ pub fn start_watch<
     R: Threads + Wait + Clock + Copy + Send + Sync + 'static,
     L: Link + Drop + Send + Sync + 'static,
 >(rt: R, alloc: Global, cluster: &Cluster<D, R, L>) -> Result<Watch, Fail> {
-    let desks = desks_of(alloc, cluster)?;
     let done = new_flag(alloc)?;
     let theirs = Arc::try_clone(&done)?;
+    let mut desks = Vec::new(alloc);
+    add_desks(cluster, &mut desks)?;
     let thread = thread::spawn(&rt, move || crash_when_late(&rt, &theirs, &desks))?;
     Ok(Watch { done, thread })
 }
@@ -157,16 +142,29 @@ pub fn end_watch<R: Threads + Wait>(rt: &R, watch: Watch) {
     watch.thread.join(rt);
 }
 
-/// Has a message of these lines stored for the user, under this unique id.
-pub fn deliver<D: Deployment, R: Wait, L: Link>(
+/// Has a message stored at the desk.
+fn deliver<D: Deployment, R: Wait>(
     alloc: Global,
-    desk: &mut NodeDesk<D, R, L>,
-    user: &str,
-    lines: &[&str],
-    uid: u64,
+    desk: &mut DeskOf<D, R>,
+    (_, user, lines, uid): Mail,
 ) -> Result<(), Fail> {
     match desk.ask(name(user)?, mail(alloc, lines)?) {
         Ok((_, Outcome::Stored(stored))) => check(stored == uid, "another unique id"),
         _ => Err("the message is not stored".into()),
     }
+}
+
+/// Node 1 leads, and all messages are stored. Without messages no node leads.
+pub fn mail_all<
+    D: Deployment + Send + Sync + 'static,
+    R: Threads + Wait + Copy + Send + Sync + 'static,
+>(alloc: Global, cluster: &Nodes<D, R>, mails: &[Mail]) -> Result<(), Fail> {
+    if !mails.is_empty() {
+        cluster.campaign(node(1)?);
+    }
+    for mail in mails {
+        let mut desk = desk_of(cluster, mail.0)?;
+        deliver(alloc, &mut desk, *mail)?;
+    }
+    Ok(())
 }

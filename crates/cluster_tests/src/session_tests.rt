@@ -1,14 +1,12 @@
-//! A session over three nodes on threads.
+//! Sessions over nodes on threads.
 ghost use Rattle.std.specs.Prelude.{◌≡◌, IsTrue};
 ghost use Rattle.maildrop.specs.Name.{are_different};
 
-use crate::audits::{Remains, all_of, check_closed, check_other_outcome, check_without_p2a};
-use crate::clients::{Page, check_page, new_accounts, new_client, new_page};
-use crate::orders::check_order;
-use crate::services::{alone, deliver, desk_of, end_watch, node, setup_of, start_watch};
-use cluster::{Cluster, Deployment, InboxLink, NodeDesk, Setup};
-use samples::check;
-use session::{OpenGate, Transcript};
+use crate::audits::{check_other_outcome, check_without_p2a};
+use crate::clients::Talk;
+use crate::lives::{Ending, Plan, lives, lives_often};
+use crate::services::setup_of;
+use cluster::{Deployment, Setup};
 use std::alloc::Global;
 use std::marker::Brand;
 use std::sync::Wait;
@@ -16,117 +14,172 @@ use std::test::Fail;
 use std::thread::Threads;
 use std::time::Clock;
 
-/// What the client sends.
-const LINES: &[u8] = b"USER alice\r\nPASS s3\r\nSTAT\r\nUIDL\r\nRETR 2\r\nDELE 1\r\nQUIT\r\n";
-
-/// What it is to get.
-const REPLIES: &str = "+OK POP3 server ready <n.1@mail.test>\r\n\
+/// Mail at two nodes of three, and a session at the second.
+const THREE: Plan = Plan {
+    nodes: 3,
+    mails: &[
+        (1, "alice", &["Subject: a1", "", "one"], 1),
+        (2, "bob", &["Subject: b1", "", "uno"], 1),
+        (2, "alice", &["Subject: a2", "", ".two"], 2),
+        (1, "bob", &["Subject: b2", "", "dos"], 2),
+        (1, "alice", &["Subject: a3", "", "three"], 3),
+    ],
+    talks: &[Talk {
+        node: 2,
+        lines: b"USER alice\r\nPASS s3\r\nSTAT\r\nUIDL\r\nRETR 2\r\nDELE 1\r\nQUIT\r\n",
+        replies: "+OK POP3 server ready <n.1@mail.test>\r\n\
 +OK send PASS\r\n\
 +OK maildrop has 3 messages (63 octets)\r\n\
 +OK 3 63\r\n\
 +OK\r\n1 1\r\n2 2\r\n3 3\r\n.\r\n\
 +OK 21 octets\r\nSubject: a2\r\n\r\n..two\r\n.\r\n\
 +OK message 1 deleted\r\n\
-+OK signing off\r\n";
++OK signing off\r\n",
+        tells: 0,
+        holds: 0,
+    }],
+    crash: None,
+    ending: Ending::Closed,
+};
 
-/// How often a cluster is started anew.
+/// How often that cluster is started anew.
 const CLUSTERS: u32 = 200;
 
-type Nodes<D, R> = Cluster<D, R, InboxLink<R>>;
+/// Two sessions that can only end if they run at the same time: alice's RETR waits for the reply to bob's STAT, and bob's QUIT
+/// for the reply to alice's RETR.
+const AT_ONCE: Plan = Plan {
+    nodes: 3,
+    mails: &[(1, "alice", &["hi"], 1)],
+    talks: &[
+        Talk {
+            node: 1,
+            lines: b"USER alice\r\nPASS s3\r\nRETR 1\r\nQUIT\r\n",
+            replies: "+OK POP3 server ready <n.1@mail.test>\r\n\
++OK send PASS\r\n\
++OK maildrop has 1 messages (4 octets)\r\n\
++OK 4 octets\r\nhi\r\n.\r\n\
++OK signing off\r\n",
+            tells: 3,
+            holds: 3,
+        },
+        Talk {
+            node: 3,
+            lines: b"USER bob\r\nPASS s4\r\nSTAT\r\nQUIT\r\n",
+            replies: "+OK POP3 server ready <n.1@mail.test>\r\n\
++OK send PASS\r\n\
++OK maildrop has 0 messages (0 octets)\r\n\
++OK 0 0\r\n\
++OK signing off\r\n",
+            tells: 3,
+            holds: 4,
+        },
+    ],
+    crash: None,
+    ending: Ending::Closed,
+};
 
-type DeskOf<D, R> = NodeDesk<D, R, InboxLink<R>>;
+/// The leader crashes once a client is logged in, whose QUIT waits for that.
+const TAKEOVER: Plan = Plan {
+    nodes: 3,
+    mails: &[(1, "alice", &["hi"], 1)],
+    talks: &[Talk {
+        node: 2,
+        lines: b"USER alice\r\nPASS s3\r\nDELE 1\r\nQUIT\r\n",
+        replies: "+OK POP3 server ready <n.1@mail.test>\r\n\
++OK send PASS\r\n\
++OK maildrop has 1 messages (4 octets)\r\n\
++OK message 1 deleted\r\n\
++OK signing off\r\n",
+        tells: 2,
+        holds: 4,
+    }],
+    crash: Some((1, 2)),
+    ending: Ending::Closed,
+};
 
-/// Node 1 leads, and mail comes in at nodes 1 and 2.
-fn mailed<D: Deployment, R: Wait>(
-    alloc: Global,
-    one: &mut DeskOf<D, R>,
-    two: &mut DeskOf<D, R>,
-) -> Result<(), Fail> {
-    one.campaign();
-    deliver(alloc, one, "alice", &["Subject: a1", "", "one"], 1)?;
-    deliver(alloc, two, "bob", &["Subject: b1", "", "uno"], 1)?;
-    deliver(alloc, two, "alice", &["Subject: a2", "", ".two"], 2)?;
-    deliver(alloc, one, "bob", &["Subject: b2", "", "dos"], 2)?;
-    deliver(alloc, one, "alice", &["Subject: a3", "", "three"], 3)
-}
+/// A session waits for a node that isn't to answer it, until that node stops.
+const WAITING: Plan = Plan {
+    nodes: 1,
+    mails: &[],
+    talks: &[Talk {
+        node: 1,
+        lines: b"USER alice\r\nPASS s3\r\n",
+        replies: "",
+        tells: 0,
+        holds: 0,
+    }],
+    crash: Some((1, 1)),
+    ending: Ending::Waiting,
+};
 
-/// Serves the client at node 2. Gives what it gets, and its session's transcript.
-fn served<D: Deployment + Send + Sync + 'static, R: Threads + Wait + Copy + Send + Sync + 'static>(
-    rt: R,
-    alloc: Global,
-    cluster: &Nodes<D, R>,
-) -> Result<(Page, Vec<Transcript>), Fail> {
-    let accounts = new_accounts(alloc)?;
-    let page = new_page(alloc)?;
-    let job = new_client(rt, node(2)?, LINES, &page, OpenGate)?;
-    let transcripts = cluster.sessions(alone(alloc, job)?, &accounts)?;
-    Ok((page, all_of(alloc, transcripts)?))
-}
+/// How many clusters are started and crashed, one after another. When a crash comes the session has asked, and either it sleeps,
+/// or it has yet to look whether its node is up and finds that it isn't: it ends the same way, whatever the timing. A crash that
+/// wakes nobody is seen by a session that sleeps, which then never ends, and no call tells whether one does. The operator looks
+/// once a turn whether it has asked, and asleep it is a few calls later, so most are when he looks; one of all is enough.
+const CRASHES: u32 = 20;
 
-/// Mail comes in at two desks.
-fn mail_all<
-    D: Deployment + Send + Sync + 'static,
-    R: Threads + Wait + Copy + Send + Sync + 'static,
->(alloc: Global, cluster: &Nodes<D, R>) -> Result<(), Fail> {
-    let mut one = desk_of(cluster, 1)?;
-    let mut two = desk_of(cluster, 2)?;
-    mailed(alloc, &mut one, &mut two)
-}
+/// The PASS of a session waits until its node has stopped.
+const LATE: Plan = Plan {
+    nodes: 1,
+    mails: &[],
+    talks: &[Talk {
+        node: 1,
+        lines: b"USER alice\r\nPASS s3\r\n",
+        replies: "",
+        tells: 1,
+        holds: 2,
+    }],
+    crash: Some((1, 1)),
+    ending: Ending::Late,
+};
 
-/// Mail and a session over a cluster, which is watched. Gives what the client gets, and the session's transcript.
-fn mail_and_session<
-    D: Deployment + Send + Sync + 'static,
-    R: Threads + Wait + Copy + Send + Sync + 'static,
->(rt: R, alloc: Global, cluster: &Nodes<D, R>) -> Result<(Page, Vec<Transcript>), Fail> {
-    mail_all(alloc, cluster)?;
-    let (page, transcripts) = served(rt, alloc, cluster)?;
-    check_closed(&transcripts)?;
-    check_page(&rt, &page, REPLIES)?;
-    Ok((page, transcripts))
-}
-
-/// A cluster from its start to its end, with mail and a session in between. What is left of it is legal, and a service as
-/// a value takes it so.
-fn lives<
-    D: Deployment + Send + Sync + 'static,
-    R: Threads + Wait + Clock + Copy + Send + Sync + 'static,
->(rt: R, alloc: Global, setup: &Setup) -> Result<Remains, Fail>
-    requires deployment { setup.now ≡ D.setup }
-    requires names { IsTrue (are_different setup.now.names) }
-{
-    let cluster = Nodes::<D, R>::start(rt, alloc, setup)?;
-    let watch = start_watch(rt, alloc, &cluster)?;
-    let outcome = mail_and_session(rt, alloc, &cluster);
-    end_watch(&rt, watch);
-    let (page, transcripts) = outcome?;
-    let remains = Remains {
-        transcripts,
-        logs: cluster.stop(),
-    };
-    check(remains.logs.len() == 3, "a log is missing")?;
-    check_order(&rt, alloc, setup, &remains, &alone(alloc, page)?)?;
-    Ok(remains)
-}
-
-fn lives_often<
+fn lives_and_is_changed<
     D: Deployment + Send + Sync + 'static,
     R: Threads + Wait + Clock + Copy + Send + Sync + 'static,
 >(rt: R, alloc: Global, setup: &Setup) -> Result<(), Fail>
     requires deployment { setup.now ≡ D.setup }
     requires names { IsTrue (are_different setup.now.names) }
 {
-    for _ in 0..CLUSTERS {
-        drop(lives::<D, R>(rt, alloc, setup)?);
-    }
-    check_without_p2a(alloc, lives::<D, R>(rt, alloc, setup)?)?;
-    check_other_outcome(alloc, lives::<D, R>(rt, alloc, setup)?)
+    lives_often::<D, R>(rt, alloc, setup, THREE, CLUSTERS)?;
+    check_without_p2a(alloc, lives::<D, R>(rt, alloc, setup, THREE)?)?;
+    check_other_outcome(alloc, lives::<D, R>(rt, alloc, setup, THREE)?)
 }
 
-/// Mail at two nodes of three, and a session at the second, without a tick: the client gets the very bytes that a lone
-/// server of its user gives, an audit finds nothing wrong, and a service as a value that takes the audit's order tells the
-/// client the same bytes, each time. The audit finds something where a log or an outcome is changed.
+/// The client gets the very bytes that a lone server of its user gives, without a tick, an audit finds nothing wrong, and a
+/// service as a value that takes the audit's order tells the client the same bytes, each time. The audit finds something if
+/// a log or an outcome is changed.
 #[test]
 fn a_session_over_three_nodes(rt: HostRuntime) -> Result<(), Fail> {
-    let setup = setup_of(rt.alloc(), 3)?;
-    lives_often::<Brand, _>(rt, rt.alloc(), &setup)
+    let setup = setup_of(rt.alloc(), THREE.nodes)?;
+    lives_and_is_changed::<Brand, _>(rt, rt.alloc(), &setup)
+}
+
+/// One session after the other would wait in vain, in either order. A service as a value that takes what they did tells both
+/// clients the same bytes.
+#[test]
+fn two_sessions_at_once(rt: HostRuntime) -> Result<(), Fail> {
+    let setup = setup_of(rt.alloc(), AT_ONCE.nodes)?;
+    lives_often::<Brand, _>(rt, rt.alloc(), &setup, AT_ONCE, 1)
+}
+
+/// The other nodes of three end the session of a client, whose leader is gone. A service as a value that takes what they did
+/// tells the client the same bytes.
+#[test]
+fn a_session_outlives_the_leader(rt: HostRuntime) -> Result<(), Fail> {
+    let setup = setup_of(rt.alloc(), TAKEOVER.nodes)?;
+    lives_often::<Brand, _>(rt, rt.alloc(), &setup, TAKEOVER, 1)
+}
+
+/// A session that waits ends as its node stops.
+#[test]
+fn a_crash_ends_a_session_that_waits(rt: HostRuntime) -> Result<(), Fail> {
+    let setup = setup_of(rt.alloc(), WAITING.nodes)?;
+    lives_often::<Brand, _>(rt, rt.alloc(), &setup, WAITING, CRASHES)
+}
+
+/// A session that asks only once its node has stopped gets no ticket, and ends.
+#[test]
+fn a_crash_ends_a_session_that_logs_in(rt: HostRuntime) -> Result<(), Fail> {
+    let setup = setup_of(rt.alloc(), LATE.nodes)?;
+    lives_often::<Brand, _>(rt, rt.alloc(), &setup, LATE, 1)
 }

@@ -31,6 +31,14 @@ impl<S: Drop> Queue<S> {
         !self.is_closed && self.arrivals.is_empty()
     }
 
+    /// Takes the oldest out if there is no room for one more.
+    fn make_room(&mut self) -> Option<Arrival<S>> {
+        if self.is_full() {
+            return self.arrivals.pop_front();
+        }
+        None
+    }
+
     /// Adds one, unless there is no room or the queue is closed. Returns it then.
     fn put(&mut self, arrival: Arrival<S>) -> Option<Arrival<S>> {
         if self.is_closed || self.arrivals.len() >= self.most {
@@ -74,10 +82,20 @@ impl<S: Drop> Arrivals<S> {
         refused.is_none()
     }
 
-    /// Adds a connection if there is room for it. Otherwise it is closed.
-    pub(crate) fn try_put<R: Wait>(&self, rt: &R, arrival: Arrival<S>) {
-        let _is_closed = self.queue.lock(rt).put(arrival);
+    /// Adds a connection. If there is no room for it, the one that has waited longest is closed.
+    pub(crate) fn put_newest<R: Wait>(&self, rt: &R, arrival: Arrival<S>) {
+        let mut guard = self.queue.lock(rt);
+        let oldest = guard.make_room();
+        let _refused = guard.put(arrival);
+        drop(oldest);
         self.changes.notify_all();
+    }
+
+    /// Waits for a connection, and returns the one that came last. None once the queue is closed.
+    pub(crate) fn newest<R: Wait>(&self, rt: &R) -> Option<Arrival<S>> {
+        let guard = self.queue.lock(rt);
+        let mut guard = self.changes.wait_while(rt, guard, |queue| queue.is_empty());
+        guard.arrivals.pop_back()
     }
 
     /// Waits for the next connection. None once the queue is closed.

@@ -125,7 +125,7 @@ impl<S: Connection + Send + Sync + Drop + 'static, L: Listening<S>> Port<S, L> {
             };
             if handler.is_open() {
                 if let Some(unserved) = workers.take(rt, alloc, arrival, handler) {
-                    self.unserved.try_put(&rt, unserved);
+                    self.unserved.put_newest(&rt, unserved);
                 }
             }
             let most = if self.arrivals.are_waiting(&rt) {
@@ -138,10 +138,11 @@ impl<S: Connection + Send + Sync + Drop + 'static, L: Listening<S>> Port<S, L> {
         workers.end(&rt);
     }
 
-    /// Serves the connections for which there is nothing else, one after another and briefly, until the port is closed.
+    /// Serves the connections for which there is nothing else, one after another and briefly, until the port is closed. The
+    /// one that came last is served first, so that many silent ones don't keep it waiting.
     fn serve_unserved<R: Wait, H: Handler<S>>(&self, rt: &R, handler: &mut H) {
         for _ in rt.forever() {
-            let Some(arrival) = self.unserved.next(rt) else {
+            let Some(arrival) = self.unserved.newest(rt) else {
                 break;
             };
             let stream = arrival.stream.stream();

@@ -28,10 +28,10 @@ use std::net::{Shutdown, SocketAddr};
 use std::sync::{Arc, Wait};
 use std::time::{Clock, Duration};
 
-/// Room for what is told of nine nodes, or of anything shorter.
+/// Octets for an answer: enough for a line about each of nine nodes.
 const ANSWER_ROOM: usize = 576;
 
-/// What all connections of operators share.
+/// The limits that all operators' connections share.
 #[derive(Drop)]
 struct SharedLimits {
     places: RequestPlaces,

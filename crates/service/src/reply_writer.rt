@@ -6,19 +6,19 @@ use std::io::{BufWriter, Write};
 use std::net::TcpStream;
 use std::sync::{Mutex, Wait};
 
-/// What a client is told. Replies are gathered, and counted as they are taken. The refusal of a login goes out at once,
-/// since the session waits after it.
+/// Writes a session's replies to its client. It gathers them, and counts each as it is written. The refusal of a login
+/// is sent at once, since the session waits after it.
 #[derive(Drop)]
 pub(crate) struct ReplyWriter<'a, R> {
     rt: R,
     writer: BufWriter<&'a TcpStream>,
     facts: &'a Mutex<SessionFacts>,
-    /// What a login that is refused is told.
+    /// The reply to a login that is refused.
     refusal: &'a [u8],
 }
 
 impl<'a, R: Wait + Copy> ReplyWriter<'a, R> {
-    /// Of a session that has said nothing.
+    /// A writer for a session that has replied nothing yet.
     pub(crate) fn new(
         rt: R,
         writer: BufWriter<&'a TcpStream>,
