@@ -334,6 +334,15 @@ impl<R: Wait + Clock + Copy, N: ServedNode + Drop> OperatorHandler<R, N> {
         unreachable!()
     }
 
+    /// The node at which mail is stored: that of this number, or any that is up. None once the service stops, since its mail
+    /// would be lost with it.
+    fn node_to_store(&self, number: Option<NodeId>) -> Option<&N> {
+        if self.state.stages().is_stopping(&self.rt) {
+            return None;
+        }
+        node_up(&self.nodes, number)
+    }
+
     /// Has the messages of the mailbox file that follows delivered, and reports their outcomes.
     fn deliver_mail(
         &self,
@@ -344,7 +353,7 @@ impl<R: Wait + Clock + Copy, N: ServedNode + Drop> OperatorHandler<R, N> {
         reader: &mut OperatorReader<'_, R>,
         stream: &OperatorStream,
     ) -> Result<(), Fault> {
-        let Some(node) = node_up(&self.nodes, Some(number)) else {
+        let Some(node) = self.node_to_store(Some(number)) else {
             return tell(stream, b"down\n");
         };
         if let Err(why) = self.take_room(node, count, stream) {
@@ -388,7 +397,7 @@ impl<R: Wait + Clock + Copy, N: ServedNode + Drop> OperatorHandler<R, N> {
         reader: &mut OperatorReader<'_, R>,
         stream: &OperatorStream,
     ) -> Result<(), Fault> {
-        let Some(node) = node_up(&self.nodes, *number) else {
+        let Some(node) = self.node_to_store(*number) else {
             return tell(stream, b"down\n");
         };
         if !self.state.accounts().has(&user) {

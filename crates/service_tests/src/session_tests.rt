@@ -324,8 +324,9 @@ const STILL_OPEN: Scene = Scene {
         Refused(1),
         Refused(2),
         Refused(3),
-        // Operators are heard until its end.
+        // Operators are heard until its end, but no mail is taken that would be lost.
         Shows("node 1 up "),
+        Ctl("deliver 3 alice FILE", 3, "down\n"),
         Says(
             0,
             "STAT\r\nDELE 1\r\n",
