@@ -17,7 +17,7 @@ pub fails : (b : Bool) → ¬ (b ≡ true) → b ≡ false
 fails true not_true = absurd (not_true refl)
 fails false not_true = refl
 
--- a part with another behind it stays
+-- a part with another after it stays
 without_last-more : (part : List ℕ) (parts : List (List ℕ)) → 0 < length parts → without_last (part ∷ parts) ≡ part ∷ without_last parts
 without_last-more part [] some = absurd (omega arith)
 without_last-more part (next ∷ more) some = refl
@@ -34,14 +34,14 @@ strip-at line n is = rw (is, get_or_push line 13 0 (length line) refl) (take-app
 strip-ended : (line : List ℕ) → strip_carriage_return (line ++ 13 ∷ []) ≡ line
 strip-ended line = strip-at line (length (line ++ 13 ∷ []) - 1) (omega (arith, length-append line (13 ∷ [])))
 
--- a part with its line feed, and more behind it
+-- a part with its line feed, and more after it
 lines_of-part : (part bytes : List ℕ) → IsLine part → lines_of (part ++ 10 ∷ bytes) ≡ strip_carriage_return part ∷ lines_of bytes
 unfolding lines_of
 lines_of-part part bytes is =
     ap (λ parts. map strip_carriage_return (without_last parts)) (slice_split_at (is_byte 10) part 10 bytes (tests-from_IsLine part is) refl)
     ∙ ap (λ parts. map strip_carriage_return parts) (without_last-more part (slice_split (is_byte 10) bytes) (omega (arith, length-slice_split (is_byte 10) bytes)))
 
--- a line with its CR and LF, and more behind it
+-- a line with its CR and LF, and more after it
 pub lines_of-line : (line bytes : List ℕ) → IsLine line → lines_of (line ++ 13 ∷ 10 ∷ bytes) ≡ line ∷ lines_of bytes
 lines_of-line line bytes is =
     let part : IsLine (line ++ 13 ∷ []) = All-push (λ b. b ≢ 10) line 13 is (λ e. absurd (omega (arith, e))) in
@@ -78,7 +78,7 @@ or_no : (b : Bool) → (b || false) ≡ b
 or_no true = refl
 or_no false = refl
 
--- whether a line begins with a dot, where one more is there
+-- whether a line begins with a dot, if one more is there
 dots-push : (lines : List (List ℕ)) (line : List ℕ) → list_any begins_with_dot (lines ++ line ∷ []) ≡ (list_any begins_with_dot lines || begins_with_dot line)
 dots-push lines line =
     list_any-append begins_with_dot lines (line ∷ []) ∙ ap (λ b. list_any begins_with_dot lines || b) (or_no (begins_with_dot line))

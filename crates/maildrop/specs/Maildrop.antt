@@ -1,18 +1,19 @@
 -- A user's maildrop alone: what each operation answers, and what it leaves.
-use Rattle.std.specs.Prelude.{ℕ, ◌+◌, ◌<◌, ◌≤◌, Bool, false, not, ◌||◌, ◌&&◌, ◌==◌, nat_lt, List, [], ◌∷◌, ◌++◌, length, filter, Option, Some, None, is_none, if◌then◌else◌}
-use Rattle.std.specs.List.{list_any, All}
-use Rattle.std.specs.List.Sorted.{IsStrictlyIncreasing}
+use Rattle.std.specs.Prelude.{ℕ, ◌+◌, Bool, false, not, ◌||◌, ◌&&◌, ◌==◌, nat_lt, List, [], ◌∷◌, ◌++◌, length, filter, Option, Some, None, is_none, if◌then◌else◌}
+use Rattle.std.specs.List.{list_any}
 use Rattle.std.specs.Str.{bytes_eq}
 use Rattle.maildrop.specs.Text.{octets_of}
-use Rattle.maildrop.specs.Key.{uid_of, with_key}
+use Rattle.maildrop.specs.Key.{uid_of, with_key, last_keys}
 use Rattle.maildrop.specs.Ticket.{Ticket, same_ticket}
 use Rattle.maildrop.specs.Limits.{Limits}
-use Rattle.maildrop.specs.Taken.{message_octets, unique_ids}
+use Rattle.maildrop.specs.Taken.{message_octets}
+use Rattle.maildrop.specs.Kept.{KeptMaildrop}
 use Rattle.maildrop.specs.declared.message.Message.{Message}
 use Rattle.maildrop.specs.declared.op.Op.{Op}
 use Rattle.maildrop.specs.declared.op.Op.TheVariants.{Mail, Take, Commit, Free, Break}
 use Rattle.maildrop.specs.declared.outcome.Outcome.{Outcome}
 use Rattle.maildrop.specs.declared.outcome.Outcome.TheVariants.{TooLarge, Full, IdsUsed, Stored, InUse, Taken, Done, NotHolder}
+use Rattle.maildrop.specs.declared.usage.Usage.{Usage}
 
 pub record Maildrop (A : Type 0) : Type 0 where
   pub messages : List (Message A)
@@ -33,15 +34,17 @@ is_held_by None lock = false
 is_held_by (Some holder) lock = same_ticket holder lock
 
 module _ {A : Type 0} where
-  -- what always holds of a maildrop
-  pub record IsConsistent (maildrop : Maildrop A) : Type 0 where
-    pub few : length maildrop.messages ≤ maildrop.limits.messages
-    pub small : message_octets maildrop.messages ≤ maildrop.limits.octets
-    pub ascending : IsStrictlyIncreasing (unique_ids maildrop.messages)
-    pub given : All (λ m. m.uid < maildrop.next_uid) maildrop.messages
-    -- each key used up a unique id, so there are never more of them than `ids`
-    pub keyed : length maildrop.keys < maildrop.next_uid
-    pub issued : maildrop.next_uid ≤ maildrop.limits.ids + 1
+  -- what is kept of a maildrop: nobody holds its lock any more, and its limits are forgotten
+  abbrev pub closed : Maildrop A → KeptMaildrop A
+  closed maildrop = record { messages = maildrop.messages; next_uid = maildrop.next_uid; keys = maildrop.keys }
+
+  -- a kept maildrop with these limits and the last `keys` of its keys
+  abbrev pub opened : Limits → ℕ → KeptMaildrop A → Maildrop A
+  opened limits keys kept = record { messages = kept.messages; next_uid = kept.next_uid; holder = None; limits = limits; keys = last_keys keys kept.keys }
+
+  -- how much a maildrop has
+  abbrev pub usage_of : Maildrop A → Usage
+  usage_of maildrop = record { messages = length maildrop.messages; octets = message_octets maildrop.messages; next_uid = maildrop.next_uid }
 
   -- a new maildrop
   abbrev pub empty_maildrop : Limits → Maildrop A

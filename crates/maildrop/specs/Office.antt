@@ -1,11 +1,14 @@
 -- The maildrops of all users in one table, and each user's outcomes.
-use Rattle.std.specs.Prelude.{ℕ, Bool, false, List, [], ◌∷◌, ◌++◌, map, filter, Option, Some, None, if◌then◌else◌}
+use Rattle.std.specs.Prelude.{ℕ, Bool, false, List, [], ◌∷◌, ◌++◌, map, filter, Option, Some, None, option_and_then, option_map, if◌then◌else◌}
 use Rattle.std.specs.Str.{bytes_eq}
+use Rattle.maildrop.specs.Kept.{KeptTable, kept_for}
 use Rattle.maildrop.specs.Limits.{Limits}
-use Rattle.maildrop.specs.Maildrop.{Maildrop, empty_maildrop, effect_of, takes_memory, ids_given_by}
+use Rattle.maildrop.specs.Maildrop.{Maildrop, empty_maildrop, opened, closed, usage_of, effect_of, takes_memory, ids_given_by}
+use Rattle.maildrop.specs.Ticket.{Ticket}
 use Rattle.maildrop.specs.declared.command.Command.{Command}
 use Rattle.maildrop.specs.declared.outcome.Outcome.{Outcome}
 use Rattle.maildrop.specs.declared.outcome.Outcome.TheVariants.{NoSuchUser}
+use Rattle.maildrop.specs.declared.usage.Usage.{Usage}
 
 -- a user with a maildrop
 pub record User (A : Type 0) : Type 0 where
@@ -23,10 +26,26 @@ module _ {A : Type 0} where
   abbrev pub new_user : Limits → List ℕ → User A
   new_user limits name = record { name = name; maildrop = empty_maildrop limits }
 
+  -- a user whose maildrop is opened: with what is kept under the name
+  abbrev pub opened_user : Limits → ℕ → KeptTable A → List ℕ → User A
+  opened_user limits keys kept name = record { name = name; maildrop = opened limits keys (kept_for name kept) }
+
+  -- what is kept of users
+  abbrev pub kept_of : List (User A) → KeptTable A
+  kept_of users = map (λ u. (u.name, closed u.maildrop)) users
+
   -- the maildrop of that name, if there is one
   abbrev pub maildrop_of : List ℕ → List (User A) → Option (Maildrop A)
   maildrop_of name [] = None
   maildrop_of name (u ∷ us) = if bytes_eq u.name name then Some u.maildrop else maildrop_of name us
+
+  -- the ticket that holds the lock of that name's maildrop, if one does
+  abbrev pub holder_in : List ℕ → List (User A) → Option Ticket
+  holder_in name users = option_and_then (λ m. m.holder) (maildrop_of name users)
+
+  -- how much the maildrop of that name has, if there is one
+  abbrev pub usage_in : List ℕ → List (User A) → Option Usage
+  usage_in name users = option_map usage_of (maildrop_of name users)
 
   -- the outcome of a command for its user's maildrop, and that maildrop after it
   abbrev pub outcome_at : Option (Maildrop A) → Command A → Outcome A
@@ -72,7 +91,7 @@ module _ {A : Type 0} where
   maildrop_after_all maildrop [] = maildrop
   maildrop_after_all maildrop (c ∷ cs) = maildrop_after_all (maildrop_after maildrop c) cs
 
-  -- the unique ids that one maildrop gives to the messages that commands store, in their order
+  -- the unique ids of the messages that commands store in one maildrop, in their order
   abbrev pub ids_given : Maildrop A → List (Command A) → List ℕ
   ids_given maildrop [] = []
   ids_given maildrop (c ∷ cs) = ids_given_by maildrop c.op ++ ids_given ((effect_of maildrop c.ticket c.op).after) cs

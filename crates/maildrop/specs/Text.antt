@@ -4,7 +4,7 @@ use Rattle.std.specs.List.{All, flat_map, list_any, slice_split}
 use Rattle.std.specs.Str.Lines.{strip_carriage_return}
 use Rattle.memchr.specs.Find.{is_byte}
 
--- no line feed stands in a line
+-- a line has no line feed
 abbrev pub IsLine : List ℕ → Type 0
 IsLine line = All (λ b. b ≢ 10) line
 
@@ -29,7 +29,7 @@ without_last [] = []
 without_last (part ∷ []) = []
 without_last (part ∷ next ∷ more) = part ∷ without_last (next ∷ more)
 
--- what stands before each line feed, without the carriage return directly before it
+-- the bytes before each line feed, without the carriage return directly before it
 unfoldable pub lines_of : List ℕ → List (List ℕ)
 lines_of block = map strip_carriage_return (without_last (slice_split (is_byte 10) block))
 

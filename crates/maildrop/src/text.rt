@@ -11,7 +11,7 @@ use std::alloc::{Allocator, Global};
 use std::marker::Model;
 use std::sync::Arc;
 
-/// The text of a message: a list of lines, none of which has a line feed. All lines stand in one block of memory, each
+/// The text of a message: a list of lines, none of which has a line feed. All lines are in one block of memory, each
 /// with its CR and LF, and copies share the block.
 #[derive(Drop)]
 pub struct Text<A: Allocator = Global> {
@@ -69,7 +69,7 @@ impl<A: Allocator + Copy> Text<A> {
         &self.block
     }
 
-    /// Whether a line begins with a dot. If none does, the block is what stands on the wire (RFC 1939 section 3).
+    /// Whether a line begins with a dot. If none does, the block is sent as it is (RFC 1939 section 3).
     pub fn has_dots(&self) -> bool
         ensures { result ≡ list_any begins_with_dot self.now }
     {

@@ -26,7 +26,7 @@ fn put_line<A: Allocator>(block: &mut Vec<u8, A>, line: &[u8]) -> Result<(), Mem
     Ok(())
 }
 
-/// Whether no line feed stands in the bytes.
+/// Whether no line feed is in the bytes.
 pub(crate) fn is_line(bytes: &[u8]) -> bool
     ensures { IsTrue result ↔ IsLine bytes.now }
 {
@@ -74,7 +74,7 @@ impl<A: Allocator> TextBuilder<A> {
     }
 
     /// Makes room for lines of so many octets in all, each with its CR and LF, so that they need no memory of their own.
-    /// After `Memory` the text is as it was. Takes no memory where there is that room already.
+    /// After `Memory` the text is as it was. Takes no memory if there is that room already.
     pub fn reserve(&mut self, octets: usize) -> Result<(), Memory>
         ensures lines { self.new.lines ≡ self.old.lines }
         ensures room { OnOk result (octets ≤ self.new.room) }
@@ -103,7 +103,7 @@ impl<A: Allocator> TextBuilder<A> {
 }
 
 impl<A: Allocator + Copy> TextBuilder<A> {
-    /// The text of the lines that were added. Gives back what memory they don't need.
+    /// The text of the lines that were added. Frees the memory that they don't need.
     pub fn finish(self) -> Result<Text<A>, Memory>
         ensures { IfOk result (λ text. text ≡ self.lines) }
     {
