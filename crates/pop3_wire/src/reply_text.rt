@@ -1,5 +1,5 @@
 //! The bytes of replies, one function for each occasion that tells something.
-ghost use Rattle.std.specs.Prelude.{◌≡◌, ◌≤◌, ◌++◌, false, length, codes, IfOk, OnOk};
+ghost use Rattle.std.specs.Prelude.{◌≡◌, ◌≤◌, ◌++◌, false, length, codes, decimal, IfOk, OnOk};
 ghost use Rattle.std.specs.List.{flat_map};
 ghost use Rattle.pop3_wire.specs.Limits.{longest_reply_line};
 ghost use Rattle.pop3_wire.specs.Reply as spec;
@@ -145,6 +145,24 @@ pub(crate) fn unique_id_listings<A: Allocator>(
     Ok(text)
 }
 
+/// Adds the first line of the reply to RETR.
+fn put_message_line<A: Allocator>(text: &mut Vec<u8, A>, octets: u64) -> Result<(), Memory>
+    ensures { OnOk result (text.new.items ≡ text.old.items ++ (codes "+OK " ++ decimal octets ++ codes " octets\r\n")) }
+{
+    put(text, b"+OK ")?;
+    put_number(text, octets)?;
+    put(text, b" octets\r\n")
+}
+
+/// The first line of the reply to RETR, for a text of so many octets.
+pub fn message_line<A: Allocator>(alloc: A, octets: u64) -> Result<Vec<u8, A>, Memory>
+    ensures { IfOk result (λ line. line.items ≡ codes "+OK " ++ decimal octets ++ codes " octets\r\n") }
+{
+    let mut line = with_room(alloc, FIRST_LINE)?;
+    put_message_line(&mut line, octets)?;
+    Ok(line)
+}
+
 pub(crate) fn message_text<A: Allocator + Copy>(
     alloc: A,
     octets: u64,
@@ -155,9 +173,7 @@ pub(crate) fn message_text<A: Allocator + Copy>(
     ensures short { IfOk result (λ reply. spec.HasShortFirstLine reply.items) }
 {
     let mut reply = with_room(alloc, wire_room(text).saturating_add(FIRST_LINE))?;
-    put(&mut reply, b"+OK ")?;
-    put_number(&mut reply, octets)?;
-    put(&mut reply, b" octets\r\n")?;
+    put_message_line(&mut reply, octets)?;
     put_wire(&mut reply, text)?;
     Ok(reply)
 }

@@ -3,6 +3,8 @@ pub mod Settled
 pub mod Parts
 pub mod Runs
 pub mod Streams
+pub mod SentBytes
+pub mod TopLines
 pub mod Answering
 pub mod Pieces
 pub mod Gates

@@ -1,16 +1,17 @@
-//! A session beside its desk, with all that is kept of it.
+//! A session and its desk, with all that is kept of the session.
 ghost use Rattle.std.specs.Prelude.{◌≡◌, ◌≢◌, ◌+◌, ◌<◌, [], ◌∷◌, ◌++◌, true, Some, IfOk, IfErr, OnOk, length, vec_len, vec_capacity};
 ghost use Rattle.session.specs.Dialogue.{place, place_alone, end_of, entry_of, saying_by, IsSettled, IsHeard, Says, IsSilenced, IsAnswered, IsUnanswered, IsKept, IsSpent, Responds, Refuses, IsStop};
 ghost use Rattle.session.specs.Session.{hears, awaits_answer};
 
 use crate::desk::Desk;
 use crate::heard_lines::HeardLines;
+use crate::reply_bytes::ReplyBytes;
 use crate::session::Session;
 use crate::state::{SessionError, State, Step};
 use crate::stop::Stop;
 use crate::transcript::Asked;
 use apop::Accounts;
-use ballot::{Items, Memory};
+use ballot::Memory;
 use maildrop::{Name, Op, Outcome, Ticket};
 use pop3_wire::Line;
 use std::alloc::{Allocator, Global};
@@ -36,8 +37,8 @@ pub(crate) struct Dialogue<A: Allocator = Global> {
 #[derive(Drop)]
 pub(crate) struct Saying<A: Allocator = Global> {
     /// What the session says.
-    pub bytes: Items<u8, A>,
-    /// Whether it is over then.
+    pub bytes: ReplyBytes<A>,
+    /// Whether the session is over after it.
     pub closes: bool,
 }
 
@@ -58,7 +59,7 @@ impl<A: Allocator + Copy> Dialogue<A> {
         })
     }
 
-    /// Hands a line to the session, and what it asks to the desk. Gives what the session says.
+    /// Hands a line to the session, and what it asks to the desk. Returns what the session says.
     pub(crate) fn hear<D: Desk<Op<A>, Outcome<A>>>(
         &mut self,
         accounts: &Accounts<A>,
@@ -157,7 +158,7 @@ impl<A: Allocator + Copy> Dialogue<A> {
         }
     }
 
-    /// Asks the desk, and hands its answer to the session. Gives what the session says.
+    /// Asks the desk, and hands its answer to the session. Returns what the session says.
     fn consult<D: Desk<Op<A>, Outcome<A>>>(
         &mut self,
         desk: &mut D,
@@ -190,7 +191,7 @@ impl<A: Allocator + Copy> Dialogue<A> {
         }
     }
 
-    /// Hands the desk's answer to the session, and keeps it. Gives what the session says.
+    /// Hands the desk's answer to the session, and keeps it. Returns what the session says.
     fn hear_answer(
         &mut self,
         line: u64,

@@ -13,6 +13,7 @@ ghost use Rattle.session.specs.Transcript.{IsHistory};
 use crate::desk::{Desk, Gate};
 use crate::dialogue::Dialogue;
 use crate::heard_lines::HeardLines;
+use crate::sending::send;
 use crate::session::Session;
 use crate::stop::Stop;
 use crate::transcript::{Asked, End, Transcript};
@@ -29,23 +30,7 @@ const PIECE: usize = 4096;
 /// The most reads of a session.
 const MOST_READS: u32 = u32::MAX;
 
-/// Writes as much as the writer takes, and gives how many bytes that is. Less than all means that a write failed, or
-/// took nothing.
-fn send<W: Write>(writer: &mut W, bytes: &[u8]) -> usize
-    ensures range { result ≤ length bytes.now }
-    ensures written { Appends (W.contents writer.old) (W.contents writer.new) (take result bytes.now) }
-{
-    let mut sent = 0;
-    while sent < bytes.len() {
-        match writer.write(&bytes[sent..]) {
-            Ok(0) | Err(_) => return sent,
-            Ok(count) => sent += count,
-        }
-    }
-    sent
-}
-
-/// Feeds the reader the bytes up to the next line end. Gives the line that has ended, if one has, and the bytes behind.
+/// Feeds the reader the bytes up to the next line end. Returns the line that has ended, if one has, and the bytes after it.
 fn next_line<'a>(reader: &mut LineReader, rest: &'a [u8]) -> (Option<Line>, &'a [u8])
     requires ready { waiting reader.old ≡ None }
     requires some { 0 < length rest.now }
@@ -72,8 +57,8 @@ fn exchange<A: Allocator + Copy, W: Write, D: Desk<Op<A>, Outcome<A>>, G: Gate>(
 ) -> Result<(), Stop>
     requires hearing { hears dialogue.old.session.state ≡ true }
     requires entry_room { vec_len dialogue.old.asked < vec_capacity dialogue.old.asked }
-    requires room { dialogue.old.count + 2 ^ 64 ≤ 2 ^ 128 }
-    ensures room { dialogue.new.count < dialogue.old.count + 2 ^ 64 }
+    requires room { dialogue.old.count + 2 ^ 66 ≤ 2 ^ 128 }
+    ensures room { dialogue.new.count < dialogue.old.count + 2 ^ 66 }
     ensures goes_on { OnOk result ((written : List ℕ) × Appends (W.contents writer.old) (W.contents writer.new) written
         × IsRun accounts.now dialogue.old.session.stamp D.gives (place dialogue.old desk.old) (place dialogue.new desk.new) (line.now ∷ []) written) }
     ensures stops { IfErr result (λ stop. (written : List ℕ) × Appends (W.contents writer.old) (W.contents writer.new) written
@@ -83,9 +68,9 @@ fn exchange<A: Allocator + Copy, W: Write, D: Desk<Op<A>, Outcome<A>>, G: Gate>(
 {
     gate.enter();
     let saying = dialogue.hear(accounts, desk, line)?;
-    let sent = send(writer, saying.bytes.get());
-    dialogue.count += sent as u128;
-    if sent < saying.bytes.len() {
+    let sent = saying.bytes.send(writer);
+    dialogue.count += sent.count;
+    if !sent.is_whole {
         return Err(Stop::WriteFault);
     }
     gate.leave();
@@ -109,10 +94,10 @@ fn exchange_all<A: Allocator + Copy, W: Write, D: Desk<Op<A>, Outcome<A>>, G: Ga
     requires entry_room { vec_len dialogue.old.asked < vec_capacity dialogue.old.asked }
     requires ready { waiting lines.old ≡ None }
     requires ended { lines_after lines.old [] ≡ [] }
-    requires room { dialogue.old.count + length piece.now * 2 ^ 64 ≤ 2 ^ 128 }
+    requires room { dialogue.old.count + length piece.now * 2 ^ 66 ≤ 2 ^ 128 }
     ensures ready { OnOk result (waiting lines.new ≡ None) }
     ensures ended { OnOk result (lines_after lines.new [] ≡ []) }
-    ensures room { dialogue.new.count ≤ dialogue.old.count + length piece.now * 2 ^ 64 }
+    ensures room { dialogue.new.count ≤ dialogue.old.count + length piece.now * 2 ^ 66 }
     ensures goes_on { OnOk result (IsPieceFront accounts.now dialogue.old.session.stamp D.gives (place dialogue.old desk.old) (place dialogue.new desk.new)
         lines.old lines.new piece.now [] (W.contents writer.old) (W.contents writer.new)) }
     ensures stops { IfErr result (λ stop. IsPieceStop accounts.now dialogue.old.session.stamp D.gives (place dialogue.old desk.old) (place dialogue.new desk.new)
@@ -133,8 +118,8 @@ fn exchange_all<A: Allocator + Copy, W: Write, D: Desk<Op<A>, Outcome<A>>, G: Ga
     Ok(())
 }
 
-/// Reads the input and serves its lines, in at most 4,294,967,295 reads. Before each of these the writer is flushed. Gives
-/// the end of the session, or none where the writer can't pass on what it took.
+/// Reads the input and serves its lines, in at most 4,294,967,295 reads. Before each of these the writer is flushed. Returns
+/// the end of the session, or none if the writer can't pass on what it took.
 fn listen<A: Allocator + Copy, R: Read, W: Write, D: Desk<Op<A>, Outcome<A>>, G: Gate>(
     accounts: &Accounts<A>,
     dialogue: &mut Dialogue<A>,
@@ -170,7 +155,7 @@ fn listen<A: Allocator + Copy, R: Read, W: Write, D: Desk<Op<A>, Outcome<A>>, G:
     Some(End::ReadFault)
 }
 
-/// Says the greeting, and serves the client's lines. Gives the end of the session, or none where the writer can't pass on
+/// Says the greeting, and serves the client's lines. Returns the end of the session, or none if the writer can't pass on
 /// what it took.
 fn converse<A: Allocator + Copy, R: Read, W: Write, D: Desk<Op<A>, Outcome<A>>, G: Gate>(
     accounts: &Accounts<A>,
@@ -222,14 +207,14 @@ fn hang_up<A: Allocator + Copy, D: Desk<Op<A>, Outcome<A>>>(
     });
 }
 
-/// Has the writer pass on what was said last. Where it can't, a session that had closed, or would have read more, has met
-/// a fault of writing; one that ended for want of memory or by its desk is told as that.
+/// Has the writer pass on what was said last. If it can't, a session that had closed, or would have read more, ends with a
+/// fault of writing. One that had no memory, or whose desk stopped, keeps its end.
 fn pass_on_last<W: Write>(writer: &mut W, ended: Option<End>) -> End
     ensures kept { Keeps (W.contents writer.old) (W.contents writer.new) }
     ensures end { IsEndedAs (end_at ended) result }
 {
     match ended {
-        // Nothing is passed on behind a write that failed.
+        // Nothing is passed on after a write that failed.
         None | Some(End::WriteFault) => End::WriteFault,
         Some(end) => {
             let is_passed_on = writer.flush().is_ok();
@@ -243,9 +228,9 @@ fn pass_on_last<W: Write>(writer: &mut W, ended: Option<End>) -> End
 
 /// Serves a session (RFC 1939) to its end: writes the greeting, hears the lines that are read, has the desk perform
 /// what they ask, and writes each reply before the next line is heard. The writer is flushed before each read and at the
-/// end, so it may send the replies to lines that came together in one piece. Where it can't, the session ends with a fault of
+/// end, so it may send the replies to lines that came together in one piece. If it can't, the session ends with a fault of
 /// writing, unless its client was gone, there was no memory, or its desk had stopped. A lock that the session holds at its end
-/// is given back, unless the desk has stopped. Gives all that went through it.
+/// is given back, unless the desk has stopped. Returns all that went through it.
 pub fn serve<A: Allocator + Copy, R: Read, W: Write, D: Desk<Op<A>, Outcome<A>>, G: Gate>(
     alloc: A,
     reader: &mut R,

@@ -17,7 +17,7 @@ use std::alloc::{Allocator, Global};
 use std::marker::Model;
 use std::mem;
 
-/// A POP3 session of one client (RFC 1939): it hears lines and answers, and gives what is said and what is asked.
+/// A POP3 session of one client (RFC 1939): it hears lines and answers, and returns what is said and what is asked.
 #[derive(Drop)]
 pub struct Session<A: Allocator = Global> {
     stamp: Stamp,
@@ -178,8 +178,8 @@ impl<A: Allocator + Copy> Session<A> {
         }
     }
 
-    /// The client has gone, or can't be served any more: gives the Free of the lock that the session holds. From then
-    /// on the session is closed. Only where an answer is awaited it is `Busy`, and nothing has changed. Takes no memory.
+    /// The client has gone, or can't be served any more. Returns the Free of the lock that the session holds, and closes the
+    /// session. If an answer is awaited, it is `Busy`, and nothing has changed. Takes no memory.
     pub fn hangup(&mut self) -> Result<Option<(Name, Op<A>)>, SessionError>
         ensures free { IfOk result (λ free. free ≡ spec.free_of (spec.lock_due self.old.state)) }
         ensures closed { OnOk result (self.new ≡ record self.old { state = State.Closed }) }
@@ -206,7 +206,7 @@ impl<A: Allocator + Copy> Session<A> {
         }
     }
 
-    /// Closes the session for want of memory. This lock is still to be given back by `hangup`.
+    /// Closes a session that found no memory. This lock is still to be given back by `hangup`.
     pub(crate) fn spend(&mut self, lock: Option<(Name, Ticket)>)
         ensures { self.new ≡ record self.old { state = State.Spent lock } }
     {

@@ -5,6 +5,7 @@ ghost use Rattle.session.specs.OpenMessages.{message_at};
 ghost use Rattle.session.specs.Session as spec;
 
 use crate::opened::Opened;
+use crate::reply_bytes::ReplyBytes;
 use crate::state::{State, Turn};
 use crate::turn::{argument_refusal, ask, say, say_bytes};
 use ballot::Memory;
@@ -18,31 +19,31 @@ fn is_valid(keyword: Keyword) -> bool
     !matches!(keyword, Keyword::User | Keyword::Pass | Keyword::Apop)
 }
 
-fn list_all<A: Allocator + Copy>(alloc: A, opened: &Opened<A>) -> Result<Vec<u8, A>, Memory>
-    ensures { IfOk result (λ text. text.items ≡ spec.scan_listings opened.now) }
+fn list_all<A: Allocator + Copy>(alloc: A, opened: &Opened<A>) -> Result<ReplyBytes<A>, Memory>
+    ensures { IfOk result (λ bytes. bytes ≡ spec.scan_listings opened.now) }
 {
     let listed = opened.listed(alloc)?;
     let reply = Reply::Listing {
         octets: opened.octets(),
         messages: &listed,
     };
-    reply.text(alloc)
+    ReplyBytes::new(alloc, &reply)
 }
 
-fn identify_all<A: Allocator + Copy>(alloc: A, opened: &Opened<A>) -> Result<Vec<u8, A>, Memory>
-    ensures { IfOk result (λ text. text.items ≡ spec.unique_id_listings opened.now) }
+fn identify_all<A: Allocator + Copy>(alloc: A, opened: &Opened<A>) -> Result<ReplyBytes<A>, Memory>
+    ensures { IfOk result (λ bytes. bytes ≡ spec.unique_id_listings opened.now) }
 {
     let identified = opened.identified(alloc)?;
     let reply = Reply::UniqueIds(&identified);
-    reply.text(alloc)
+    ReplyBytes::new(alloc, &reply)
 }
 
 fn list<A: Allocator + Copy>(
     alloc: A,
     opened: &Opened<A>,
     number: u32,
-) -> Result<Vec<u8, A>, Memory>
-    ensures { IfOk result (λ text. text.items ≡ spec.of_message (message_at opened.now number) (spec.scan_listing number)) }
+) -> Result<ReplyBytes<A>, Memory>
+    ensures { IfOk result (λ bytes. bytes ≡ spec.of_message (message_at opened.now number) (spec.scan_listing number)) }
 {
     let reply = match opened.get(number) {
         None => Reply::NoSuchMessage,
@@ -51,15 +52,15 @@ fn list<A: Allocator + Copy>(
             octets: entry.octets,
         }),
     };
-    reply.text(alloc)
+    ReplyBytes::new(alloc, &reply)
 }
 
 fn identify<A: Allocator + Copy>(
     alloc: A,
     opened: &Opened<A>,
     number: u32,
-) -> Result<Vec<u8, A>, Memory>
-    ensures { IfOk result (λ text. text.items ≡ spec.of_message (message_at opened.now number) (spec.unique_id_listing number)) }
+) -> Result<ReplyBytes<A>, Memory>
+    ensures { IfOk result (λ bytes. bytes ≡ spec.of_message (message_at opened.now number) (spec.unique_id_listing number)) }
 {
     let reply = match opened.get(number) {
         None => Reply::NoSuchMessage,
@@ -68,15 +69,15 @@ fn identify<A: Allocator + Copy>(
             uid: entry.message.uid,
         }),
     };
-    reply.text(alloc)
+    ReplyBytes::new(alloc, &reply)
 }
 
 fn retrieve<A: Allocator + Copy>(
     alloc: A,
     opened: &Opened<A>,
     number: u32,
-) -> Result<Vec<u8, A>, Memory>
-    ensures { IfOk result (λ text. text.items ≡ spec.of_message (message_at opened.now number) spec.whole_message) }
+) -> Result<ReplyBytes<A>, Memory>
+    ensures { IfOk result (λ bytes. bytes ≡ spec.of_message (message_at opened.now number) spec.whole_message) }
 {
     let reply = match opened.get(number) {
         None => Reply::NoSuchMessage,
@@ -85,7 +86,7 @@ fn retrieve<A: Allocator + Copy>(
             text: &entry.message.text,
         },
     };
-    reply.text(alloc)
+    ReplyBytes::new(alloc, &reply)
 }
 
 fn top<A: Allocator + Copy>(
@@ -93,8 +94,8 @@ fn top<A: Allocator + Copy>(
     opened: &Opened<A>,
     number: u32,
     lines: u32,
-) -> Result<Vec<u8, A>, Memory>
-    ensures { IfOk result (λ text. text.items ≡ spec.of_message (message_at opened.now number) (spec.top_of_message lines)) }
+) -> Result<ReplyBytes<A>, Memory>
+    ensures { IfOk result (λ bytes. bytes ≡ spec.of_message (message_at opened.now number) (spec.top_of_message lines)) }
 {
     let reply = match opened.get(number) {
         None => Reply::NoSuchMessage,
@@ -103,7 +104,7 @@ fn top<A: Allocator + Copy>(
             lines,
         },
     };
-    reply.text(alloc)
+    ReplyBytes::new(alloc, &reply)
 }
 
 fn delete<A: Allocator + Copy>(
@@ -168,8 +169,8 @@ fn shown<A: Allocator + Copy>(
     alloc: A,
     opened: &Opened<A>,
     verb: &Verb,
-) -> Result<Vec<u8, A>, Memory>
-    ensures { IfOk result (λ text. text.items ≡ spec.shown opened.now verb.now) }
+) -> Result<ReplyBytes<A>, Memory>
+    ensures { IfOk result (λ bytes. bytes ≡ spec.shown opened.now verb.now) }
 {
     match verb {
         Verb::Stat => {
@@ -177,7 +178,7 @@ fn shown<A: Allocator + Copy>(
                 messages: opened.messages(),
                 octets: opened.octets(),
             };
-            reply.text(alloc)
+            ReplyBytes::new(alloc, &reply)
         }
         Verb::List(None) => list_all(alloc, opened),
         Verb::List(Some(number)) => list(alloc, opened, *number),
@@ -185,14 +186,14 @@ fn shown<A: Allocator + Copy>(
         Verb::Uidl(Some(number)) => identify(alloc, opened, *number),
         Verb::Retr(number) => retrieve(alloc, opened, *number),
         Verb::Top { number, lines } => top(alloc, opened, *number, *lines),
-        Verb::Noop => Reply::Noop.text(alloc),
-        Verb::Capa => Reply::Capabilities.text(alloc),
+        Verb::Noop => ReplyBytes::new(alloc, &Reply::Noop),
+        Verb::Capa => ReplyBytes::new(alloc, &Reply::Capabilities),
         Verb::User(_)
         | Verb::Pass(_)
         | Verb::Apop { .. }
         | Verb::Dele(_)
         | Verb::Rset
-        | Verb::Quit => Reply::WrongState.text(alloc),
+        | Verb::Quit => ReplyBytes::new(alloc, &Reply::WrongState),
     }
 }
 
@@ -211,8 +212,8 @@ fn by_verb<A: Allocator + Copy>(
         Verb::Rset => reset(alloc, user, lock, opened),
         Verb::Quit => quit(alloc, user, lock, &opened),
         _ => {
-            let text = shown(alloc, &opened, verb)?;
-            Ok(say_bytes(text, State::Transaction { user, lock, opened }))
+            let bytes = shown(alloc, &opened, verb)?;
+            Ok(say_bytes(bytes, State::Transaction { user, lock, opened }))
         }
     }
 }

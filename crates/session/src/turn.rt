@@ -3,8 +3,9 @@ ghost use Rattle.std.specs.Prelude.{◌≡◌, IfOk};
 ghost use Rattle.pop3_wire.specs.Reply.{reply_text};
 ghost use Rattle.session.specs.Session as spec;
 
+use crate::reply_bytes::ReplyBytes;
 use crate::state::{State, Step, Turn};
-use ballot::{Items, Memory};
+use ballot::Memory;
 use maildrop::{Name, Op};
 use pop3_wire::Reply;
 use std::alloc::Allocator;
@@ -16,15 +17,15 @@ pub(crate) fn say<A: Allocator + Copy>(
 ) -> Result<Turn<A>, Memory>
     ensures { IfOk result (λ turn. turn ≡ spec.say (reply_text reply.now) state) }
 {
-    let text = reply.text(alloc)?;
-    Ok(say_bytes(text, state))
+    let bytes = ReplyBytes::new(alloc, reply)?;
+    Ok(say_bytes(bytes, state))
 }
 
-pub(crate) fn say_bytes<A: Allocator + Copy>(text: Vec<u8, A>, state: State<A>) -> Turn<A>
-    ensures { result ≡ spec.say text.items state }
+pub(crate) fn say_bytes<A: Allocator + Copy>(bytes: ReplyBytes<A>, state: State<A>) -> Turn<A>
+    ensures { result ≡ spec.say bytes state }
 {
     Turn {
-        step: Step::Say(Items::from_vec(text)),
+        step: Step::Say(bytes),
         state,
     }
 }
@@ -35,9 +36,9 @@ pub(crate) fn say_and_close<A: Allocator + Copy>(
 ) -> Result<Turn<A>, Memory>
     ensures { IfOk result (λ turn. turn ≡ spec.say_and_close (reply_text reply.now)) }
 {
-    let text = reply.text(alloc)?;
+    let bytes = ReplyBytes::new(alloc, reply)?;
     Ok(Turn {
-        step: Step::SayAndClose(Items::from_vec(text)),
+        step: Step::SayAndClose(bytes),
         state: State::Closed,
     })
 }

@@ -69,8 +69,8 @@ impl<A: Allocator + Copy> Connection<A> {
         ensures fit { IsFit self.new }
     {
         match step {
-            Step::Say(bytes) => self.tell(bytes, Standing::Hears),
-            Step::SayAndClose(bytes) => self.tell(bytes, Standing::Over),
+            Step::Say(bytes) => self.tell(&bytes, Standing::Hears),
+            Step::SayAndClose(bytes) => self.tell(&bytes, Standing::Over),
             Step::Ask(..) => unreachable!(),
         }
     }

@@ -14,7 +14,7 @@ use apop::Stamp;
 use ballot::{Items, Memory, NodeId};
 use maildrop::{CommandId, Name, Op, Ticket};
 use pop3_wire::Line;
-use session::Session;
+use session::{ReplyBytes, Session};
 use std::alloc::{Allocator, Global};
 
 /// A line that a client sent, with the ticket of the operation that it asked for, if it asked for one.
@@ -109,15 +109,15 @@ impl<A: Allocator + Copy> Connection<A> {
     }
 
     /// The client is told something, and the session stands so from then on. After `Memory` the session is lost.
-    pub(crate) fn tell(&mut self, bytes: Items<u8, A>, standing: Standing) -> Result<(), Memory>
+    pub(crate) fn tell(&mut self, bytes: &ReplyBytes<A>, standing: Standing) -> Result<(), Memory>
         requires { awaits_answer self.old.session.state ≡ false }
-        ensures told { OnOk result (client_in self.new ≡ told (client_in self.old) bytes (standing_in standing self.old.session.state)) }
+        ensures told { OnOk result (client_in self.new ≡ told (client_in self.old) bytes.now (standing_in standing self.old.session.state)) }
         ensures stands { OnOk result ((self.new.standing ≡ standing) × (self.new.session.state ≡ self.old.session.state)) }
         ensures heard { self.new.heard ≡ self.old.heard }
         ensures lost { OnErr result (client_in self.new ≡ standing_as (client_in self.old) (Shut (lock_due self.old.session.state))) }
         ensures fit { OnErr result (IsFit self.new) }
     {
-        if self.replies.append(bytes).is_err() {
+        if bytes.append_to(&mut self.replies).is_err() {
             self.lose();
             return Err(Memory);
         }

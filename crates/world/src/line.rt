@@ -15,10 +15,10 @@ ghost use Rattle.world.specs.declared.connection.Standing.TheVariants.{Hears};
 use crate::connection::{Connection, Heard, Standing};
 use crate::hosts::Hosts;
 use apop::Accounts;
-use ballot::{Items, Memory};
+use ballot::Memory;
 use maildrop::{CommandId, Name, Op};
 use pop3_wire::Line;
-use session::Step;
+use session::{ReplyBytes, Step};
 use std::alloc::Allocator;
 
 impl<A: Allocator + Copy> Connection<A> {
@@ -107,17 +107,17 @@ impl<A: Allocator + Copy> Connection<A> {
         ensures answers { (n : ℕ) (id : CommandId) → HasAnswerAt n id hosts.old → HasAnswerAt n id hosts.new }
     {
         match step {
-            Step::Say(bytes) => self.reply(line, bytes, Standing::Hears),
-            Step::SayAndClose(bytes) => self.reply(line, bytes, Standing::Over),
+            Step::Say(bytes) => self.reply(line, &bytes, Standing::Hears),
+            Step::SayAndClose(bytes) => self.reply(line, &bytes, Standing::Over),
             Step::Ask(user, op) => self.ask(hosts, line, user, op),
         }
     }
 
     /// Answers a line. After `Memory` the session is lost.
-    fn reply(&mut self, line: Line, bytes: Items<u8, A>, standing: Standing) -> Result<(), Memory>
+    fn reply(&mut self, line: Line, bytes: &ReplyBytes<A>, standing: Standing) -> Result<(), Memory>
         requires settled { awaits_answer self.old.session.state ≡ false }
         requires room { vec_len self.old.heard < vec_capacity self.old.heard }
-        ensures told { OnOk result (client_in self.new ≡ told (with_line (client_in self.old) line) bytes (standing_in standing self.old.session.state)) }
+        ensures told { OnOk result (client_in self.new ≡ told (with_line (client_in self.old) line) bytes.now (standing_in standing self.old.session.state)) }
         ensures stands { OnOk result ((self.new.standing ≡ standing) × (self.new.session.state ≡ self.old.session.state)) }
         ensures lost { OnErr result (client_in self.new ≡ standing_as (client_in self.old) (Shut (lock_due self.old.session.state))) }
         ensures fit { OnErr result (IsFit self.new) }
