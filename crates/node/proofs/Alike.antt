@@ -1,18 +1,18 @@
 -- A node whose answers were taken, beside one that keeps them, takes the same steps and sends the same.
-use Rattle.std.proofs.Common.{◌≡◌, refl, ap, ◌∙◌, ℕ, List, [], ◌∷◌, ◌++◌, map, Bool, true, false, if◌then◌else◌, ◌==◌}
+use Rattle.std.proofs.Common.{◌≡◌, refl, ap, ◌∙◌, ℕ, List, [], ◌∷◌, ◌++◌, Bool, true, false, if◌then◌else◌, ◌==◌}
 use Rattle.std.specs.List.{list_any}
 use Rattle.ballot.specs.declared.message.Message.{Message}
 use Rattle.ballot.specs.declared.message.Message.TheVariants.{Propose, P1a, P1b, P2a, P2b, Decision, Ask}
 use Rattle.acceptor.specs.Acceptors.{AcceptorState, after_p1a, after_p2a, promise_for, vote_for}
 use Rattle.leader.specs.Leaders.{LeaderState, proposed, hears_promise, hears_vote, campaigned, ticked}
 use Rattle.maildrop.specs.Same.{same_command}
-use Rattle.maildrop.specs.Office.{User, new_user}
+use Rattle.maildrop.specs.Office.{User}
 use Rattle.maildrop.specs.declared.command.Command.{Command}
 use Rattle.replica.specs.Replicas.{ReplicaState, at_slot}
 use Rattle.replica.specs.Replicas as replica
 use Rattle.replica.proofs.ButAwaited.{requested_alike, decided_alike}
 use Rattle.replica.proofs.Left.{requested_left, decided_left}
-use Rattle.node.specs.Replay.{NodeState, MailReplica, Move, mail_rules, stays, submits, hears, told, ticks, campaigns, command_for, acts, is_crash, takes}
+use Rattle.node.specs.Replay.{NodeState, MailReplica, Move, mail_rules, first_users, stays, submits, hears, told, ticks, campaigns, command_for, acts, is_crash, takes}
 use Rattle.node.specs.Nodes.{IsButTaken}
 use Rattle.node.specs.declared.input.Input.{Input}
 use Rattle.node.specs.declared.input.Input.TheVariants.{Submit, Arrive, Tick, Campaign, Crash}
@@ -25,7 +25,7 @@ module _ {A : Type 0} where
     pub sends : here.sends ≡ there.sends
 
   abbrev pub first : Opening A → List (User A)
-  first o = map (new_user o.limits) o.names
+  first o = first_users o
 
   pick : (o : Opening A) (t : Bool) (m n m' n' : Move A) → AreAlike o m n → AreAlike o m' n' → AreAlike o (if t then m else m') (if t then n else n')
   pick o true m n m' n' p q = p

@@ -117,6 +117,13 @@ module _ {A : Type 0} where
       let current = current_of log roles given stopped known h in
       (rw current.works at says) ∙ waits_as log roles given current
 
+  -- the maildrops of a node that is known are those that its log leads to
+  pub office_known : (log : NodeLog A) (roles : Option (NodeState A)) (given : List (List ℕ × ℕ)) (stopped : Option Stopped) (users : List (User A)) → IsKept log roles given stopped → IfSome roles (λ (n : NodeState A). users ≡ n.replica.machine)
+      → IsKnown stopped → users ≡ (replayed log).replica.machine
+  office_known log roles given stopped users h says known =
+      let current = current_of log roles given stopped known h in
+      (rw current.works at says) ∙ ap (λ (r : MailReplica A). r.machine) current.replay.replica.same
+
   -- what a type keeps after an input
   pub kept_after : (log : NodeLog A) (i : Input A) (roles roles' : Option (NodeState A)) (given given' : List (List ℕ × ℕ)) → IsKept log roles given None
       → ((n : NodeState A) → roles ≡ Some n → roles' ≡ Some (takes log.opening.me log.inputs n i).node)

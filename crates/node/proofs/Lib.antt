@@ -15,3 +15,4 @@ pub mod Lasting
 pub mod Fronts
 pub mod Awaiting
 pub mod News
+pub mod Showing

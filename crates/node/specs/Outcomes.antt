@@ -2,18 +2,18 @@
 use Rattle.std.specs.Prelude.{◌≡◌, ℕ, List, ◌∷◌, ◌++◌, map, false, Option}
 use Rattle.maildrop.specs.CommandId.{CommandId}
 use Rattle.maildrop.specs.Maildrop.{Maildrop}
-use Rattle.maildrop.specs.Office.{new_user, maildrop_of, maildrop_after_all, outcome_at, commands_of}
+use Rattle.maildrop.specs.Office.{maildrop_of, maildrop_after_all, outcome_at, commands_of}
 use Rattle.maildrop.specs.Same.{identity_of}
 use Rattle.maildrop.specs.declared.command.Command.{Command}
 use Rattle.maildrop.specs.declared.outcome.Outcome.{Outcome}
 use Rattle.replica.specs.Replicas.{has_identity}
-use Rattle.node.specs.Replay.{mail_rules}
+use Rattle.node.specs.Replay.{mail_rules, first_users}
 use Rattle.node.specs.declared.log.Opening.{Opening}
 
 module _ {A : Type 0} where
   -- the user's maildrop as it begins, if the user has one
   abbrev pub first_maildrop : Opening A → List ℕ → Option (Maildrop A)
-  first_maildrop opening name = maildrop_of name (map (new_user opening.limits) opening.names)
+  first_maildrop opening name = maildrop_of name (first_users opening)
 
   -- of commands with their slots those for the user
   abbrev pub own_of : List ℕ → List (ℕ × Command A) → List (Command A)

@@ -14,7 +14,7 @@ use Rattle.replica.specs.Replicas as replica
 use Rattle.maildrop.specs.Ticket.{Ticket}
 use Rattle.maildrop.specs.CommandId.{CommandId, compare_ids}
 use Rattle.maildrop.specs.Same.{identity_of, same_command}
-use Rattle.maildrop.specs.Office.{User, new_user, outcome_in, users_after}
+use Rattle.maildrop.specs.Office.{User, opened_user, outcome_in, users_after}
 use Rattle.maildrop.specs.declared.command.Command.{Command}
 use Rattle.maildrop.specs.declared.op.Op.{Op}
 use Rattle.maildrop.specs.declared.outcome.Outcome.{Outcome}
@@ -44,11 +44,15 @@ module _ {A : Type 0} where
   abbrev pub mail_rules : Rules (Command A) CommandId (Outcome A) (List (User A))
   mail_rules = rules_of identity_of compare_ids outcome_in users_after
 
+  -- the users with their maildrops, as a node begins: each opens with what is kept under the name
+  abbrev pub first_users : Opening A → List (User A)
+  first_users o = map (opened_user o.limits o.keys o.kept) o.names
+
   abbrev pub new_node : Opening A → NodeState A
   new_node o = record {
     acceptor = new_acceptor;
     leader = new_leader o.me o.cluster;
-    replica = new_replica o.me o.cluster o.window (map (new_user o.limits) o.names);
+    replica = new_replica o.me o.cluster o.window (first_users o);
   }
 
   abbrev pub stays : NodeState A → Move A

@@ -15,8 +15,8 @@ mod tickets;
 pub use input::{Input, SharedOp};
 pub use laws::{
     answers_are_of_submits, answers_are_outcomes, answers_come_when_performed, answers_stay,
-    crashes_are_for_good, nodes_perform_the_front, performed_commands_are_answered, tickets_last,
-    tickets_name_one_submit,
+    crashes_are_for_good, logs_leave_lone_maildrops, nodes_perform_the_front,
+    performed_commands_are_answered, tickets_last, tickets_name_one_submit,
 };
 pub use log::{NodeLog, Opening};
 pub use node::{Node, WIDEST_WINDOW};

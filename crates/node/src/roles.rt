@@ -41,7 +41,13 @@ impl<A: Allocator + Copy> Roles<A> {
         requires { IsTrue (are_different opening.now.names) }
         ensures { IfOk result (λ roles. roles ≡ Some (new_node opening.now)) }
     {
-        let office = Office::new(alloc, opening.names.get(), opening.limits)?;
+        let office = Office::open(
+            alloc,
+            opening.names.get(),
+            opening.kept.get(),
+            opening.limits,
+            opening.keys,
+        )?;
         Ok(Roles {
             acceptor: Acceptor::new(alloc),
             leader: Leader::new(alloc, opening.me, opening.cluster),
@@ -116,7 +122,7 @@ impl<A: Allocator + Copy> Roles<A> {
         Ok(sends)
     }
 
-    /// The decision of the slot goes to the node that asked for it, where it is known.
+    /// The decision of the slot goes to the node that asked for it, if it is known.
     fn tell(&self, to: NodeId, slot: Slot) -> Result<Sends<SharedCommand<A>, A>, Memory>
         ensures { (n : NodeState A) → self.now ≡ Some n → IfOk result (λ sends. sends ≡ told to slot (at_slot slot n.replica.decisions)) }
     {
@@ -164,6 +170,20 @@ impl<A: Allocator + Copy> Roles<A> {
         ensures { IfSome self.now (λ n. result.now ≡ n.replica.performed) }
     {
         self.replica.performed()
+    }
+
+    /// The maildrops of all users.
+    pub(crate) fn office(&self) -> &Office<A>
+        ensures { IfSome self.now (λ n. result.now ≡ n.replica.machine) }
+    {
+        self.replica.machine()
+    }
+
+    /// The maildrops of all users, without the roles.
+    pub(crate) fn into_office(self) -> Office<A>
+        ensures { IfSome self (λ n. result ≡ n.replica.machine) }
+    {
+        self.replica.into_machine()
     }
 
     /// The first slot that isn't decided.

@@ -24,7 +24,7 @@ struct Acted<A: Allocator = Global> {
     ticket: Option<Ticket>,
 }
 
-/// Gives a command for the user its ticket, and has it requested.
+/// Makes a command for the user with its ticket, and has it requested.
 fn submit<A: Allocator + Copy>(
     alloc: A,
     log: &NodeLog<A>,

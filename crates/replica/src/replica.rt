@@ -123,6 +123,21 @@ impl<M: Machine, A: Allocator + Copy> Replica<M, A> {
         self.state.performed.get()
     }
 
+    /// The machine, which has performed these commands. Unknown once the replica is spent.
+    pub fn machine(&self) -> &M
+        ensures { IfSome self.now (λ r. result.now ≡ r.machine) }
+    {
+        &self.state.machine
+    }
+
+    /// The machine, which has performed these commands, without the replica. Unknown once the replica is spent. Takes no
+    /// memory.
+    pub fn into_machine(self) -> M
+        ensures { IfSome self (λ r. result ≡ r.machine) }
+    {
+        self.state.machine
+    }
+
     /// The first slot that isn't decided, 1 to 2^63: all below it are performed.
     pub fn slot_out(&self) -> u64
         ensures value { IfSome self.now (λ r. result ≡ r.slot_out) }
