@@ -15,13 +15,13 @@ const REQUESTS: &str = "Requests:
   break NODE USER               Takes the user's lock from the session that has it
   kick USER                     Cuts the user's sessions, and reports how many these were
   crash NODE                    Stops a node, for good
-  status                        Tells how the nodes stand
+  status                        Reports the state of each node
   sessions                      Lists the sessions that are open
   stats                         Reports what the service has done so far
   stop                          Ends the service, once its sessions have ended
   stop now                      Ends the service, and cuts its sessions
-Behind the first word of a request nothing is an option.
-The status is 0 after an answer, 3 where that is `bad request`, `bad mbox` or `down`, 2 for words that are no request, else 1.
+After the first word of a request nothing is an option.
+The status is 0 after an answer, 3 if that is `bad request`, `bad mbox` or `down`, 2 for words that are no request, else 1.
 After `put` it is 0 if the message is stored, 67 if there is no such user, 65 if it is too large, 64 for words that are no request, and 75 if it may be sent again later.
 After `--wait stop` it is 0 if the verdict is `audit ok`, else 1.
 Examples:

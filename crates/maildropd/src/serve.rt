@@ -17,10 +17,13 @@ use std::thread::Threads;
 use std::time::Clock;
 
 /// What `--help` shows below the options.
-const EXAMPLE: &str = "Example, with a line `alice pass secret` in the file accounts:
+const EXAMPLES: &str = "Examples, with a line `alice pass secret` in the file accounts:
   maildropd serve --accounts accounts --port 11000 --ctl-port 11999
-POP3 connections are taken at 127.0.0.1:11000, and served at the node that leads.
-`maildropd ctl --port 11999 stop` ends it. Then it tells what an audit finds: `audit ok` with the status 0, or what is wrong with the status 1.
+  maildropd serve --accounts accounts --pop-port 11000 --ctl-socket /run/maildropd/ctl --log -
+  maildropd serve --accounts accounts --port 110 --listen 192.0.2.1 --ctl-port 11999 --log /var/log/maildropd
+  maildropd serve --accounts accounts --port 11000 --ctl-port 11999 --idle-seconds 1800 --no-majority-seconds 0 --delivery-bytes 268435456
+After the first, POP3 connections are taken at 127.0.0.1:11000, and served at the node that leads.
+`maildropd ctl --port 11999 stop` ends it. Then it prints what an audit finds: `audit ok` with the status 0, or what is wrong with the status 1.
 All mail lies in memory, and is gone when the process ends.";
 
 /// The options of `serve`: where the service is, its nodes, and the limits of each maildrop.
@@ -150,7 +153,7 @@ const OPTIONS: &[Choice] = &[
 pub(crate) fn serve<'a>(alloc: Global) -> Result<Command<'a>, Error> {
     let serve = Command::new(alloc, "serve")
         .about("Serves POP3 over maildrops that one to nine nodes in this process agree on")
-        .after_help(EXAMPLE);
+        .after_help(EXAMPLES);
     with_options(alloc, serve, OPTIONS)
 }
 
