@@ -12,18 +12,18 @@ use Rattle.std.proofs.lemmas.Map.Keys.{IsStrictlyIncreasing-from_sorted}
 use Rattle.ballot.specs.declared.pvalue.PValue.{PValue}
 use Rattle.acceptor.specs.declared.acceptor.Accepted.{Accepted}
 use Rattle.ballot.specs.Ballots.{same_ballot}
-use Rattle.acceptor.specs.Acceptors.{kept_for, placed, kept, RiseBySlot}
+use Rattle.acceptor.specs.Acceptors.{accepted_for, placed, with_accepted, RiseBySlot}
 use Rattle.acceptor.specs.Fields.{pvalue_at, pvalues_of}
 
 module _ {C : Type 0} where
   -- what the map finds for a slot is what is kept for it
-  pub kept_for-entries : (s : ℕ) (es : List (ℕ × Accepted C)) → kept_for s (pvalues_of es) ≡ option_map (λ v. pvalue_at (s, v)) (lookup (is_at (nat_cmp s)) es)
-  kept_for-entries s [] = refl
-  kept_for-entries s (e ∷ es) =
-      go (nat_cmp s e.0) (ranked s e.0 (nat_cmp s e.0) refl) (kept_for-entries s es)
+  pub accepted_for-entries : (s : ℕ) (es : List (ℕ × Accepted C)) → accepted_for s (pvalues_of es) ≡ option_map (λ v. pvalue_at (s, v)) (lookup (is_at (nat_cmp s)) es)
+  accepted_for-entries s [] = refl
+  accepted_for-entries s (e ∷ es) =
+      go (nat_cmp s e.0) (ranked s e.0 (nat_cmp s e.0) refl) (accepted_for-entries s es)
     where
-      go : (o : Ordering) → MatchOrdering o (s < e.0) (s ≡ e.0) (e.0 < s) → kept_for s (pvalues_of es) ≡ option_map (λ v. pvalue_at (s, v)) (lookup (is_at (nat_cmp s)) es) →
-          cond (eqb e.0 s) (Some (pvalue_at e)) (kept_for s (pvalues_of es)) ≡ option_map (λ v. pvalue_at (s, v)) (cond (is_eq o) (Some e.1) (lookup (is_at (nat_cmp s)) es))
+      go : (o : Ordering) → MatchOrdering o (s < e.0) (s ≡ e.0) (e.0 < s) → accepted_for s (pvalues_of es) ≡ option_map (λ v. pvalue_at (s, v)) (lookup (is_at (nat_cmp s)) es) →
+          cond (eqb e.0 s) (Some (pvalue_at e)) (accepted_for s (pvalues_of es)) ≡ option_map (λ v. pvalue_at (s, v)) (cond (is_eq o) (Some e.1) (lookup (is_at (nat_cmp s)) es))
       go Less l h = let ne : e.0 ≡ s → ⊥ = omega arith in rw (ne_eqb e.0 s ne) h
       go Equal l h = rw (eq-eqb e.0 s (sym l)) (ap (λ k. Some (pvalue_at (k, e.1))) (sym l))
       go Greater l h = let ne : e.0 ≡ s → ⊥ = omega arith in rw (ne_eqb e.0 s ne) h
@@ -54,20 +54,20 @@ module _ {C : Type 0} where
 
   -- a pvalue of the kept one's ballot changes nothing
   pub kept_stays : (es : List (ℕ × Accepted C)) (p : PValue C) (v : Accepted C) → Some v ≡ lookup (is_at (nat_cmp p.slot)) es → same_ballot v.ballot p.ballot ≡ true →
-      pvalues_of es ≡ kept (pvalues_of es) p
-  kept_stays es p v found same = rw (kept_for-entries p.slot es, ← found, same) refl
+      pvalues_of es ≡ with_accepted (pvalues_of es) p
+  kept_stays es p v found same = rw (accepted_for-entries p.slot es, ← found, same) refl
 
   -- one of another ballot, or of a slot without one, is put in
   pub kept_over : (es : List (ℕ × Accepted C)) (p : PValue C) (v : Accepted C) → Some v ≡ lookup (is_at (nat_cmp p.slot)) es → same_ballot v.ballot p.ballot ≡ false →
-      pvalues_of (insert_entry nat_cmp es p.slot (record { ballot = p.ballot; command = p.command })) ≡ kept (pvalues_of es) p
+      pvalues_of (insert_entry nat_cmp es p.slot (record { ballot = p.ballot; command = p.command })) ≡ with_accepted (pvalues_of es) p
   kept_over es p v found other =
-      rw (kept_for-entries p.slot es, ← found, other) (placed-entries p.slot (record { ballot = p.ballot; command = p.command }) es)
+      rw (accepted_for-entries p.slot es, ← found, other) (placed-entries p.slot (record { ballot = p.ballot; command = p.command }) es)
 
   pub kept_first : (es : List (ℕ × Accepted C)) (p : PValue C) → None ≡ lookup (is_at (nat_cmp p.slot)) es →
-      pvalues_of (insert_entry nat_cmp es p.slot (record { ballot = p.ballot; command = p.command })) ≡ kept (pvalues_of es) p
+      pvalues_of (insert_entry nat_cmp es p.slot (record { ballot = p.ballot; command = p.command })) ≡ with_accepted (pvalues_of es) p
   kept_first es p none =
-      rw (kept_for-entries p.slot es, ← none) (placed-entries p.slot (record { ballot = p.ballot; command = p.command }) es)
+      rw (accepted_for-entries p.slot es, ← none) (placed-entries p.slot (record { ballot = p.ballot; command = p.command }) es)
 
   -- where the map has nothing, nothing is kept
-  pub kept_for_none : (es : List (ℕ × Accepted C)) (s : ℕ) → lookup (is_at (nat_cmp s)) es ≡ None → is_some (kept_for s (pvalues_of es)) ≡ false
-  kept_for_none es s none = rw (kept_for-entries s es, none) refl
+  pub accepted_for_none : (es : List (ℕ × Accepted C)) (s : ℕ) → lookup (is_at (nat_cmp s)) es ≡ None → is_some (accepted_for s (pvalues_of es)) ≡ false
+  accepted_for_none es s none = rw (accepted_for-entries s es, none) refl

@@ -3,9 +3,9 @@ use Rattle.std.proofs.Common.{◌⊎◌, List, [], ◌∷◌, Bool, true, false,
 use Rattle.ballot.specs.Ballots.{BallotNumber, same_ballot}
 use Rattle.ballot.specs.Lists.{IsIn}
 use Rattle.ballot.specs.declared.pvalue.PValue.{PValue}
-use Rattle.acceptor.specs.Acceptors.{AcceptorState, RiseBySlot, takes, kept_for, kept_beside, placed, kept, Holds, HasReached, after_p2a, new_acceptor}
+use Rattle.acceptor.specs.Acceptors.{AcceptorState, RiseBySlot, accepts, accepted_for, placed, with_accepted, Holds, HasReached, after_p2a, new_acceptor}
 use Rattle.acceptor.specs.Calls.{Call, P1a, P2a, called, all_called, Accepts, WasAccepted}
-use Rattle.acceptor.proofs.Kept.{reached_new, reached_p1a, reached_p2a, held_stays, taken_held, accepted_cases}
+use Rattle.acceptor.proofs.Kept.{accepted_beside, reached_new, reached_p1a, reached_p2a, held_stays, taken_held, accepted_cases}
 use Rattle.acceptor.proofs.Rises.{rising_none, rising_placed}
 
 module _ {C : Type 0} where
@@ -26,24 +26,24 @@ module _ {C : Type 0} where
   accepts_held a (P1a b) p h = absurd h
   accepts_held a (P2a q) p h = subst (λ (y : PValue C). Holds (after_p2a a q).accepted y.slot y.ballot) h.0 (taken_held a q h.1)
 
-  rising_kept : (ps : List (PValue C)) (p : PValue C) → RiseBySlot ps → RiseBySlot (kept ps p)
+  rising_kept : (ps : List (PValue C)) (p : PValue C) → RiseBySlot ps → RiseBySlot (with_accepted ps p)
   rising_kept ps p h =
-      go (kept_for p.slot ps)
+      go (accepted_for p.slot ps)
     where
       one : (t : Bool) → RiseBySlot (cond t ps (placed p ps))
       one true = h
       one false = rising_placed p ps h
 
-      go : (o : Option (PValue C)) → RiseBySlot (kept_beside o p ps)
+      go : (o : Option (PValue C)) → RiseBySlot (accepted_beside o p ps)
       go None = rising_placed p ps h
       go (Some q) = one (same_ballot q.ballot p.ballot)
 
   called_rises : (a : AcceptorState C) (call : Call C) → RiseBySlot a.accepted → RiseBySlot (called a call).accepted
   called_rises a (P1a b) h = h
   called_rises a (P2a p) h =
-      go (takes a.ballot p.ballot)
+      go (accepts a.ballot p.ballot)
     where
-      go : (t : Bool) → RiseBySlot (cond t (kept a.accepted p) a.accepted)
+      go : (t : Bool) → RiseBySlot (cond t (with_accepted a.accepted p) a.accepted)
       go true = rising_kept a.accepted p h
       go false = h
 

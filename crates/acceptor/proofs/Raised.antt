@@ -4,7 +4,7 @@ use mathlib.Core.Bool.{not}
 use Rattle.std.proofs.lemmas.Bool.{true≢false}
 use Rattle.ballot.specs.Ballots.{BallotNumber, AtMost, below}
 use Rattle.ballot.proofs.Order.{below-true, below-false, below_to_most, below_most, most_below, most_refl, not_below_itself, below_not_most, three}
-use Rattle.acceptor.specs.Acceptors.{Reached, raised, takes}
+use Rattle.acceptor.specs.Acceptors.{Reached, raised, accepts}
 
 -- the answer is at least what was asked, and at least what was reached
 pub raised_above : (o : Option BallotNumber) (b : BallotNumber) → AtMost b (raised o b)
@@ -26,7 +26,7 @@ raised_keeps (Some a) b c h =
     go false e = rw e h
 
 -- a ballot is taken exactly where the answer is that ballot
-pub taken_raises : (o : Option BallotNumber) (b : BallotNumber) → takes o b ≡ true → raised o b ≡ b
+pub taken_raises : (o : Option BallotNumber) (b : BallotNumber) → accepts o b ≡ true → raised o b ≡ b
 taken_raises None b e = refl
 taken_raises (Some a) b e =
     go (below a b) (below b a) refl refl e
@@ -37,7 +37,7 @@ taken_raises (Some a) b e =
     go false false p q e =
         rw p (⊎_elim (λ e. e) (λ o. absurd (⊎_elim (λ l. below_not_most a b l (below-false a b p)) (λ l. below_not_most b a l (below-false b a q)) o)) (three a b))
 
-pub raised_takes : (o : Option BallotNumber) (b : BallotNumber) → raised o b ≡ b → takes o b ≡ true
+pub raised_takes : (o : Option BallotNumber) (b : BallotNumber) → raised o b ≡ b → accepts o b ≡ true
 raised_takes None b e = refl
 raised_takes (Some a) b e =
     go (below b a) refl
@@ -50,5 +50,5 @@ raised_takes (Some a) b e =
         above = raised_keeps (Some a) b a (most_refl a)
 
 -- a ballot that is taken is at least any that was reached
-pub taken_reaches : (o : Option BallotNumber) (b c : BallotNumber) → takes o b ≡ true → Reached o c → AtMost c b
+pub taken_reaches : (o : Option BallotNumber) (b c : BallotNumber) → accepts o b ≡ true → Reached o c → AtMost c b
 taken_reaches o b c t h = subst (AtMost c) (taken_raises o b t) (raised_keeps o b c h)

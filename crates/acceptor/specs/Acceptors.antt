@@ -1,5 +1,6 @@
 -- What an acceptor answers, and what it then is.
-use Rattle.std.specs.Prelude.{◌≡◌, refl, ℕ, ◌==◌, List, [], ◌∷◌, Bool, true, not, Option, Some, None, map, nat_lt, if◌then◌else◌}
+use Rattle.std.specs.Prelude.{◌≡◌, refl, ℕ, ◌==◌, List, [], ◌∷◌, Bool, true, false, not, Option, Some, None, map, nat_lt, if◌then◌else◌}
+use Rattle.std.specs.Option.{option_map_or}
 use Rattle.std.specs.List.{find}
 use Rattle.std.specs.List.Sorted.{IsStrictlyIncreasing}
 use Rattle.ballot.specs.Ballots.{BallotNumber, AtMost, below, same_ballot}
@@ -13,57 +14,56 @@ pub record AcceptorState (C : Type 0) : Type 0 where
   pub ballot : Option BallotNumber
   pub accepted : List (PValue C)
 
--- the higher of both, where none is below all
+-- the higher of both: none is below all
 abbrev pub raised : Option BallotNumber → BallotNumber → BallotNumber
-raised None b = b
-raised (Some a) b = if below a b then b else a
+raised own b = option_map_or (λ a. if below a b then b else a) own b
 
 -- the acceptor's ballot is at least b
 abbrev pub Reached : Option BallotNumber → BallotNumber → Type 0
 Reached None b = ⊥
 Reached (Some a) b = AtMost b a
 
--- whether b isn't below the acceptor's ballot
-abbrev pub takes : Option BallotNumber → BallotNumber → Bool
-takes None b = true
-takes (Some a) b = not (below b a)
+-- whether an acceptor of this ballot accepts a pvalue of b: b isn't below its own
+abbrev pub accepts : Option BallotNumber → BallotNumber → Bool
+accepts own b = option_map_or (λ a. not (below b a)) own true
 
 module _ {C : Type 0} where
   -- the slots rise strictly
   abbrev pub RiseBySlot : List (PValue C) → Type 0
   RiseBySlot ps = IsStrictlyIncreasing (map (λ p. p.slot) ps)
 
-  -- what is kept for the slot
-  abbrev pub kept_for : ℕ → List (PValue C) → Option (PValue C)
-  kept_for s ps = find (λ p. p.slot == s) ps
+  -- what is accepted for the slot
+  abbrev pub accepted_for : ℕ → List (PValue C) → Option (PValue C)
+  accepted_for s ps = find (λ p. p.slot == s) ps
 
   -- p in slot order, in place of what stands at its slot
   abbrev pub placed : PValue C → List (PValue C) → List (PValue C)
   placed p [] = p ∷ []
   placed p (q ∷ qs) = if nat_lt p.slot q.slot then p ∷ q ∷ qs else if p.slot == q.slot then p ∷ qs else q ∷ placed p qs
 
-  -- p, unless the one that is kept for its slot has the same ballot
-  abbrev pub kept_beside : Option (PValue C) → PValue C → List (PValue C) → List (PValue C)
-  kept_beside None p ps = placed p ps
-  kept_beside (Some q) p ps = if same_ballot q.ballot p.ballot then ps else placed p ps
-
-  abbrev pub kept : List (PValue C) → PValue C → List (PValue C)
-  kept ps p = kept_beside (kept_for p.slot ps) p ps
+  -- p is placed, unless the one that is accepted for its slot has the same ballot
+  abbrev pub with_accepted : List (PValue C) → PValue C → List (PValue C)
+  with_accepted ps p =
+      if option_map_or (λ q. same_ballot q.ballot p.ballot) (accepted_for p.slot ps) false then ps else placed p ps
 
   -- a pvalue of the slot is among them, of at least this ballot
   abbrev pub Holds : List (PValue C) → ℕ → BallotNumber → Type 0
   Holds ps s b = (p : PValue C) × IsIn p ps × (p.slot ≡ s) × AtMost b p.ballot
 
+  -- it was asked for nothing
   abbrev pub new_acceptor : AcceptorState C
   new_acceptor = record { ballot = None; accepted = [] }
 
+  -- asked for a ballot, it raises its own to that
   abbrev pub after_p1a : AcceptorState C → BallotNumber → AcceptorState C
-  after_p1a a b = record { ballot = Some (raised a.ballot b); accepted = a.accepted }
+  after_p1a a b = record a { ballot = Some (raised a.ballot b) }
 
+  -- asked to accept a pvalue, it raises its ballot to that of the pvalue, and accepts it unless its own was higher
   abbrev pub after_p2a : AcceptorState C → PValue C → AcceptorState C
   after_p2a a p =
-      record { ballot = Some (raised a.ballot p.ballot); accepted = if takes a.ballot p.ballot then kept a.accepted p else a.accepted }
+      record (after_p1a a p.ballot) { accepted = if accepts a.ballot p.ballot then with_accepted a.accepted p else a.accepted }
 
+  -- its answer to a P2a
   abbrev pub vote_for : AcceptorState C → PValue C → Vote
   vote_for a p = record { asked = p.ballot; slot = p.slot; ballot = raised a.ballot p.ballot }
 
@@ -72,6 +72,7 @@ module _ {C : Type 0} where
   HasReached a = (p : PValue C) → IsIn p a.accepted → Reached a.ballot p.ballot
 
 module _ {C A : Type 0} where
+  -- its answer to a P1a
   abbrev pub promise_for : AcceptorState C → BallotNumber → Promise C A
   promise_for a b = record { asked = b; ballot = raised a.ballot b; accepted = a.accepted }
 

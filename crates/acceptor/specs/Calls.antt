@@ -2,7 +2,7 @@
 use Rattle.std.specs.Prelude.{◌≡◌, ◌⊎◌, List, [], ◌∷◌, true}
 use Rattle.ballot.specs.Ballots.{BallotNumber}
 use Rattle.ballot.specs.declared.pvalue.PValue.{PValue}
-use Rattle.acceptor.specs.Acceptors.{AcceptorState, takes, after_p1a, after_p2a}
+use Rattle.acceptor.specs.Acceptors.{AcceptorState, accepts, after_p1a, after_p2a}
 
 pub data Call (C : Type 0) : Type 0 where
   P1a : (ballot : BallotNumber) → Call C
@@ -21,7 +21,7 @@ module _ {C : Type 0} where
   -- the call asks the acceptor to accept p, whose ballot isn't below the acceptor's
   abbrev pub Accepts : AcceptorState C → Call C → PValue C → Type 0
   Accepts a (P1a b) p = ⊥
-  Accepts a (P2a q) p = (q ≡ p) × (takes a.ballot q.ballot ≡ true)
+  Accepts a (P2a q) p = (q ≡ p) × (accepts a.ballot q.ballot ≡ true)
 
   -- the acceptor accepts p in one of these calls
   abbrev pub WasAccepted : AcceptorState C → List (Call C) → PValue C → Type 0

@@ -2,7 +2,7 @@
 ghost use Rattle.std.specs.Prelude.{◌≡◌, ◌↔◌, [], Some, true, false, IsTrue, IsSome, IsOk, OnOk, OnErr, IfOk};
 ghost use Rattle.ballot.specs.Ballots.{BallotNumber};
 ghost use Rattle.acceptor.specs.Fields.{pvalues_of};
-ghost use Rattle.acceptor.specs.Acceptors.{Reached, RiseBySlot, Holds, new_acceptor, raised, takes, kept, kept_for, after_p1a, after_p2a, promise_for, vote_for};
+ghost use Rattle.acceptor.specs.Acceptors.{Reached, RiseBySlot, Holds, new_acceptor, raised, accepts, with_accepted, accepted_for, after_p1a, after_p2a, promise_for, vote_for};
 
 use ballot::{Ballot, Items, Memory, PValue, Payload, Promise, Slot, Vote};
 use std::alloc::{Allocator, Global};
@@ -85,15 +85,15 @@ impl<C: Payload, A: Allocator + Copy> Acceptor<C, A> {
     pub fn p2a(&mut self, pvalue: PValue<C>) -> Result<Vote, Memory>
         ensures state { OnOk result (self.new ≡ after_p2a self.old pvalue) }
         ensures answer { IfOk result (λ vote. vote ≡ vote_for self.old pvalue) }
-        ensures votes { IfOk result (λ vote. (vote.ballot ≡ pvalue.ballot) ↔ IsTrue (takes self.old.ballot pvalue.ballot)) }
-        ensures accepts { OnOk result (takes self.old.ballot pvalue.ballot ≡ true → Holds self.new.accepted pvalue.slot pvalue.ballot) }
-        ensures raises { OnOk result (takes self.old.ballot pvalue.ballot ≡ true → self.new.ballot ≡ Some pvalue.ballot) }
-        ensures refuses { takes self.old.ballot pvalue.ballot ≡ false → self.new ≡ self.old }
+        ensures votes { IfOk result (λ vote. (vote.ballot ≡ pvalue.ballot) ↔ IsTrue (accepts self.old.ballot pvalue.ballot)) }
+        ensures accepts { OnOk result (accepts self.old.ballot pvalue.ballot ≡ true → Holds self.new.accepted pvalue.slot pvalue.ballot) }
+        ensures raises { OnOk result (accepts self.old.ballot pvalue.ballot ≡ true → self.new.ballot ≡ Some pvalue.ballot) }
+        ensures refuses { accepts self.old.ballot pvalue.ballot ≡ false → self.new ≡ self.old }
         ensures never_falls { (b : BallotNumber) → Reached self.old.ballot b → Reached self.new.ballot b }
 
         // Memory is wanted for a new slot alone.
-        ensures below { takes self.old.ballot pvalue.ballot ≡ false → IsOk result }
-        ensures slot_is_there { IsSome (kept_for pvalue.slot self.old.accepted) → IsOk result }
+        ensures below { accepts self.old.ballot pvalue.ballot ≡ false → IsOk result }
+        ensures slot_is_there { IsSome (accepted_for pvalue.slot self.old.accepted) → IsOk result }
         ensures err { OnErr result (self.new ≡ self.old) }
     {
         let asked = pvalue.ballot;
@@ -140,9 +140,9 @@ fn keep<C: Payload, A: Allocator + Copy>(
     accepted: &mut BTreeMap<Slot, Accepted<C>, A>,
     pvalue: PValue<C>,
 ) -> Result<(), Memory>
-    ensures ok { OnOk result (pvalues_of accepted.new.entries ≡ kept (pvalues_of accepted.old.entries) pvalue) }
+    ensures ok { OnOk result (pvalues_of accepted.new.entries ≡ with_accepted (pvalues_of accepted.old.entries) pvalue) }
     ensures err { OnErr result (accepted.new.entries ≡ accepted.old.entries) }
-    ensures slot_is_there { IsSome (kept_for pvalue.slot (pvalues_of accepted.old.entries)) → IsOk result }
+    ensures slot_is_there { IsSome (accepted_for pvalue.slot (pvalues_of accepted.old.entries)) → IsOk result }
 {
     let PValue {
         ballot,

@@ -3,7 +3,7 @@ ghost use Rattle.std.specs.Prelude.{◌≡◌, ◌⊎◌, ℕ, List, true};
 ghost use Rattle.ballot.specs.Ballots.{BallotNumber};
 ghost use Rattle.ballot.specs.Lists.{IsIn};
 ghost use Rattle.ballot.specs.declared.pvalue.PValue.{PValue};
-ghost use Rattle.acceptor.specs.Acceptors.{AcceptorState, Holds, HasReached, RiseBySlot, takes, new_acceptor, after_p1a, after_p2a};
+ghost use Rattle.acceptor.specs.Acceptors.{AcceptorState, Holds, HasReached, RiseBySlot, accepts, new_acceptor, after_p1a, after_p2a};
 ghost use Rattle.acceptor.specs.Calls.{Call, all_called, WasAccepted};
 
 /// An acceptor's ballot is at least that of each pvalue that it keeps.
@@ -17,8 +17,8 @@ pub fn acceptors_reach_what_they_keep<C>()
 /// ballot. Such a one leaves something at least as high in its slot, and each slot for which
 /// something was kept has something at least as high.
 pub fn what_is_kept_stays_or_is_topped<C>()
-    ensures old_or_new { (a : AcceptorState C) (p kept : PValue C) → IsIn kept (after_p2a a p).accepted → IsIn kept a.accepted ⊎ ((p ≡ kept) × (takes a.ballot p.ballot ≡ true)) }
-    ensures new { (a : AcceptorState C) (p : PValue C) → takes a.ballot p.ballot ≡ true → Holds (after_p2a a p).accepted p.slot p.ballot }
+    ensures old_or_new { (a : AcceptorState C) (p kept : PValue C) → IsIn kept (after_p2a a p).accepted → IsIn kept a.accepted ⊎ ((p ≡ kept) × (accepts a.ballot p.ballot ≡ true)) }
+    ensures new { (a : AcceptorState C) (p : PValue C) → accepts a.ballot p.ballot ≡ true → Holds (after_p2a a p).accepted p.slot p.ballot }
     ensures old { (a : AcceptorState C) (p : PValue C) → HasReached a → (slot : ℕ) (b : BallotNumber) → Holds a.accepted slot b → Holds (after_p2a a p).accepted slot b }
 {}
 

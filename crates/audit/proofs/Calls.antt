@@ -1,5 +1,5 @@
 -- The replica of a node, as calls lead to it.
-use Rattle.std.proofs.Common.{◌≡◌, ℕ, List, [], ◌∷◌, ◌++◌, map, Bool, true, false, Option, Some, None, refl, sym, ap, ◌∙◌, subst, cond, append_assoc, ⊎_elim, inl, inr, ◌⊎◌}
+use Rattle.std.proofs.Common.{◌≡◌, ℕ, List, [], ◌∷◌, ◌++◌, Bool, true, false, Option, Some, None, refl, sym, ap, ◌∙◌, subst, cond, append_assoc, ⊎_elim, inl, inr, ◌⊎◌}
 use Rattle.std.specs.Prelude.{◌==◌, ◌||◌}
 use Rattle.std.specs.List.{list_any}
 use Rattle.std.specs.Ordering.{is_eq}
@@ -10,18 +10,19 @@ use Rattle.ballot.specs.declared.message.Message.{Message}
 use Rattle.ballot.specs.declared.message.Message.TheVariants.{Propose, P1a, P1b, P2a, P2b, Decision, Ask}
 use Rattle.maildrop.specs.CommandId.{CommandId, compare_ids, same_id}
 use Rattle.maildrop.specs.Equality.{id_decides}
-use Rattle.maildrop.specs.Office.{User, new_user}
+use Rattle.maildrop.specs.Office.{User}
 use Rattle.maildrop.specs.Same.{identity_of}
 use Rattle.maildrop.specs.declared.command.Command.{Command}
 use Rattle.maildrop.specs.declared.outcome.Outcome.{Outcome}
 use Rattle.maildrop.proofs.IdOrder.{ids_eq}
-use Rattle.replica.specs.Replicas.{held}
+use Rattle.replica.proofs.Parts.{held}
 use Rattle.replica.specs.Calls.{Call, Requests, Decides, called, all_called, is_request_of, is_requested, awaited_for, answered_with, AreAnswers}
 use Rattle.replica.proofs.History.{always_answers, requests_add_none}
 use Rattle.replica.proofs.Left.{itself_left, decided_answered}
 use Rattle.replica.proofs.Requested.{held_for}
 use Rattle.node.specs.Nodes.{answer_of, answered, logged}
-use Rattle.node.specs.Replay.{NodeState, MailReplica, mail_rules, new_node, stays, hears, command_for, acts, is_crash, takes, takes_all, replayed}
+use Rattle.node.specs.Replay.{NodeState, MailReplica, mail_rules, first_users, new_node, hears, command_for, acts, is_crash, takes, takes_all, replayed}
+use Rattle.ballot.specs.Sends.{stays}
 use Rattle.node.specs.declared.input.Input.{Input}
 use Rattle.node.specs.declared.input.Input.TheVariants.{Submit, Arrive, Tick, Campaign, Crash}
 use Rattle.node.specs.declared.log.NodeLog.{NodeLog}
@@ -57,9 +58,9 @@ module _ {A : Type 0} where
 
   all_called-append : (xs ys : Calls A) (r : MailReplica A) → called_all (xs ++ ys) r ≡ called_all ys (called_all xs r)
   all_called-append [] ys r = refl
-  all_called-append (x ∷ xs) ys r = all_called-append xs ys (called {A = A} mail_rules x r).replica
+  all_called-append (x ∷ xs) ys r = all_called-append xs ys (called {A = A} mail_rules x r).after
 
-  heard : (n : NodeState A) (from : ℕ) (m : Message (Command A) A) → (hears n from m).node.replica ≡ called_all (calls_of_message m) n.replica
+  heard : (n : NodeState A) (from : ℕ) (m : Message (Command A) A) → (hears n from m).after.replica ≡ called_all (calls_of_message m) n.replica
   heard n from (Propose s c) = refl
   heard n from (P1a b) = refl
   heard n from (P1b p) = refl
@@ -68,35 +69,35 @@ module _ {A : Type 0} where
   heard n from (Decision s c) = refl
   heard n from (Ask s) = refl
 
-  acted : (me : ℕ) (before : List (Input A)) (n : NodeState A) (i : Input A) → (acts me before n i).node.replica ≡ called_all (calls_acting me before i) n.replica
+  acted : (me : ℕ) (before : List (Input A)) (n : NodeState A) (i : Input A) → (acts me before n i).after.replica ≡ called_all (calls_acting me before i) n.replica
   acted me before n (Submit name op) = refl
   acted me before n (Arrive e) =
       go (e.to == me)
     where
-      go : (t : Bool) → (cond t (hears n e.from e.message) (stays n)).node.replica ≡ called_all (cond t (calls_of_message e.message) []) n.replica
+      go : (t : Bool) → (cond t (hears n e.from e.message) (stays n)).after.replica ≡ called_all (cond t (calls_of_message e.message) []) n.replica
       go true = heard n e.from e.message
       go false = refl
   acted me before n Tick = refl
   acted me before n Campaign = refl
   acted me before n Crash = refl
 
-  taken_by : (me : ℕ) (before : List (Input A)) (n : NodeState A) (i : Input A) → (takes me before n i).node.replica ≡ called_all (calls_by me before i) n.replica
+  taken_by : (me : ℕ) (before : List (Input A)) (n : NodeState A) (i : Input A) → (takes me before n i).after.replica ≡ called_all (calls_by me before i) n.replica
   taken_by me before n i =
       go (list_any is_crash before)
     where
-      go : (t : Bool) → (cond t (stays n) (acts me before n i)).node.replica ≡ called_all (cond t [] (calls_acting me before i)) n.replica
+      go : (t : Bool) → (cond t (stays n) (acts me before n i)).after.replica ≡ called_all (cond t [] (calls_acting me before i)) n.replica
       go true = refl
       go false = acted me before n i
 
   all_taken : (me : ℕ) (before : List (Input A)) (n : NodeState A) (is : List (Input A)) → (takes_all me before n is).replica ≡ called_all (calls_all me before is) n.replica
   all_taken me before n [] = refl
   all_taken me before n (i ∷ is) =
-      all_taken me (before ++ i ∷ []) (takes me before n i).node is
+      all_taken me (before ++ i ∷ []) (takes me before n i).after is
       ∙ (ap (called_all (calls_all me (before ++ i ∷ []) is)) (taken_by me before n i)
       ∙ sym (all_called-append (calls_by me before i) (calls_all me (before ++ i ∷ []) is) n.replica))
 
   abbrev first : NodeLog A → List (User A)
-  first log = map (new_user log.opening.limits) log.opening.names
+  first log = first_users log.opening
 
   -- the replica of a log
   replica_is : (log : NodeLog A) → (replayed log).replica ≡ called_all (calls_of log) (new_node log.opening).replica
@@ -159,7 +160,7 @@ module _ {A : Type 0} where
   held_stays o (Some None) v h = absurd (let no : None ≡ Some v = h in cc)
   held_stays o (Some (Some w)) v h = h
 
-  decides_stay : (log : NodeLog A) (s : ℕ) (c : Command A) (id : CommandId) (v : Outcome A) → answered log id ≡ Some v → answer_of id (called {A = A} mail_rules (Decides s c) (replayed log).replica).replica.awaited ≡ Some v
+  decides_stay : (log : NodeLog A) (s : ℕ) (c : Command A) (id : CommandId) (v : Outcome A) → answered log id ≡ Some v → answer_of id (called {A = A} mail_rules (Decides s c) (replayed log).replica).after.awaited ≡ Some v
   decides_stay log s c id v h =
       let both = decided_answered A mail_rules ids_total (first log) s c (replayed log).replica (replayed log).replica (itself_left mail_rules (first log) (replayed log).replica (are_answers log)) id in
       ap held both.1.0 ∙ held_stays both.0 (awaited_for mail_rules id (replayed log).replica) v h

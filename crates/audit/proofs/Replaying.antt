@@ -8,7 +8,8 @@ use Rattle.maildrop.specs.CommandId.{CommandId}
 use Rattle.maildrop.specs.Name.{are_different}
 use Rattle.maildrop.specs.declared.outcome.Outcome.{Outcome}
 use Rattle.node.specs.Nodes.{NodeValue, can_begin, opened, logged, answer_of, answered, answer_after, left_after, stops_after}
-use Rattle.node.specs.Replay.{is_crash, sends_of, sent_from, stays, acts, replayed}
+use Rattle.node.specs.Replay.{is_crash, sends_of, sent_from, acts, replayed}
+use Rattle.ballot.specs.Sends.{stays}
 use Rattle.node.specs.declared.input.Input.{Input}
 use Rattle.node.specs.declared.input.Input.TheVariants.{Submit, Arrive, Tick, Campaign, Crash}
 use Rattle.node.specs.declared.log.NodeLog.{NodeLog}

@@ -11,10 +11,10 @@ use Rattle.maildrop.specs.declared.outcome.Outcome.{Outcome}
 use Rattle.node.specs.declared.input.Input.TheVariants.{Submit}
 use Rattle.pop3_wire.specs.declared.line.Line.{Line}
 use Rattle.session.specs.Calls.{said_by}
-use Rattle.session.specs.Conversation.{Answer, Request, Rest, Conversation, silence, with_reply, with_request, after_said, after_answer, after_asked, after_line, conversation_from}
+use Rattle.session.specs.Conversation.{Answer, Request, Rest, Conversation, silence, with_reply, with_asked, after_said, after_outcome, after_asked, after_heard, conversation_from}
 use Rattle.session.specs.Dialogue.{IsSettled}
 use Rattle.session.specs.Serve.{AreAnsweredAt, IsFreed}
-use Rattle.session.specs.Session.{hears, awaits_answer, lock_due, free_of, by_line, by_answer}
+use Rattle.session.specs.Session.{takes_line, awaits_answer, lock_due, free_of, by_line, by_answer}
 use Rattle.session.specs.Transcript.{answer_by, answers_of, request_by, requests_of, IsAnsweredEntry, AreAnswered}
 use Rattle.session.specs.declared.state.State.{State}
 use Rattle.session.specs.declared.state.State.TheVariants.{Closed}
@@ -118,7 +118,7 @@ module _ {A : Type 0} where
   freed_none (Some free) hangup e h = absurd (cc)
 
   -- an answer that is awaited
-  unheard : (state : State A) → awaits_answer state ≡ true → hears state ≡ true → ⊥
+  unheard : (state : State A) → awaits_answer state ≡ true → takes_line state ≡ true → ⊥
   unheard state waits heard = true≢false (sym waits ∙ heard_awaits state heard)
 
 module _ {A : Type 0} (accounts : List Account) (stamp : Stamp) where
@@ -127,8 +127,8 @@ module _ {A : Type 0} (accounts : List Account) (stamp : Stamp) where
 
   -- these lines, the first of this number, these entries and a hangup are the rest of a session that is in this state
   pub record IsRest (number : ℕ) (lines : List Line) (entries hangup : List (Asked A)) (state : State A) : Type 0 where
-    pub is_open : (hears state ≡ true) ⊎ (state ≡ Closed)
-    pub heard : (n : ℕ) → n < length lines → hears (talks number (take n lines) state (answers_of entries)).state ≡ true
+    pub is_open : (takes_line state ≡ true) ⊎ (state ≡ Closed)
+    pub heard : (n : ℕ) → n < length lines → takes_line (talks number (take n lines) state (answers_of entries)).state ≡ true
     pub asked : requests_of entries ≡ (talks number lines state (answers_of entries)).asked
     pub answered : AreAsked entries
     pub freed : IsFreed (free_of (lock_due (talks number lines state (answers_of entries)).state)) hangup
@@ -151,7 +151,7 @@ module _ {A : Type 0} (accounts : List Account) (stamp : Stamp) where
       pub lock : Ticket
       pub ticket : Ticket
       pub due : lock_due state ≡ Some (user, lock)
-      pub heard : hears state ≡ true
+      pub heard : takes_line state ≡ true
       pub turns : turns_left number lines entries hangup ≡ asks_then None user (Free lock) ticket None []
       pub replies : replies_left number lines entries state ≡ []
       pub tickets : line_tickets entries ≡ []
@@ -163,7 +163,7 @@ module _ {A : Type 0} (accounts : List Account) (stamp : Stamp) where
       pub more : List Line
       pub bytes : List ℕ
       pub lines_are : lines ≡ line ∷ more
-      pub heard : hears state ≡ true
+      pub heard : takes_line state ≡ true
       pub step : ((by_line accounts stamp state line).step ≡ Say bytes) ⊎ ((by_line accounts stamp state line).step ≡ SayAndClose bytes)
       pub rest : IsRest (number + 1) more entries hangup (by_line accounts stamp state line).state
       pub turns : turns_left number lines entries hangup ≡ Plain line ∷ turns_left (number + 1) more entries hangup
@@ -177,7 +177,7 @@ module _ {A : Type 0} (accounts : List Account) (stamp : Stamp) where
       pub ticket : Ticket
       pub outcome : Option (Outcome A)
       pub lines_are : lines ≡ line ∷ []
-      pub heard : hears state ≡ true
+      pub heard : takes_line state ≡ true
       pub step : (by_line accounts stamp state line).step ≡ Ask user op
       pub turns : turns_left number lines entries hangup ≡ asks_then (Some line) user op ticket outcome []
       pub replies : replies_left number lines entries state ≡ []
@@ -194,7 +194,7 @@ module _ {A : Type 0} (accounts : List Account) (stamp : Stamp) where
       pub turn : Turn A
       pub behind : List (Asked A)
       pub lines_are : lines ≡ line ∷ more
-      pub heard : hears state ≡ true
+      pub heard : takes_line state ≡ true
       pub step : (by_line accounts stamp state line).step ≡ Ask user op
       pub fits : by_answer (by_line accounts stamp state line).state ticket outcome ≡ Some turn
       pub rest : IsRest (number + 1) more behind hangup turn.state
@@ -212,8 +212,8 @@ module _ {A : Type 0} (accounts : List Account) (stamp : Stamp) where
       AskedOn : AsksOn → Next
 
   -- what a line brings that is heard
-  heard_line : (number : ℕ) (line : Line) (more : List Line) (state : State A) (answers : List (Answer A)) (step : Step A) → hears state ≡ true → (by_line accounts stamp state line).step ≡ step
-      → talks number (line ∷ more) state answers ≡ after_line (talks (number + 1) more) number (by_line accounts stamp state line).state answers step
+  heard_line : (number : ℕ) (line : Line) (more : List Line) (state : State A) (answers : List (Answer A)) (step : Step A) → takes_line state ≡ true → (by_line accounts stamp state line).step ≡ step
+      → talks number (line ∷ more) state answers ≡ after_heard (talks (number + 1) more) number (by_line accounts stamp state line).state answers step
   heard_line number line more state answers step heard e = rw (heard, e) refl
 
   -- what is asked is asked by lines from the first on
@@ -230,7 +230,7 @@ module _ {A : Type 0} (accounts : List Account) (stamp : Stamp) where
   said_from number rest h state answers (SayAndClose bytes) = h state answers
   said_from number rest h state answers (Ask user op) = h state answers
 
-  answer_from : (number : ℕ) (rest : Rest A) → ((state : State A) (answers : List (Answer A)) → AreFrom number (rest state answers).asked) → (state : State A) (answers : List (Answer A)) (turn : Option (Turn A)) → AreFrom number (after_answer rest state turn answers).asked
+  answer_from : (number : ℕ) (rest : Rest A) → ((state : State A) (answers : List (Answer A)) → AreFrom number (rest state answers).asked) → (state : State A) (answers : List (Answer A)) (turn : Option (Turn A)) → AreFrom number (after_outcome rest state turn answers).asked
   answer_from number rest h state answers None = h state answers
   answer_from number rest h state answers (Some turn) = said_from number rest h turn.state answers turn.step
 
@@ -238,7 +238,7 @@ module _ {A : Type 0} (accounts : List Account) (stamp : Stamp) where
   asked_from number rest h state [] = tt
   asked_from number rest h state (answer ∷ answers) = answer_from number rest h state answers (by_answer state answer.ticket answer.outcome)
 
-  line_from : (number : ℕ) (rest : Rest A) → ((state : State A) (answers : List (Answer A)) → AreFrom number (rest state answers).asked) → (state : State A) (answers : List (Answer A)) (step : Step A) → AreFrom number (after_line rest number state answers step).asked
+  line_from : (number : ℕ) (rest : Rest A) → ((state : State A) (answers : List (Answer A)) → AreFrom number (rest state answers).asked) → (state : State A) (answers : List (Answer A)) (step : Step A) → AreFrom number (after_heard rest number state answers step).asked
   line_from number rest h state answers (Say bytes) = h state answers
   line_from number rest h state answers (SayAndClose bytes) = h state answers
   line_from number rest h state answers (Ask user op) = (omega arith, asked_from number rest h state answers)
@@ -246,10 +246,10 @@ module _ {A : Type 0} (accounts : List Account) (stamp : Stamp) where
   talks_from : (number : ℕ) (lines : List Line) (state : State A) (answers : List (Answer A)) → AreFrom number (talks number lines state answers).asked
   talks_from number [] state answers = tt
   talks_from number (line ∷ lines) state answers =
-      go (λ state answers. from_before number (talks (number + 1) lines state answers).asked (talks_from (number + 1) lines state answers)) (hears state)
+      go (λ state answers. from_before number (talks (number + 1) lines state answers).asked (talks_from (number + 1) lines state answers)) (takes_line state)
     where
       go : ((state : State A) (answers : List (Answer A)) → AreFrom number (talks (number + 1) lines state answers).asked) → (t : Bool)
-          → AreFrom number (cond t (after_line (talks (number + 1) lines) number (by_line accounts stamp state line).state answers (by_line accounts stamp state line).step) (silence state)).asked
+          → AreFrom number (cond t (after_heard (talks (number + 1) lines) number (by_line accounts stamp state line).state answers (by_line accounts stamp state line).step) (silence state)).asked
       go later true = line_from number (talks (number + 1) lines) later (by_line accounts stamp state line).state answers (by_line accounts stamp state line).step
       go later false = tt
 
@@ -280,7 +280,7 @@ module _ {A : Type 0} (accounts : List Account) (stamp : Stamp) where
   next_none number entries hangup state rest =
       go entries (none_asked entries rest.answered rest.asked) hangup rest.freed
     where
-      due_heard : (hears state ≡ true) ⊎ (state ≡ Closed) → (due : List ℕ × Ticket) → lock_due state ≡ Some due → hears state ≡ true
+      due_heard : (takes_line state ≡ true) ⊎ (state ≡ Closed) → (due : List ℕ × Ticket) → lock_due state ≡ Some due → takes_line state ≡ true
       due_heard (inl heard) due e = heard
       due_heard (inr closed) due e = let none : None ≡ Some due = sym (ap lock_due closed) ∙ e in absurd (cc)
 
@@ -311,13 +311,13 @@ module _ {A : Type 0} (accounts : List Account) (stamp : Stamp) where
       go [] e (entry ∷ other ∷ hangup) freed = let none = one entry (other ∷ hangup) (free_of (lock_due state)) freed in absurd (cc)
 
   -- A line is answered, or closes the session.
-  module _ (number : ℕ) (line : Line) (state : State A) (heard : hears state ≡ true) (bytes : List ℕ)
+  module _ (number : ℕ) (line : Line) (state : State A) (heard : takes_line state ≡ true) (bytes : List ℕ)
       (step : ((by_line accounts stamp state line).step ≡ Say bytes) ⊎ ((by_line accounts stamp state line).step ≡ SayAndClose bytes)) where
     said_line : (more : List Line) (answers : List (Answer A)) → talks number (line ∷ more) state answers ≡ with_reply bytes (talks (number + 1) more (by_line accounts stamp state line).state answers)
     said_line more answers =
         ⊎_elim (λ e. heard_line number line more state answers (Say bytes) heard e) (λ e. heard_line number line more state answers (SayAndClose bytes) heard e) step
 
-    open_then : (hears (by_line accounts stamp state line).state ≡ true) ⊎ ((by_line accounts stamp state line).state ≡ Closed)
+    open_then : (takes_line (by_line accounts stamp state line).state ≡ true) ⊎ ((by_line accounts stamp state line).state ≡ Closed)
     open_then =
         ⊎_elim
         (λ e. inl (subst (λ st. IsSettled st (by_line accounts stamp state line).state) e (line_settles accounts stamp state line heard)))
@@ -335,7 +335,7 @@ module _ {A : Type 0} (accounts : List Account) (stamp : Stamp) where
           step = step;
           rest = record {
             is_open = open_then;
-            heard = λ n few. ap (λ (c : Conversation A). hears c.state) (sym (said_line (take n more) (answers_of entries))) ∙ rest.heard (suc n) (omega (arith, few));
+            heard = λ n few. ap (λ (c : Conversation A). takes_line c.state) (sym (said_line (take n more) (answers_of entries))) ∙ rest.heard (suc n) (omega (arith, few));
             asked = asked;
             answered = rest.answered;
             freed = freed;
@@ -351,11 +351,11 @@ module _ {A : Type 0} (accounts : List Account) (stamp : Stamp) where
         freed : IsFreed (free_of (lock_due (talks (number + 1) more (by_line accounts stamp state line).state (answers_of entries)).state)) hangup
         freed = subst (λ (c : Conversation A). IsFreed (free_of (lock_due c.state)) hangup) (said_line more (answers_of entries)) rest.freed
 
-  not_heard : (state : State A) → awaits_answer state ≡ true → hears state ≡ false
+  not_heard : (state : State A) → awaits_answer state ≡ true → takes_line state ≡ false
   not_heard state waits =
-      go (hears state) refl
+      go (takes_line state) refl
     where
-      go : (t : Bool) → hears state ≡ t → t ≡ false
+      go : (t : Bool) → takes_line state ≡ t → t ≡ false
       go true e = absurd (unheard state waits e)
       go false e = refl
 
@@ -369,13 +369,13 @@ module _ {A : Type 0} (accounts : List Account) (stamp : Stamp) where
   said_is rest state answers (SayAndClose bytes) = refl
   said_is rest state answers (Ask user op) = refl
 
-  open_after : (step : Step A) (state : State A) → IsSettled step state → awaits_answer state ≡ false → (hears state ≡ true) ⊎ (state ≡ Closed)
+  open_after : (step : Step A) (state : State A) → IsSettled step state → awaits_answer state ≡ false → (takes_line state ≡ true) ⊎ (state ≡ Closed)
   open_after (Say bytes) state settled over = inl settled
   open_after (SayAndClose bytes) state settled over = inr settled
   open_after (Ask user op) state settled over = absurd (true≢false (sym settled ∙ over))
 
   -- A line asks for an operation.
-  module _ (number : ℕ) (line : Line) (state : State A) (heard : hears state ≡ true) (user : List ℕ) (op : Op A)
+  module _ (number : ℕ) (line : Line) (state : State A) (heard : takes_line state ≡ true) (user : List ℕ) (op : Op A)
       (step : (by_line accounts stamp state line).step ≡ Ask user op) where
     abbrev request : Request A
     request = record { line = number; user = user; op = op }
@@ -383,7 +383,7 @@ module _ {A : Type 0} (accounts : List Account) (stamp : Stamp) where
     waits : awaits_answer (by_line accounts stamp state line).state ≡ true
     waits = subst (λ st. IsSettled st (by_line accounts stamp state line).state) step (line_settles accounts stamp state line heard)
 
-    asks_line : (more : List Line) (answers : List (Answer A)) → talks number (line ∷ more) state answers ≡ with_request request (after_asked (talks (number + 1) more) (by_line accounts stamp state line).state answers)
+    asks_line : (more : List Line) (answers : List (Answer A)) → talks number (line ∷ more) state answers ≡ with_asked request (after_asked (talks (number + 1) more) (by_line accounts stamp state line).state answers)
     asks_line more answers = heard_line number line more state answers (Ask user op) heard step
 
     -- the first entry is that of the line
@@ -410,7 +410,7 @@ module _ {A : Type 0} (accounts : List Account) (stamp : Stamp) where
 
     -- no answer is taken: it is the last line
     stuck : (more : List Line) (entry : Asked A) (entries hangup : List (Asked A)) → IsRest number (line ∷ more) (entry ∷ entries) hangup state
-        → ((m : List Line) → talks number (line ∷ m) state (answers_of (entry ∷ entries)) ≡ with_request request (silence (by_line accounts stamp state line).state))
+        → ((m : List Line) → talks number (line ∷ m) state (answers_of (entry ∷ entries)) ≡ with_asked request (silence (by_line accounts stamp state line).state))
         → Next number (line ∷ more) (entry ∷ entries) hangup state
     stuck more entry entries hangup rest quiet =
         go more (no_more more rest) entries (none_asked entries (asked_behind entry entries rest.answered) its.1) hangup no_hangup (quiet more) entry.ticket refl
@@ -426,10 +426,10 @@ module _ {A : Type 0} (accounts : List Account) (stamp : Stamp) where
         no_more : (more : List Line) → IsRest number (line ∷ more) (entry ∷ entries) hangup state → more ≡ []
         no_more [] rest = refl
         no_more (other ∷ more) rest =
-            absurd (unheard (by_line accounts stamp state line).state waits (ap (λ (c : Conversation A). hears c.state) (sym (quiet [])) ∙ rest.heard 1 (omega arith)))
+            absurd (unheard (by_line accounts stamp state line).state waits (ap (λ (c : Conversation A). takes_line c.state) (sym (quiet [])) ∙ rest.heard 1 (omega arith)))
 
         go : (more : List Line) → more ≡ [] → (entries : List (Asked A)) → entries ≡ [] → (hangup : List (Asked A)) → hangup ≡ []
-            → talks number (line ∷ more) state (answers_of (entry ∷ entries)) ≡ with_request request (silence (by_line accounts stamp state line).state)
+            → talks number (line ∷ more) state (answers_of (entry ∷ entries)) ≡ with_asked request (silence (by_line accounts stamp state line).state)
             → (ticket : Option Ticket) → entry.ticket ≡ ticket → Next number (line ∷ more) (entry ∷ entries) hangup state
         go (other ∷ more) e entries f hangup h talk ticket t = absurd (cc)
         go [] e (next ∷ entries) f hangup h talk ticket t = absurd (cc)
@@ -480,14 +480,14 @@ module _ {A : Type 0} (accounts : List Account) (stamp : Stamp) where
         taken = rw (t, o) refl
 
         talk : (found : Option (Turn A)) → by_answer (by_line accounts stamp state line).state ticket outcome ≡ found → (m : List Line)
-            → talks number (line ∷ m) state (answers_of (entry ∷ entries)) ≡ with_request request (after_answer (talks (number + 1) m) (by_line accounts stamp state line).state found (answers_of entries))
+            → talks number (line ∷ m) state (answers_of (entry ∷ entries)) ≡ with_asked request (after_outcome (talks (number + 1) m) (by_line accounts stamp state line).state found (answers_of entries))
         talk found e m =
             ap (talks number (line ∷ m) state) taken ∙ asks_line m (record { ticket = ticket; outcome = outcome } ∷ answers_of entries)
-            ∙ ap (λ f. with_request request (after_answer (talks (number + 1) m) (by_line accounts stamp state line).state f (answers_of entries))) e
+            ∙ ap (λ f. with_asked request (after_outcome (talks (number + 1) m) (by_line accounts stamp state line).state f (answers_of entries))) e
 
         go : (found : Option (Turn A)) → by_answer (by_line accounts stamp state line).state ticket outcome ≡ found → Next number (line ∷ more) (entry ∷ entries) hangup state
         go None e =
-            stuck more entry entries hangup rest (λ m. talk None e m ∙ ap (with_request request) (silent (number + 1) m (by_line accounts stamp state line).state (answers_of entries) waits))
+            stuck more entry entries hangup rest (λ m. talk None e m ∙ ap (with_asked request) (silent (number + 1) m (by_line accounts stamp state line).state (answers_of entries) waits))
         go (Some turn) e =
             AskedOn (record {
               line = line;
@@ -504,7 +504,7 @@ module _ {A : Type 0} (accounts : List Account) (stamp : Stamp) where
               fits = e;
               rest = record {
                 is_open = open_after turn.step turn.state settled.settles settled.says;
-                heard = λ n few. ap (λ (c : Conversation A). hears c.state) (sym (says (take n more))) ∙ rest.heard (suc n) (omega (arith, few));
+                heard = λ n few. ap (λ (c : Conversation A). takes_line c.state) (sym (says (take n more))) ∙ rest.heard (suc n) (omega (arith, few));
                 asked = its.1;
                 answered = asked_behind entry entries rest.answered;
                 freed = subst (λ (c : Conversation A). IsFreed (free_of (lock_due c.state)) hangup) (says more) rest.freed;
@@ -518,12 +518,12 @@ module _ {A : Type 0} (accounts : List Account) (stamp : Stamp) where
             settled : IsAnswering (by_line accounts stamp state line).state ticket outcome turn
             settled = answer_settles (by_line accounts stamp state line).state ticket outcome turn e
 
-            says : (m : List Line) → talks number (line ∷ m) state (answers_of (entry ∷ entries)) ≡ with_request request (record {
+            says : (m : List Line) → talks number (line ∷ m) state (answers_of (entry ∷ entries)) ≡ with_asked request (record {
               replies = said_by turn.step ++ (talks (number + 1) m turn.state (answers_of entries)).replies;
               asked = (talks (number + 1) m turn.state (answers_of entries)).asked;
               state = (talks (number + 1) m turn.state (answers_of entries)).state;
             })
-            says m = talk (Some turn) e m ∙ ap (with_request request) (said_is (talks (number + 1) m) turn.state (answers_of entries) turn.step)
+            says m = talk (Some turn) e m ∙ ap (with_asked request) (said_is (talks (number + 1) m) turn.state (answers_of entries) turn.step)
 
             its : IsItsEntry entry × (requests_of entries ≡ (talks (number + 1) more turn.state (answers_of entries)).asked)
             its = first_entry entry entries _ rest.answered (rest.asked ∙ ap (λ (c : Conversation A). c.asked) (says more))
@@ -550,7 +550,7 @@ module _ {A : Type 0} (accounts : List Account) (stamp : Stamp) where
   next number (line ∷ more) entries hangup state rest =
       go (by_line accounts stamp state line).step refl
     where
-      heard : hears state ≡ true
+      heard : takes_line state ≡ true
       heard = rest.heard 0 (omega arith)
 
       go : (step : Step A) → (by_line accounts stamp state line).step ≡ step → Next number (line ∷ more) entries hangup state

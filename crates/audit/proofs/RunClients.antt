@@ -19,7 +19,7 @@ use Rattle.session.specs.Conversation.{conversation_from}
 use Rattle.session.specs.Dialogue.{IsSettled}
 use Rattle.session.specs.Prefix.{IsPrefix}
 use Rattle.session.specs.Serve.{IsTranscript, IsFreed, told as told_by}
-use Rattle.session.specs.Session.{opening, hears, lock_due, free_of, by_line, by_answer}
+use Rattle.session.specs.Session.{opening, takes_line, lock_due, free_of, by_line, by_answer}
 use Rattle.session.specs.Transcript.{answers_of}
 use Rattle.session.specs.declared.state.State.{State}
 use Rattle.session.specs.declared.state.State.TheVariants.{Closed}
@@ -30,9 +30,9 @@ use Rattle.session.specs.declared.transcript.Asked.{Asked}
 use Rattle.session.specs.declared.transcript.Transcript.{Transcript}
 use Rattle.session.proofs.Parts.{answers_append}
 use Rattle.session.proofs.Settled.{line_settles, answer_settles}
-use Rattle.world.specs.Clients.{Standing, Hears, Waits, Over, Client, new_client, standing_as, told, with_line, asking}
-use Rattle.world.specs.Services.{after_answer, by_turn}
-use Rattle.world.proofs.Prefixes.{prefix_on, front_of}
+use Rattle.runs.specs.Clients.{Standing, Hears, Waits, Over, Client, new_client, standing_as, told, with_line, asking}
+use Rattle.runs.specs.Services.{after_answer, by_turn}
+use Rattle.runs.proofs.Prefixes.{prefix_on, front_of}
 use Rattle.audit.specs.Case.{Plain, Asks}
 use Rattle.audit.specs.Order.{Awaited}
 use Rattle.audit.specs.Runs.{line_tickets, line_ticket, EndsWithoutTicket, AreItsLines}
@@ -43,9 +43,9 @@ use Rattle.audit.proofs.Rests.{turns_left, asks_then, talks, replies_left, IsRes
 module _ {A : Type 0} where
   -- how a session stands that awaits no answer
   abbrev pub standing_in : State A → Standing A
-  standing_in state = cond (hears state) (Hears state) Over
+  standing_in state = cond (takes_line state) (Hears state) Over
 
-  in_hearing : (state : State A) → hears state ≡ true → standing_in state ≡ Hears state
+  in_hearing : (state : State A) → takes_line state ≡ true → standing_in state ≡ Hears state
   in_hearing state heard = rw heard refl
 
   in_closed : (state : State A) → state ≡ Closed → standing_in state ≡ Over
@@ -484,7 +484,7 @@ module _ {A : Type 0} (accounts : List Account) (stamp : Stamp) (t : Transcript 
       rest : IsRest accounts stamp 0 t.lines is.entries is.hangup opening
       rest = record {
         is_open = inl refl;
-        heard = λ n few. ap (λ given. hears (conversation_from accounts stamp 0 (Rattle.std.specs.Prelude.take n t.lines) opening given).state) (sym taken) ∙ is.heard n few;
+        heard = λ n few. ap (λ given. takes_line (conversation_from accounts stamp 0 (Rattle.std.specs.Prelude.take n t.lines) opening given).state) (sym taken) ∙ is.heard n few;
         asked = is.asked ∙ ap (λ given. (conversation_from accounts stamp 0 t.lines opening given).asked) taken;
         answered = asked_at t.end (told_by accounts stamp t).state is.entries is.answered;
         freed = subst (λ given. IsFreed (free_of (lock_due (conversation_from accounts stamp 0 t.lines opening given).state)) is.hangup) taken is.freed;

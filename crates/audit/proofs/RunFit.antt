@@ -9,8 +9,8 @@ use Rattle.maildrop.specs.Name.{are_different}
 use Rattle.node.specs.Nodes.{can_begin}
 use Rattle.node.specs.declared.log.NodeLog.{NodeLog}
 use Rattle.session.specs.declared.transcript.Transcript.{Transcript}
-use Rattle.world.specs.Services.{opening_of}
-use Rattle.world.specs.declared.config.Config.{Config}
+use Rattle.runs.specs.Services.{opening_of}
+use Rattle.runs.specs.declared.config.Config.{Config}
 use Rattle.audit.specs.Records.{is_fit, place_of, AreFit}
 use Rattle.audit.specs.Runs.{opening_at, AreInOrder, AreOfService}
 use Rattle.audit.proofs.RunScripts.{served_script}

@@ -14,12 +14,12 @@ use Rattle.session.specs.Session.{lock_due, free_of, by_line, by_answer}
 use Rattle.session.specs.declared.state.State.{State}
 use Rattle.session.specs.declared.state.Step.{Step}
 use Rattle.session.specs.declared.state.Step.TheVariants.{Say, Ask, SayAndClose}
-use Rattle.world.specs.Clients.{Hears, Waits, Over, Client, new_client, standing_as, told, with_line, asking, client_of, with_client, without_node, all_without_node}
-use Rattle.world.specs.Messages.{log_of, is_up}
-use Rattle.world.specs.Refusals.{unless_down, node_refusal, connect_refusal, line_refusal, hangup_refusal, busy_without, collect_refusal, client_refusal, refusal_of}
-use Rattle.world.specs.Services.{Service, keeps, submits, if_up, if_served, connects, next_id, after_line, hears_line, by_turn, takes_answer, collects, gives_back, hangs_up, crashes, occurs}
-use Rattle.world.specs.declared.config.Config.{Config}
-use Rattle.world.specs.declared.event.Event.TheVariants as event
+use Rattle.runs.specs.Clients.{Hears, Waits, Over, Client, new_client, standing_as, told, with_line, asking, client_of, with_client, without_node, all_without_node}
+use Rattle.runs.specs.Messages.{log_of, is_up}
+use Rattle.runs.specs.Refusals.{unless_down, node_refusal, connect_refusal, line_refusal, hangup_refusal, busy_without, collect_refusal, client_refusal, refusal_of}
+use Rattle.runs.specs.Services.{Service, keeps, submits_for, if_up, if_served, connects, next_id, after_line, hears_line, by_turn, takes_answer, collects, gives_back, hangs_up, crashes, occurs}
+use Rattle.runs.specs.declared.config.Config.{Config}
+use Rattle.runs.specs.declared.event.Event.TheVariants as event
 
 module _ {A : Type 0} where
   -- the client of each session, where that of one is put in
@@ -106,11 +106,11 @@ module _ {A : Type 0} where
       line_closes line state bytes standing e = heard line state (SayAndClose bytes) standing e
 
       pub line_asks : (line : Line) (state : State A) (user : List ℕ) (op : Op A) → c.standing ≡ Hears state → (by_line cfg.accounts c.stamp state line).step ≡ Ask user op
-          → occurs cfg v (event.Line s line) ≡ submits v s (asking (with_line c line) ((next_id log user).ticket) (Waits (by_line cfg.accounts c.stamp state line).state (next_id log user))) user op
+          → occurs cfg v (event.Line s line) ≡ submits_for v s (asking (with_line c line) ((next_id log user).ticket) (Waits (by_line cfg.accounts c.stamp state line).state (next_id log user))) user op
       line_asks line state user op standing e = heard line state (Ask user op) standing e
 
       pub hangup_frees : (state : State A) (user : List ℕ) (lock : Ticket) → c.standing ≡ Hears state → lock_due state ≡ Some (user, lock)
-          → occurs cfg v (event.Hangup s) ≡ submits v s (standing_as c Over) user (Free lock)
+          → occurs cfg v (event.Hangup s) ≡ submits_for v s (standing_as c Over) user (Free lock)
       hangup_frees state user lock standing due =
           served (λ c log. hangs_up v s c log c.standing) ∙ ap (hangs_up v s c log) standing
           ∙ ap (λ lock. gives_back v s (standing_as c Over) (free_of lock)) due

@@ -16,12 +16,12 @@ use Rattle.node.specs.declared.input.Input.TheVariants.{Submit, Arrive, Tick, Ca
 use Rattle.node.specs.declared.log.NodeLog.{NodeLog}
 use Rattle.node.specs.declared.log.Opening.{Opening}
 use Rattle.session.specs.declared.transcript.Transcript.{Transcript}
-use Rattle.world.specs.Messages.{Network, log_of, is_up, newly_sent, taken_by, takes, with_arrival, arrives, new_logs, new_network, envelopes}
-use Rattle.world.specs.Refusals.{node_refusal, arrival_refusal}
-use Rattle.world.specs.Services.{Service, opening_of}
-use Rattle.world.specs.declared.config.Config.{Config}
-use Rattle.world.specs.declared.sent.Sent.{Sent}
-use Rattle.world.proofs.Logs.{log_same, log_other, arrival_alike, envelopes_more}
+use Rattle.runs.specs.Messages.{Network, log_of, is_up, newly_sent, taken_by, given_input, with_arrival, message_arrives, new_logs, new_network, envelopes}
+use Rattle.runs.specs.Refusals.{node_refusal, arrival_refusal}
+use Rattle.runs.specs.Services.{Service, opening_of}
+use Rattle.runs.specs.declared.config.Config.{Config}
+use Rattle.runs.specs.declared.sent.Sent.{Sent}
+use Rattle.runs.proofs.Logs.{log_same, log_other, arrival_alike, envelopes_more}
 use Rattle.audit.specs.Case.{next, after_next, state_at}
 use Rattle.audit.specs.Placing.{put}
 use Rattle.audit.specs.Records.{is_fit, place_of, number_in, begun_at, RealCase, case_of, AreFit}
@@ -156,14 +156,14 @@ module _ {A : Type 0} (cfg : Config A) (logs : List (NodeLog A)) (transcripts : 
         go (Some log) e = sym (its_place m log e) ∙ ap (λ k. place_of k logs) q ∙ its_place n its.0 its.1
 
     -- a node takes its next input
-    pub takes_at : (n : ℕ) (x : Input A) → next real n (placed n) ≡ Some x → Up placed n → AreAt (one_more placed n) (sent ++ sends (state_at real n (placed n)) x) (takes net (number_of n) x)
+    pub takes_at : (n : ℕ) (x : Input A) → next real n (placed n) ≡ Some x → Up placed n → AreAt (one_more placed n) (sent ++ sends (state_at real n (placed n)) x) (given_input net (number_of n) x)
     takes_at n x comes up =
         go (state_at real n (placed n)) refl up
       where
-        go : (s : Replay A) → state_at real n (placed n) ≡ s → runs s ≡ true → AreAt (one_more placed n) (sent ++ sends s x) (takes net (number_of n) x)
+        go : (s : Replay A) → state_at real n (placed n) ≡ s → runs s ≡ true → AreAt (one_more placed n) (sent ++ sends s x) (given_input net (number_of n) x)
         go None e u = absurd (true≢false (sym u))
         go (Some log) e u =
-            let moved : takes net (number_of n) x ≡ record { logs = set net.logs (number_of n - 1) (logged log x); sent = net.sent ++ newly_sent (sends_of log x) } = ap (taken_by net (number_of n) x) its ∙ rw u refl in
+            let moved : given_input net (number_of n) x ≡ record { logs = set net.logs (number_of n - 1) (logged log x); sent = net.sent ++ newly_sent (sends_of log x) } = ap (taken_by net (number_of n) x) its ∙ rw u refl in
             subst (AreAt (one_more placed n) (sent ++ sends_of log x)) (sym moved) (record {
               nodes = put_apart (λ m k. log_of (number_of m) (set net.logs (number_of n - 1) (logged log x)) ≡ state_at real m k) placed n (suc (placed n))
                   (log_same net.logs (number_of n) log (logged log x) its ∙ sym (ap (λ s. after_next real s (next real n (placed n))) e ∙ ap (after_next real (Some log)) comes))
@@ -200,7 +200,7 @@ module _ {A : Type 0} (cfg : Config A) (logs : List (NodeLog A)) (transcripts : 
   -- a message that was sent arrives
   pub arrives_at : (placed : ℕ → ℕ) (sent : List (Envelope (Command A) A)) (net : Network A) → AreAt placed sent net → (which : ℕ) (e : Envelope (Command A) A) (x : Input A) → slice_get sent which ≡ Some e → brought x ≡ Some e
       → next real (place_of e.to logs) (placed (place_of e.to logs)) ≡ Some x → Up placed (place_of e.to logs)
-      → AreAt (one_more placed (place_of e.to logs)) (sent ++ sends (state_at real (place_of e.to logs) (placed (place_of e.to logs))) x) (arrives net which (slice_get net.sent which))
+      → AreAt (one_more placed (place_of e.to logs)) (sent ++ sends (state_at real (place_of e.to logs) (placed (place_of e.to logs))) x) (message_arrives net which (slice_get net.sent which))
   arrives_at placed sent net at which e x was brings comes up =
       go (slice_get net.sent which) refl
     where
@@ -213,7 +213,7 @@ module _ {A : Type 0} (cfg : Config A) (logs : List (NodeLog A)) (transcripts : 
       again_at = record { nodes = at.nodes; others = at.others; messages = arrival_alike which net.sent ∙ at.messages }
 
       go : (found : Option (Sent A)) → slice_get net.sent which ≡ found
-          → AreAt (one_more placed (place_of e.to logs)) (sent ++ sends (state_at real (place_of e.to logs) (placed (place_of e.to logs))) x) (arrives net which found)
+          → AreAt (one_more placed (place_of e.to logs)) (sent ++ sends (state_at real (place_of e.to logs) (placed (place_of e.to logs))) x) (message_arrives net which found)
       go None f =
           let none : None ≡ Some e = sym (ap (option_map (λ (s : Sent A). s.envelope)) f) ∙ sym (slice_get-map (λ (s : Sent A). s.envelope) net.sent which) ∙ ap (λ es. slice_get es which) at.messages ∙ was in
           absurd (cc)
@@ -221,10 +221,10 @@ module _ {A : Type 0} (cfg : Config A) (logs : List (NodeLog A)) (transcripts : 
           let some : Some s.envelope ≡ Some e = sym (ap (option_map (λ (s : Sent A). s.envelope)) f) ∙ sym (slice_get-map (λ (s : Sent A). s.envelope) net.sent which) ∙ ap (λ es. slice_get es which) at.messages ∙ was in
           let same : s.envelope ≡ e = cc in
           let there : is_up (log_of s.envelope.to net.logs) ≡ true = ap (λ (g : Envelope (Command A) A). is_up (log_of g.to net.logs)) same ∙ ap (λ k. is_up (log_of k net.logs)) (sym number) ∙ is_there placed sent net at (place_of e.to logs) up in
-          let moved : arrives net which (Some s) ≡ takes (record { logs = net.logs; sent = with_arrival which net.sent }) (number_of (place_of e.to logs)) x =
-          rw there (ap (λ (g : Envelope (Command A) A). takes (record { logs = net.logs; sent = with_arrival which net.sent }) g.to (Arrive g)) same
-          ∙ ap (λ k. takes (record { logs = net.logs; sent = with_arrival which net.sent }) k (Arrive e)) (sym number)
-          ∙ ap (takes (record { logs = net.logs; sent = with_arrival which net.sent }) (number_of (place_of e.to logs))) (sym (brought_is x e brings))) in
+          let moved : message_arrives net which (Some s) ≡ given_input (record { logs = net.logs; sent = with_arrival which net.sent }) (number_of (place_of e.to logs)) x =
+          rw there (ap (λ (g : Envelope (Command A) A). given_input (record { logs = net.logs; sent = with_arrival which net.sent }) g.to (Arrive g)) same
+          ∙ ap (λ k. given_input (record { logs = net.logs; sent = with_arrival which net.sent }) k (Arrive e)) (sym number)
+          ∙ ap (given_input (record { logs = net.logs; sent = with_arrival which net.sent }) (number_of (place_of e.to logs))) (sym (brought_is x e brings))) in
           subst (AreAt (one_more placed (place_of e.to logs)) (sent ++ sends (state_at real (place_of e.to logs) (placed (place_of e.to logs))) x)) (sym moved)
           (takes_at placed sent (record { logs = net.logs; sent = with_arrival which net.sent }) again_at (place_of e.to logs) x comes up)
 

@@ -14,17 +14,17 @@ use Rattle.session.specs.Prefix.{IsPrefix}
 use Rattle.session.specs.Serve.{told}
 use Rattle.session.specs.declared.transcript.Transcript.{Transcript}
 use Rattle.session.proofs.AsAlone.{front_taken}
-use Rattle.world.specs.Clients.{Client, client_of}
-use Rattle.world.specs.Messages.{log_of}
-use Rattle.world.specs.Projection.{own_commands, alone_bytes}
-use Rattle.world.specs.Services.{Service, Happening, Occurs, new_service, opening_of, occurs, happens, run_of}
-use Rattle.world.specs.Settling.{ran}
-use Rattle.world.specs.Worlds.{World as Whole, new_world, stepped}
-use Rattle.world.specs.declared.config.Config.{Config}
-use Rattle.world.specs.declared.event.Event as run
-use Rattle.world.proofs.Logs.{new_log_of}
-use Rattle.world.proofs.Prefixes.{all_of, prefix_on}
-use Rattle.world.proofs.Projected.{every_projected}
+use Rattle.runs.specs.Clients.{Client, client_of}
+use Rattle.runs.specs.Messages.{log_of}
+use Rattle.runs.specs.Projection.{own_commands, alone_bytes}
+use Rattle.runs.specs.Services.{Service, Happening, Occurs, new_service, opening_of, occurs, happens, run_of}
+use Rattle.runs.specs.Settling.{ran}
+use Rattle.runs.specs.Worlds.{World as Whole, new_world, stepped}
+use Rattle.runs.specs.declared.config.Config.{Config}
+use Rattle.runs.specs.declared.event.Event as run
+use Rattle.runs.proofs.Logs.{new_log_of}
+use Rattle.runs.proofs.Prefixes.{all_of, prefix_on}
+use Rattle.runs.proofs.Projected.{every_projected}
 use Rattle.audit.specs.Case.{next, after_next, state_at}
 use Rattle.audit.specs.Order.{Awaited, Ends, NothingAwaited, SessionEnds, IsLegalOrder, opening}
 use Rattle.audit.specs.Records.{place_of, inputs_in, number_in, begun_at, RealCase, case_of, AreFit}

@@ -17,7 +17,7 @@ use Rattle.session.specs.declared.state.State.{State}
 use Rattle.session.specs.declared.state.Step.TheVariants.{Ask}
 use Rattle.session.specs.declared.transcript.Asked.{Asked}
 use Rattle.session.specs.declared.transcript.Transcript.{Transcript}
-use Rattle.world.proofs.Fitting.{Fits, StepFits, line_fits}
+use Rattle.runs.proofs.Fitting.{Fits, StepFits, line_fits}
 use Rattle.audit.specs.Case.{EndsIfHangup}
 use Rattle.audit.specs.Records.{case_of}
 use Rattle.audit.specs.Replays.{is_of_lock}

@@ -22,15 +22,15 @@ use Rattle.session.specs.declared.state.Step.TheVariants.{Say, Ask, SayAndClose}
 use Rattle.session.specs.declared.state.Turn.{Turn}
 use Rattle.session.specs.declared.transcript.Transcript.{Transcript}
 use Rattle.std.specs.Option.{option_or}
-use Rattle.world.specs.Clients.{Hears, Waits, Over, Client, new_client, standing_as, told, with_line, asking, stranded, client_of, with_client, all_without_node}
-use Rattle.world.specs.Messages.{Network, log_of, is_up, takes}
-use Rattle.world.specs.Refusals.{node_refusal, refusal_of, unless_known, user_refusal, step_refusal}
-use Rattle.world.specs.Services.{Service, keeps, submits, next_id, after_answer, by_turn, occurs}
-use Rattle.world.specs.Settling.{first_refusal}
-use Rattle.world.specs.Worlds.{World as Whole, stepped}
-use Rattle.world.specs.declared.config.Config.{Config}
-use Rattle.world.specs.declared.event.Event as run
-use Rattle.world.specs.declared.event.Event.TheVariants as happening
+use Rattle.runs.specs.Clients.{Hears, Waits, Over, Client, new_client, standing_as, told, with_line, asking, disconnected, client_of, with_client, all_without_node}
+use Rattle.runs.specs.Messages.{Network, log_of, is_up, given_input}
+use Rattle.runs.specs.Refusals.{node_refusal, refusal_of, unless_known, user_refusal, step_refusal}
+use Rattle.runs.specs.Services.{Service, keeps, submits_for, next_id, after_answer, by_turn, occurs}
+use Rattle.runs.specs.Settling.{first_refusal}
+use Rattle.runs.specs.Worlds.{World as Whole, stepped}
+use Rattle.runs.specs.declared.config.Config.{Config}
+use Rattle.runs.specs.declared.event.Event as run
+use Rattle.runs.specs.declared.event.Event.TheVariants as happening
 use Rattle.audit.specs.Case.{Plain, Asks, next, state_at, asked}
 use Rattle.audit.specs.Order.{Awaited, awaited_by, Session, World, Agrees, Happens, Leads, opening}
 use Rattle.audit.specs.Order as order
@@ -295,10 +295,10 @@ module _ {A : Type 0} (cfg : Config A) (stamps : ℕ → Stamp) (logs : List (No
 
     -- a node that takes an input, once it is a Submit at the number of a client's node
     submitted_at : (n : ℕ) (x : Input A) → next real n (w.placed n) ≡ Some x → Up w.placed n → (number : ℕ) → number ≡ number_of n → (user : List ℕ) (op : Op A) → x ≡ Submit user op
-        → NodesAre (more w.placed n) (w.sent ++ sends (state_at real n (w.placed n)) x) (takes v.network number (Submit user op))
+        → NodesAre (more w.placed n) (w.sent ++ sends (state_at real n (w.placed n)) x) (given_input v.network number (Submit user op))
     submitted_at n x comes up number same user op input =
-        subst (λ k. NodesAre (more w.placed n) (w.sent ++ sends (state_at real n (w.placed n)) x) (takes v.network k (Submit user op))) (sym same)
-        (subst (λ y. NodesAre (more w.placed n) (w.sent ++ sends (state_at real n (w.placed n)) x) (takes v.network (number_of n) y)) input
+        subst (λ k. NodesAre (more w.placed n) (w.sent ++ sends (state_at real n (w.placed n)) x) (given_input v.network k (Submit user op))) (sym same)
+        (subst (λ y. NodesAre (more w.placed n) (w.sent ++ sends (state_at real n (w.placed n)) x) (given_input v.network (number_of n) y)) input
         (takes_at cfg logs transcripts fit service.openings w.placed w.sent v.network f.nodes n x comes up))
 
     its_key : (n : ℕ) (log : NodeLog A) → state_at real n (w.placed n) ≡ Some log → (x : Input A) (user : List ℕ) (op : Op A) → x ≡ Submit user op → (k : CommandId) → asked real (state_at real n (w.placed n)) x ≡ Some k → next_id log user ≡ k
@@ -342,7 +342,7 @@ module _ {A : Type 0} (cfg : Config A) (stamps : ℕ → Stamp) (logs : List (No
           can = line_can cfg v (suc i) b.session.client g.log b.session.there its_log g.up l r.state r.hearing;
           unrefused = λ users. refl;
           follows = subst (Follows (asked_world i n (Some l) x k o ts)) (sym happened)
-              (one_session (more w.placed n) (w.sent ++ sends (state_at real n (w.placed n)) x) (takes v.network later.node (Submit r.user r.op)) i n _ later
+              (one_session (more w.placed n) (w.sent ++ sends (state_at real n (w.placed n)) x) (given_input v.network later.node (Submit r.user r.op)) i n _ later
               (submitted_at n x comes up later.node b.session.node r.user r.op r.input) (before n x comes)
               (b.again (more w.placed n) (record { node = Some n; done = (w.sessions i).done ++ Asks (Some l) x k o ∷ []; left = ts; awaits = Some (record { key = k; outcome = o }) }) (Some later) refl
               (record { client = later; there = refl; transcript = b.session.transcript; its = b.session.its; node = b.session.node; greeted = b.session.greeted; stands = r.stands })));
@@ -354,11 +354,11 @@ module _ {A : Type 0} (cfg : Config A) (stamps : ℕ → Stamp) (logs : List (No
             later : Client A
             later = asking (with_line b.session.client l) k.ticket (Waits (by_line cfg.accounts (stamps i) r.state l).state k)
 
-            happened : occurs cfg v (happening.Line (suc i) l) ≡ submits v (suc i) (asking (with_line b.session.client l) k.ticket (Waits (by_line cfg.accounts (stamps i) r.state l).state k)) r.user r.op
+            happened : occurs cfg v (happening.Line (suc i) l) ≡ submits_for v (suc i) (asking (with_line b.session.client l) k.ticket (Waits (by_line cfg.accounts (stamps i) r.state l).state k)) r.user r.op
             happened =
                 line_asks cfg v (suc i) b.session.client g.log b.session.there its_log g.up l r.state r.user r.op r.hearing (ap (λ st. (by_line cfg.accounts st r.state l).step) b.session.greeted ∙ r.step)
-                ∙ ap (λ st. submits v (suc i) (asking (with_line b.session.client l) ((next_id g.log r.user).ticket) (Waits (by_line cfg.accounts st r.state l).state (next_id g.log r.user))) r.user r.op) b.session.greeted
-                ∙ ap (λ (id : CommandId). submits v (suc i) (asking (with_line b.session.client l) id.ticket (Waits (by_line cfg.accounts (stamps i) r.state l).state id)) r.user r.op) (its_key n g.log g.state x r.user r.op r.input k key)
+                ∙ ap (λ st. submits_for v (suc i) (asking (with_line b.session.client l) ((next_id g.log r.user).ticket) (Waits (by_line cfg.accounts st r.state l).state (next_id g.log r.user))) r.user r.op) b.session.greeted
+                ∙ ap (λ (id : CommandId). submits_for v (suc i) (asking (with_line b.session.client l) id.ticket (Waits (by_line cfg.accounts (stamps i) r.state l).state id)) r.user r.op) (its_key n g.log g.state x r.user r.op r.input k key)
 
     -- a hangup
     pub hangup : (i n : ℕ) (x : Input A) (k : CommandId) (o : Option (Outcome A)) (ts : Turns A) → (w.sessions i).node ≡ Some n → Up w.placed n → (w.sessions i).awaits ≡ None → (w.sessions i).left ≡ Asks None x k o ∷ ts
@@ -388,7 +388,7 @@ module _ {A : Type 0} (cfg : Config A) (stamps : ℕ → Stamp) (logs : List (No
               can = hangup_can cfg v (suc i) b.session.client g.log b.session.there its_log g.up r.state r.hearing;
               unrefused = λ users. refl;
               follows = subst (Follows (asked_world i n None x k o ts)) (sym (hangup_frees cfg v (suc i) b.session.client g.log b.session.there its_log g.up r.state r.user r.lock r.hearing r.due))
-                  (one_session (more w.placed n) (w.sent ++ sends (state_at real n (w.placed n)) x) (takes v.network b.session.client.node (Submit r.user (Free r.lock))) i n _ (standing_as b.session.client Over)
+                  (one_session (more w.placed n) (w.sent ++ sends (state_at real n (w.placed n)) x) (given_input v.network b.session.client.node (Submit r.user (Free r.lock))) i n _ (standing_as b.session.client Over)
                   (submitted_at n x comes up b.session.client.node b.session.node r.user (Free r.lock) r.input) (before n x comes)
                   (b.again (more w.placed n) (record { node = Some n; done = (w.sessions i).done ++ Asks None x k o ∷ []; left = ts; awaits = None }) (Some (standing_as b.session.client Over)) refl
                   (record { client = standing_as b.session.client Over; there = refl; transcript = b.session.transcript; its = b.session.its; node = b.session.node; greeted = b.session.greeted; stands = inr r.over })));
@@ -470,9 +470,9 @@ module _ {A : Type 0} (cfg : Config A) (stamps : ℕ → Stamp) (logs : List (No
       sessions = λ j. later_followed w.placed placed up_earlier j (w.sessions j) (client_of (suc j) v.clients) (f.sessions j);
     }
 
-    takes_input : (n : ℕ) (x : Input A) → next real n (w.placed n) ≡ Some x → Up w.placed n → Follows (given_world n x) (record { network = takes v.network (number_of n) x; clients = v.clients })
+    takes_input : (n : ℕ) (x : Input A) → next real n (w.placed n) ≡ Some x → Up w.placed n → Follows (given_world n x) (record { network = given_input v.network (number_of n) x; clients = v.clients })
     takes_input n x comes up =
-        at_nodes_alone (more w.placed n) (w.sent ++ sends (state_at real n (w.placed n)) x) (takes v.network (number_of n) x)
+        at_nodes_alone (more w.placed n) (w.sent ++ sends (state_at real n (w.placed n)) x) (given_input v.network (number_of n) x)
         (takes_at cfg logs transcripts fit service.openings w.placed w.sent v.network f.nodes n x comes up) (before n x comes)
 
     -- a Take, a Commit or a Free is asked for
@@ -491,8 +491,8 @@ module _ {A : Type 0} (cfg : Config A) (stamps : ℕ → Stamp) (logs : List (No
     crash_session n comes up j m left awaits x =
         go (x.client.node == number_of n) refl
       where
-        there : (t : Bool) → (x.client.node == number_of n) ≡ t → client_of (suc j) (all_without_node (number_of n) v.clients) ≡ Some (cond t (standing_as x.client (stranded x.client.standing)) x.client)
-        there t e = client_without (number_of n) (suc j) v.clients x.client x.there ∙ ap (λ u. Some (cond u (standing_as x.client (stranded x.client.standing)) x.client)) e
+        there : (t : Bool) → (x.client.node == number_of n) ≡ t → client_of (suc j) (all_without_node (number_of n) v.clients) ≡ Some (cond t (standing_as x.client (disconnected x.client.standing)) x.client)
+        there t e = client_without (number_of n) (suc j) v.clients x.client x.there ∙ ap (λ u. Some (cond u (standing_as x.client (disconnected x.client.standing)) x.client)) e
 
         down : (x.client.node == number_of n) ≡ true → Up (more w.placed n) m → ⊥
         down e =
@@ -501,13 +501,13 @@ module _ {A : Type 0} (cfg : Config A) (stamps : ℕ → Stamp) (logs : List (No
 
         go : (t : Bool) → (x.client.node == number_of n) ≡ t → IsSession (more w.placed n) j m left awaits (client_of (suc j) (all_without_node (number_of n) v.clients))
         go true e = record {
-          client = standing_as x.client (stranded x.client.standing);
+          client = standing_as x.client (disconnected x.client.standing);
           there = there true e;
           transcript = x.transcript;
           its = x.its;
           node = x.node;
           greeted = x.greeted;
-          stands = stands_down cfg.accounts (stamps j) x.transcript (Up w.placed m) (Up (more w.placed n) m) (down e) left awaits x.client (stranded x.client.standing) x.stands;
+          stands = stands_down cfg.accounts (stamps j) x.transcript (Up w.placed m) (Up (more w.placed n) m) (down e) left awaits x.client (disconnected x.client.standing) x.stands;
         }
         go false e = record {
           client = x.client;

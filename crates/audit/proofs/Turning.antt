@@ -11,7 +11,7 @@ use Rattle.audit.specs.Events.{kinds, behind}
 use Rattle.audit.specs.Speakers.{asked_kind}
 use Rattle.audit.specs.Turns.{Turns, asks, asks_by, hangups, is_of_line, turn_of, turns_from}
 use Rattle.audit.specs.declared.kind.Kind.{Kind}
-use Rattle.audit.specs.declared.kind.Kind.TheVariants.{Says, Begs, Leaves}
+use Rattle.audit.specs.declared.kind.Kind.TheVariants.{PlainLine, AskingLine, Hangup}
 use Rattle.audit.proofs.Naming.{drop_got}
 
 drop_more : {X : Type 0} (xs : List X) (k : ℕ) → k < length xs → (x : X) × (drop k xs ≡ x ∷ drop (suc k) xs)
@@ -26,40 +26,40 @@ drop_behind kinds k next h is =
     ap (λ n. drop n kinds) is ∙ sym (ap behind (drop_more kinds k h).1)
 
 module _ {A : Type 0} where
-  begs : (line : Line) (entry : Asked A) (ticket : Option Ticket) (rest : Turns A) → kinds (asks_by (Some line) entry ticket ++ rest) ≡ asked_kind Begs ticket ++ kinds rest
-  begs line entry None rest = refl
-  begs line entry (Some ticket) rest = refl
+  asking_event : (line : Line) (entry : Asked A) (ticket : Option Ticket) (rest : Turns A) → kinds (asks_by (Some line) entry ticket ++ rest) ≡ asked_kind AskingLine ticket ++ kinds rest
+  asking_event line entry None rest = refl
+  asking_event line entry (Some ticket) rest = refl
 
-  leaves : (entry : Asked A) (ticket : Option Ticket) (rest : Turns A) → kinds (asks_by None entry ticket ++ rest) ≡ asked_kind Leaves ticket ++ kinds rest
+  leaves : (entry : Asked A) (ticket : Option Ticket) (rest : Turns A) → kinds (asks_by None entry ticket ++ rest) ≡ asked_kind Hangup ticket ++ kinds rest
   leaves entry None rest = refl
   leaves entry (Some ticket) rest = refl
 
   -- a line that asks
-  pub line_asks : (number next after : ℕ) (entries : List (Asked A)) (entry : Asked A) (old new : List Kind) (own : Bool) → slice_get entries next ≡ Some entry → after ≡ suc next → own ≡ is_of_line number entry.line → own ≡ true → new ≡ old ++ asked_kind Begs entry.ticket
+  pub line_asks : (number next after : ℕ) (entries : List (Asked A)) (entry : Asked A) (old new : List Kind) (own : Bool) → slice_get entries next ≡ Some entry → after ≡ suc next → own ≡ is_of_line number entry.line → own ≡ true → new ≡ old ++ asked_kind AskingLine entry.ticket
       → (line : Line) (lines : List Line) → old ++ kinds (turns_from number (line ∷ lines) (drop next entries)) ≡ new ++ kinds (turns_from (suc number) lines (drop after entries))
   line_asks number next after entries entry old new own at is its asks_it pushed line lines =
       ap (λ es. old ++ kinds (turn_of number line (turns_from (suc number) lines) es)) (drop_got entries next entry at)
       ∙ ap (λ t. old ++ kinds (cond t (asks (Some line) entry ++ turns_from (suc number) lines (drop (suc next) entries)) (Plain line ∷ turns_from (suc number) lines (entry ∷ drop (suc next) entries)))) (sym its ∙ asks_it)
-      ∙ ap (λ ks. old ++ ks) (begs line entry entry.ticket (turns_from (suc number) lines (drop (suc next) entries)))
-      ∙ sym (append_assoc old (asked_kind Begs entry.ticket) (kinds (turns_from (suc number) lines (drop (suc next) entries))))
+      ∙ ap (λ ks. old ++ ks) (asking_event line entry entry.ticket (turns_from (suc number) lines (drop (suc next) entries)))
+      ∙ sym (append_assoc old (asked_kind AskingLine entry.ticket) (kinds (turns_from (suc number) lines (drop (suc next) entries))))
       ∙ ap (λ ks. ks ++ kinds (turns_from (suc number) lines (drop (suc next) entries))) (sym pushed)
       ∙ ap (λ k. new ++ kinds (turns_from (suc number) lines (drop k entries))) (sym is)
 
   -- a line that doesn't
-  pub line_says : (number next : ℕ) (entries : List (Asked A)) (entry : Asked A) (old new : List Kind) (own : Bool) → slice_get entries next ≡ Some entry → own ≡ is_of_line number entry.line → own ≡ false → new ≡ old ++ Says ∷ []
+  pub line_says : (number next : ℕ) (entries : List (Asked A)) (entry : Asked A) (old new : List Kind) (own : Bool) → slice_get entries next ≡ Some entry → own ≡ is_of_line number entry.line → own ≡ false → new ≡ old ++ PlainLine ∷ []
       → (line : Line) (lines : List Line) → old ++ kinds (turns_from number (line ∷ lines) (drop next entries)) ≡ new ++ kinds (turns_from (suc number) lines (drop next entries))
   line_says number next entries entry old new own at its other pushed line lines =
       ap (λ es. old ++ kinds (turn_of number line (turns_from (suc number) lines) es)) (drop_got entries next entry at)
       ∙ ap (λ t. old ++ kinds (cond t (asks (Some line) entry ++ turns_from (suc number) lines (drop (suc next) entries)) (Plain line ∷ turns_from (suc number) lines (entry ∷ drop (suc next) entries)))) (sym its ∙ other)
-      ∙ sym (append_assoc old (Says ∷ []) (kinds (turns_from (suc number) lines (entry ∷ drop (suc next) entries))))
+      ∙ sym (append_assoc old (PlainLine ∷ []) (kinds (turns_from (suc number) lines (entry ∷ drop (suc next) entries))))
       ∙ ap (λ ks. ks ++ kinds (turns_from (suc number) lines (entry ∷ drop (suc next) entries))) (sym pushed)
       ∙ ap (λ es. new ++ kinds (turns_from (suc number) lines es)) (sym (drop_got entries next entry at))
 
-  pub last_says : (number next : ℕ) (entries : List (Asked A)) (old new : List Kind) → length entries ≤ next → new ≡ old ++ Says ∷ []
+  pub last_says : (number next : ℕ) (entries : List (Asked A)) (old new : List Kind) → length entries ≤ next → new ≡ old ++ PlainLine ∷ []
       → (line : Line) (lines : List Line) → old ++ kinds (turns_from number (line ∷ lines) (drop next entries)) ≡ new ++ kinds (turns_from (suc number) lines (drop next entries))
   last_says number next entries old new past pushed line lines =
       ap (λ (es : List (Asked A)). old ++ kinds (turn_of number line (turns_from (suc number) lines) es)) (drop_of_length-le entries past)
-      ∙ sym (append_assoc old (Says ∷ []) (kinds (turns_from {A = A} (suc number) lines [])))
+      ∙ sym (append_assoc old (PlainLine ∷ []) (kinds (turns_from {A = A} (suc number) lines [])))
       ∙ ap (λ ks. ks ++ kinds (turns_from {A = A} (suc number) lines [])) (sym pushed)
       ∙ ap (λ (es : List (Asked A)). new ++ kinds (turns_from (suc number) lines es)) (sym (drop_of_length-le entries past))
 
@@ -77,13 +77,13 @@ module _ {A : Type 0} where
   lines_end number next lines entries start now all past so_far =
       so_far ∙ ap (λ ls. now ++ kinds (turns_from number ls (drop next entries))) (drop_of_length-le lines past)
 
-  pub hangup_next : (number on : ℕ) (entries : List (Asked A)) (entry : Asked A) (old new all : List Kind) → slice_get entries number ≡ Some entry → on ≡ suc number → all ≡ old ++ kinds (hangups (drop number entries)) → new ≡ old ++ asked_kind Leaves entry.ticket
+  pub hangup_next : (number on : ℕ) (entries : List (Asked A)) (entry : Asked A) (old new all : List Kind) → slice_get entries number ≡ Some entry → on ≡ suc number → all ≡ old ++ kinds (hangups (drop number entries)) → new ≡ old ++ asked_kind Hangup entry.ticket
       → all ≡ new ++ kinds (hangups (drop on entries))
   hangup_next number on entries entry old new all at is so_far pushed =
       so_far
       ∙ ap (λ es. old ++ kinds (hangups es)) (drop_got entries number entry at)
       ∙ ap (λ ks. old ++ ks) (leaves entry entry.ticket (hangups (drop (suc number) entries)))
-      ∙ sym (append_assoc old (asked_kind Leaves entry.ticket) (kinds (hangups (drop (suc number) entries))))
+      ∙ sym (append_assoc old (asked_kind Hangup entry.ticket) (kinds (hangups (drop (suc number) entries))))
       ∙ ap (λ ks. ks ++ kinds (hangups (drop (suc number) entries))) (sym pushed)
       ∙ ap (λ n. new ++ kinds (hangups (drop n entries))) (sym is)
 

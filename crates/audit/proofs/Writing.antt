@@ -10,7 +10,7 @@ use Rattle.audit.specs.declared.event.Event.{Event}
 use Rattle.audit.specs.declared.placement.Placement.{Placement}
 use Rattle.audit.specs.declared.event.Event.TheVariants as event
 use Rattle.audit.specs.declared.placement.Source.{Source}
-use Rattle.audit.specs.declared.placement.Source.TheVariants.{Last, FromSession}
+use Rattle.audit.specs.declared.placement.Source.TheVariants.{Own, Last, Message, FromSession}
 use Rattle.audit.proofs.Naming.{drop_got}
 use Rattle.audit.proofs.Seats.{set_got}
 
@@ -52,6 +52,18 @@ module _ (number at : ℕ → ℕ) (answered : ℕ → Bool) (sessions : ℕ) wh
   last_one talks n its source old new speakers is same h =
       subst (λ s. (new ≡ old ++ events_of number at answered sessions talks n s) × AreSpeakers at answered (talks_after number at answered sessions talks n s) speakers) (sym is)
       (h.0 ∙ ap (λ k. old ++ (all_go_on (λ i. at i == n) answered talks sessions ++ event.Given k ∷ [])) same, h.1)
+
+  pub own_one : (talks : ℕ → Talk) (n its : ℕ) (source : Source) (old new : List Event) (speakers : List Speaker) → source ≡ Own → its ≡ number n → AreSpeakers at answered talks speakers → new ≡ old ++ event.Given its ∷ []
+      → (new ≡ old ++ events_of number at answered sessions talks n source) × AreSpeakers at answered (talks_after number at answered sessions talks n source) speakers
+  own_one talks n its source old new speakers is same h e =
+      subst (λ s. (new ≡ old ++ events_of number at answered sessions talks n s) × AreSpeakers at answered (talks_after number at answered sessions talks n s) speakers) (sym is)
+      (e ∙ ap (λ k. old ++ event.Given k ∷ []) same, h)
+
+  pub message_one : (talks : ℕ → Talk) (n which : ℕ) (source : Source) (old new : List Event) (speakers : List Speaker) → source ≡ Message which → AreSpeakers at answered talks speakers → new ≡ old ++ event.Arrive which ∷ []
+      → (new ≡ old ++ events_of number at answered sessions talks n source) × AreSpeakers at answered (talks_after number at answered sessions talks n source) speakers
+  message_one talks n which source old new speakers is h e =
+      subst (λ s. (new ≡ old ++ events_of number at answered sessions talks n s) × AreSpeakers at answered (talks_after number at answered sessions talks n s) speakers) (sym is)
+      (e, h)
 
   -- the events of these placements are written, and the others aren't
   pub record Writ (start : List Event) (begun : ℕ → Talk) (placements : List Placement) (k : ℕ) (events : List Event) (speakers : List Speaker) : Type 0 where

@@ -12,7 +12,7 @@ use Rattle.audit.specs.declared.kind.Kind.{Kind}
 use Rattle.audit.specs.declared.placement.Placement.{Placement}
 use Rattle.audit.specs.declared.placement.Source.{Source}
 use Rattle.audit.specs.declared.placement.Source.TheVariants.{Own, Last, Message, FromSession}
-use Rattle.audit.specs.Events.{Talk, kinds, goes_on, gone_on, begs, behind, kind_of, asking as asks_on, awaits_after, asked_on, events_of, talks_after, events_from, all_go_on, all_gone_on}
+use Rattle.audit.specs.Events.{Talk, kinds, goes_on, gone_on, asking_event, behind, kind_of, asking as asks_on, awaits_after, asked_on, events_of, talks_after, events_from, all_go_on, all_gone_on}
 use Rattle.audit.specs.Order.{Awaited, awaited_by, Session, World, Runs, Submits, Happens, Leads, Ends, NothingAwaited, SessionEnds, IsNamedOnce, AreTicketed, IsLegalOrder}
 use Rattle.audit.specs.Laws.{Laws, AllBegin}
 use Rattle.audit.specs.Right.{IsRight, HasNoLine, AreRight, NoneWrong}
@@ -294,9 +294,9 @@ module _ {S I E K O L : Type 0} (a : Case S I E K O L) (laws : Laws a) (begins :
       blank_stays true b = refl
       blank_stays false b = refl
 
-  begs_is : (i : ℕ) (line : Option L) (x : I) (k : K) (o : Option O) (ks : List Kind) → begs i (kind_of (Asks line x k o) ∷ ks) ≡ asked_event i line ∷ []
-  begs_is i None x k o ks = refl
-  begs_is i (Some l) x k o ks = refl
+  asking_event_is : (i : ℕ) (line : Option L) (x : I) (k : K) (o : Option O) (ks : List Kind) → asking_event i (kind_of (Asks line x k o) ∷ ks) ≡ asked_event i line ∷ []
+  asking_event_is i None x k o ks = refl
+  asking_event_is i (Some l) x k o ks = refl
 
   awaits_is : (line : Option L) (x : I) (k : K) (o : Option O) (ks : List Kind) → is_some (awaited_by line k o) ≡ awaits_after (kind_of (Asks line x k o) ∷ ks)
   awaits_is None x k o ks = refl
@@ -399,10 +399,10 @@ module _ {S I E K O L : Type 0} (a : Case S I E K O L) (laws : Laws a) (begins :
       let told : kinds (F i).left ≡ (gone_on true (talks i)).left = ap (λ (w : Session I K O L). kinds w.left) at_i ∙ g.fits.told.left in
       let new = asked_session n (F i).done r.line x key r.outcome r.rest in
       let happens = asks_now q n x sent F i ts key r is up brings asks (z.node ∙ ap (λ m. Some m) n_at) (awaits_none q i ts x key script r (F i) z c) left in
-      let begs_so : begs i (gone_on true (talks i)).left ≡ asked_event i r.line ∷ [] = ap (begs i) (sym told ∙ ap kinds left) ∙ begs_is i r.line x key r.outcome (kinds r.rest) in
+      let asking_event_so : asking_event i (gone_on true (talks i)).left ≡ asked_event i r.line ∷ [] = ap (asking_event i) (sym told ∙ ap kinds left) ∙ asking_event_is i r.line x key r.outcome (kinds r.rest) in
       record {
         sessions = put F i new;
-        leads = subst (λ es. Leads a (the_world a q sent f) (goes_on i true (talks i) ++ es) (the_world a (more q n) (sent ++ a.sends (state_at a n (q n)) x) (put F i new))) (sym begs_so)
+        leads = subst (λ es. Leads a (the_world a q sent f) (goes_on i true (talks i) ++ es) (the_world a (more q n) (sent ++ a.sends (state_at a n (q n)) x) (put F i new))) (sym asking_event_so)
             (leads_on a (goes_on i true (talks i)) (asked_event i r.line ∷ []) _ _ _ g.leads (the_world a (more q n) (sent ++ a.sends (state_at a n (q n)) x) (put F i new), happens, refl));
         standing = record {
           all_sent = sent_after q sent n x is st.all_sent;

@@ -5,16 +5,16 @@ use Rattle.audit.specs.Placing.{put}
 use Rattle.audit.specs.declared.event.Event.{Event}
 use Rattle.audit.specs.declared.event.Event.TheVariants as event
 use Rattle.audit.specs.declared.kind.Kind.{Kind}
-use Rattle.audit.specs.declared.kind.Kind.TheVariants.{Says, Begs, Leaves}
+use Rattle.audit.specs.declared.kind.Kind.TheVariants.{PlainLine, AskingLine, Hangup}
 use Rattle.audit.specs.declared.placement.Placement.{Placement}
 use Rattle.audit.specs.declared.placement.Source.{Source}
 use Rattle.audit.specs.declared.placement.Source.TheVariants.{Own, Last, Message, FromSession}
 
 module _ {I K O L : Type 0} where
   abbrev pub kind_of : Turn I K O L → Kind
-  kind_of (Plain line) = Says
-  kind_of (Asks (Some line) input key outcome) = Begs
-  kind_of (Asks None input key outcome) = Leaves
+  kind_of (Plain line) = PlainLine
+  kind_of (Asks (Some line) input key outcome) = AskingLine
+  kind_of (Asks None input key outcome) = Hangup
 
   abbrev pub kinds : List (Turn I K O L) → List Kind
   kinds [] = []
@@ -28,15 +28,15 @@ pub record Talk : Type 0 where
 -- the lines up to the next turn that asks
 abbrev pub said : ℕ → List Kind → List Event
 said i [] = []
-said i (Says ∷ ks) = event.Line i ∷ said i ks
-said i (Begs ∷ ks) = []
-said i (Leaves ∷ ks) = []
+said i (PlainLine ∷ ks) = event.Line i ∷ said i ks
+said i (AskingLine ∷ ks) = []
+said i (Hangup ∷ ks) = []
 
 abbrev pub unsaid : List Kind → List Kind
 unsaid [] = []
-unsaid (Says ∷ ks) = unsaid ks
-unsaid (Begs ∷ ks) = Begs ∷ ks
-unsaid (Leaves ∷ ks) = Leaves ∷ ks
+unsaid (PlainLine ∷ ks) = unsaid ks
+unsaid (AskingLine ∷ ks) = AskingLine ∷ ks
+unsaid (Hangup ∷ ks) = Hangup ∷ ks
 
 abbrev pub collected : ℕ → Bool → List Event
 collected i asked = if asked then event.Collect i ∷ [] else []
@@ -49,22 +49,22 @@ abbrev pub gone_on : Bool → Talk → Talk
 gone_on answered talk = if talk.asked && not answered then talk else record { left = unsaid talk.left; asked = false }
 
 -- its turn to ask
-abbrev pub begs : ℕ → List Kind → List Event
-begs i [] = []
-begs i (Says ∷ ks) = []
-begs i (Begs ∷ ks) = event.Line i ∷ []
-begs i (Leaves ∷ ks) = event.Hangup i ∷ []
+abbrev pub asking_event : ℕ → List Kind → List Event
+asking_event i [] = []
+asking_event i (PlainLine ∷ ks) = []
+asking_event i (AskingLine ∷ ks) = event.Line i ∷ []
+asking_event i (Hangup ∷ ks) = event.Hangup i ∷ []
 
 abbrev pub behind : List Kind → List Kind
 behind [] = []
 behind (k ∷ ks) = ks
 
 abbrev pub asking : ℕ → Talk → List Event
-asking i talk = goes_on i true talk ++ begs i (gone_on true talk).left
+asking i talk = goes_on i true talk ++ asking_event i (gone_on true talk).left
 
 -- a line awaits an answer, and a hangup none
 abbrev pub awaits_after : List Kind → Bool
-awaits_after (Begs ∷ ks) = true
+awaits_after (AskingLine ∷ ks) = true
 awaits_after ks = false
 
 abbrev pub asked_on : Talk → Talk

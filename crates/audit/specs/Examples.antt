@@ -29,7 +29,7 @@ module _ (A : Type 0) (limits : Limits) where
   alice = 97 ∷ []
 
   abbrev log_of : ℕ → List (Input A) → NodeLog A
-  log_of me inputs = record { opening = record { me = me; cluster = 1; window = 5; names = alice ∷ []; limits = limits }; inputs = inputs }
+  log_of me inputs = record { opening = record { me = me; cluster = 1; window = 5; names = alice ∷ []; limits = limits; kept = []; keys = 0 }; inputs = inputs }
 
   abbrev asks_for_votes : Envelope (Command A) A
   asks_for_votes = record { from = 1; to = 1; message = P1a (record { round = 0; leader = 1 }) }

@@ -18,10 +18,10 @@ use Rattle.session.specs.Serve.{told}
 use Rattle.session.specs.declared.transcript.Asked.{Asked}
 use Rattle.session.specs.declared.transcript.End.TheVariants.{Closed, DeskStopped}
 use Rattle.session.specs.declared.transcript.Transcript.{Transcript}
-use Rattle.world.specs.Clients.{client_of}
-use Rattle.world.specs.Services.{Happening, Occurs, run_of}
-use Rattle.world.specs.declared.config.Config.{Config}
-use Rattle.world.specs.declared.event.Event.TheVariants as event
+use Rattle.runs.specs.Clients.{client_of}
+use Rattle.runs.specs.Services.{Happening, Occurs, run_of}
+use Rattle.runs.specs.declared.config.Config.{Config}
+use Rattle.runs.specs.declared.event.Event.TheVariants as event
 use Rattle.audit.specs.Records.{RealCase, case_of}
 use Rattle.audit.specs.Runs.{line_tickets, AreItsLines}
 use Rattle.audit.specs.Wrong.{first_wrong}
@@ -31,7 +31,7 @@ module _ (A : Type 0) (limits : Limits) where
   alice = codes "alice"
 
   abbrev pub cfg : Config A
-  cfg = record { accounts = record { name = alice; method = Pass; secret = codes "s" } ∷ []; limits = limits; cluster = 1; window = 5 }
+  cfg = record { accounts = record { name = alice; method = Pass; secret = codes "s" } ∷ []; limits = limits; cluster = 1; window = 5; kept = []; keys = 0 }
 
   abbrev pub stamp : Stamp
   stamp = record { nonce = codes "1.1"; host = codes "localhost" }

@@ -14,16 +14,16 @@ use Rattle.session.specs.Prefix.{IsPrefix}
 use Rattle.session.specs.Serve.{IsTranscript, IsWritten, told}
 use Rattle.session.specs.declared.transcript.Asked.{Asked}
 use Rattle.session.specs.declared.transcript.Transcript.{Transcript}
-use Rattle.world.specs.Clients.{Client, client_of}
-use Rattle.world.specs.Messages.{log_of}
-use Rattle.world.specs.Projection.{IsUserOf, own_commands, alone_bytes}
-use Rattle.world.specs.Refusals.{refusal_of}
-use Rattle.world.specs.Services.{Service, new_service, occurs, opening_of}
-use Rattle.world.specs.Settling.{ran, first_refusal}
-use Rattle.world.specs.Worlds.{new_world}
-use Rattle.world.specs.declared.config.Config.{Config}
-use Rattle.world.specs.declared.event.Event as run
-use Rattle.world.specs.declared.event.Event.TheVariants as happening
+use Rattle.runs.specs.Clients.{Client, client_of}
+use Rattle.runs.specs.Messages.{log_of}
+use Rattle.runs.specs.Projection.{IsUserOf, own_commands, alone_bytes}
+use Rattle.runs.specs.Refusals.{refusal_of}
+use Rattle.runs.specs.Services.{Service, new_service, occurs, opening_of}
+use Rattle.runs.specs.Settling.{ran, first_refusal}
+use Rattle.runs.specs.Worlds.{new_world}
+use Rattle.runs.specs.declared.config.Config.{Config}
+use Rattle.runs.specs.declared.event.Event as run
+use Rattle.runs.specs.declared.event.Event.TheVariants as happening
 use Rattle.audit.specs.Records.{place_of}
 use Rattle.audit.specs.Replays.{is_of_lock}
 use Rattle.audit.specs.declared.event.Event.{Event}

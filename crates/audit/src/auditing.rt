@@ -1,7 +1,7 @@
 //! An audit: inputs are placed until none can be placed, answers are held against the logs, and the events are written down.
 ghost use Rattle.std.specs.Prelude.{◌≡◌, ℕ, length, None, IfOk, IfErr, []};
 ghost use Rattle.apop.specs.Stamp.{Stamp};
-ghost use Rattle.world.specs.declared.config.Config.{Config};
+ghost use Rattle.runs.specs.declared.config.Config.{Config};
 ghost use Rattle.audit.specs.Audits.{IsWhole, IsCause, HasNoOrder};
 ghost use Rattle.audit.specs.Checks.{AreReplayed};
 ghost use Rattle.audit.specs.Findings.{IsFound};

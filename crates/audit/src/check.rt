@@ -15,7 +15,7 @@ ghost use Rattle.audit.specs.Checks.{AreFound, IsLeft, AreLeft, AreAllNumbered, 
 ghost use Rattle.audit.specs.Checks as spec;
 
 use crate::home::{first_node, place_of};
-use crate::names::Names;
+use crate::command_index::CommandIndex;
 use crate::numbers::Numbers;
 use crate::outcomes::Outcomes;
 use maildrop::{CommandId, Outcome};
@@ -36,7 +36,7 @@ fn is_answer<A: Allocator + Copy>(outcome: &Option<Outcome<A>>, answer: &Option<
 
 /// Whether the first entry that names the command is the one of this number in this session.
 fn is_first<A: Allocator + Copy>(
-    names: &Names<A>,
+    names: &CommandIndex<A>,
     id: CommandId,
     session: usize,
     number: usize,
@@ -101,7 +101,7 @@ fn is_right<A: Allocator + Copy>(
 /// Checks an entry, and takes the answer that it tells of.
 fn check_entry<A: Allocator + Copy>(
     log: &NodeLog<A>,
-    names: &Names<A>,
+    names: &CommandIndex<A>,
     numbers: &Numbers<A>,
     outcomes: &mut Outcomes<A>,
     session: usize,
@@ -127,7 +127,7 @@ fn check_entry<A: Allocator + Copy>(
 /// Checks entries at the node of a log.
 fn check_entries<A: Allocator + Copy>(
     log: &NodeLog<A>,
-    names: &Names<A>,
+    names: &CommandIndex<A>,
     numbers: &Numbers<A>,
     outcomes: &mut Outcomes<A>,
     session: usize,
@@ -161,7 +161,7 @@ fn has_untold<A: Allocator + Copy>(entries: &[Asked<A>]) -> bool
 /// Checks the entries of a session.
 fn check_session<A: Allocator + Copy>(
     logs: &[NodeLog<A>],
-    names: &Names<A>,
+    names: &CommandIndex<A>,
     numbers: &[Numbers<A>],
     outcomes: &mut [Outcomes<A>],
     session: usize,
@@ -197,7 +197,7 @@ fn check_session<A: Allocator + Copy>(
 pub(crate) fn first_wrong<A: Allocator + Copy>(
     logs: &[NodeLog<A>],
     transcripts: &[Transcript<A>],
-    names: &Names<A>,
+    names: &CommandIndex<A>,
     numbers: &[Numbers<A>],
     outcomes: &mut [Outcomes<A>],
 ) -> Option<usize>

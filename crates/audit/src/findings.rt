@@ -3,7 +3,7 @@ ghost use Rattle.std.specs.Prelude.{IfOk};
 ghost use Rattle.audit.specs.Checks.{AreAllNumbered};
 ghost use Rattle.audit.specs.Findings.{IsFound};
 
-use crate::names::{Names, names_of};
+use crate::command_index::{CommandIndex, index_of};
 use crate::numbers::{Numbers, numbers_of};
 use ballot::Memory;
 use node::NodeLog;
@@ -13,7 +13,7 @@ use std::alloc::{Allocator, Global};
 /// What logs and transcripts tell by themselves.
 #[derive(Drop)]
 pub(crate) struct Findings<A: Allocator + Copy = Global> {
-    pub(crate) names: Names<A>,
+    pub(crate) names: CommandIndex<A>,
     /// The tickets of each log.
     pub(crate) numbers: Vec<Numbers<A>, A>,
 }
@@ -41,7 +41,7 @@ pub(crate) fn findings_of<A: Allocator + Copy>(
 ) -> Result<Findings<A>, Memory>
     ensures { IfOk result (IsFound logs.now transcripts.now) }
 {
-    let names = names_of(alloc, transcripts)?;
+    let names = index_of(alloc, transcripts)?;
     let numbers = number_all(alloc, logs)?;
     Ok(Findings { names, numbers })
 }

@@ -4,9 +4,9 @@
 #[derive(Clone, Copy, Debug, PartialEq, Eq)]
 pub(crate) enum Kind {
     /// A line comes that asks for no operation.
-    Says,
+    PlainLine,
     /// A line comes that asks for one.
-    Begs,
+    AskingLine,
     /// The client is gone, and the lock is given back.
-    Leaves,
+    Hangup,
 }

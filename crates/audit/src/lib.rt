@@ -5,6 +5,7 @@
 mod audit_error;
 mod auditing;
 mod check;
+mod command_index;
 mod different_names;
 mod envelope;
 mod event;
@@ -14,7 +15,6 @@ mod kind;
 mod last_answers;
 mod laws;
 mod left;
-mod names;
 mod numbers;
 mod outcomes;
 mod pass;

@@ -41,14 +41,7 @@ fn begin<A: Allocator + Copy>(alloc: A, log: &NodeLog<A>) -> Result<Option<Node<
     if !are_all_different(alloc, log.opening.names.get())? {
         return Ok(None);
     }
-    Node::new(
-        alloc,
-        log.opening.me,
-        log.opening.cluster,
-        log.opening.window,
-        log.opening.names.get(),
-        log.opening.limits,
-    )
+    Node::open(alloc, log.opening.copy_for(alloc, log.opening.me)?)
 }
 
 /// One more than a count, where it can be counted.

@@ -6,9 +6,9 @@ ghost use Rattle.std.specs.Prelude.{◌≡◌, ◌<◌, ◌≤◌, ℕ, suc, len
 ghost use Rattle.apop.specs.Stamp.{Stamp};
 ghost use Rattle.node.specs.declared.log.NodeLog.{NodeLog};
 ghost use Rattle.session.specs.declared.transcript.Transcript.{Transcript};
-ghost use Rattle.world.specs.Clients.{Client, client_of};
-ghost use Rattle.world.specs.Services.{Happening, opening_of, run_of};
-ghost use Rattle.world.specs.declared.config.Config.{Config};
+ghost use Rattle.runs.specs.Clients.{Client, client_of};
+ghost use Rattle.runs.specs.Services.{Happening, opening_of, run_of};
+ghost use Rattle.runs.specs.declared.config.Config.{Config};
 ghost use Rattle.audit.specs.Order.{IsLegalOrder};
 ghost use Rattle.audit.specs.Records.{is_fit, AreFit, case_of};
 ghost use Rattle.audit.specs.Runs.{AreInOrder, AreOfService, IsRunOf, IsTaken, AreCounted, AreSaidAlone};

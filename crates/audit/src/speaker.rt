@@ -1,6 +1,6 @@
 //! A session, as its events are written down.
 ghost use Rattle.std.specs.Prelude.{◌≡◌, ◌≤◌, ◌++◌, [], false, length, drop, IfOk, OnOk, if◌then◌else◌};
-ghost use Rattle.audit.specs.Events.{said, unsaid, collected, goes_on, gone_on, begs, behind, awaits_after as spec_after, asking, asked_on};
+ghost use Rattle.audit.specs.Events.{said, unsaid, collected, goes_on, gone_on, asking_event, behind, awaits_after as spec_after, asking, asked_on};
 ghost use Rattle.audit.specs.Speakers as spec;
 
 use crate::event::Event;
@@ -43,7 +43,7 @@ fn say_lines<A: Allocator + Copy>(
     ensures events { OnOk result (events.new.items ≡ events.old.items ++ said session kinds.now) }
 {
     for (count, kind) in kinds.iter().enumerate() {
-        if *kind != Kind::Says {
+        if *kind != Kind::PlainLine {
             return Ok(count);
         }
         events.push(Event::Line(session))?;
@@ -71,12 +71,12 @@ fn beg<A: Allocator + Copy>(
     kinds: &[Kind],
     events: &mut Vec<Event, A>,
 ) -> Result<(), Memory>
-    ensures { OnOk result (events.new.items ≡ events.old.items ++ begs session kinds.now) }
+    ensures { OnOk result (events.new.items ≡ events.old.items ++ asking_event session kinds.now) }
 {
     match kinds.first() {
-        Some(Kind::Begs) => events.push(Event::Line(session))?,
-        Some(Kind::Leaves) => events.push(Event::Hangup(session))?,
-        Some(Kind::Says) | None => {}
+        Some(Kind::AskingLine) => events.push(Event::Line(session))?,
+        Some(Kind::Hangup) => events.push(Event::Hangup(session))?,
+        Some(Kind::PlainLine) | None => {}
     }
     Ok(())
 }
@@ -85,7 +85,7 @@ fn beg<A: Allocator + Copy>(
 fn awaits_after(kinds: &[Kind]) -> bool
     ensures { result ≡ spec_after kinds.now }
 {
-    matches!(kinds.first(), Some(Kind::Begs))
+    matches!(kinds.first(), Some(Kind::AskingLine))
 }
 
 /// The number of the turn behind the one of this number, if there is that one.

@@ -49,11 +49,11 @@ fn push_line<A: Allocator + Copy>(
     if next < entries.len() {
         let entry = &entries[next];
         if is_of_line(entry, number) {
-            push_asking(kinds, Kind::Begs, entry)?;
+            push_asking(kinds, Kind::AskingLine, entry)?;
             return Ok(next + 1);
         }
     }
-    kinds.push(Kind::Says)?;
+    kinds.push(Kind::PlainLine)?;
     Ok(next)
 }
 
@@ -82,7 +82,7 @@ fn push_hangups<A: Allocator + Copy>(
     ensures { OnOk result (kinds.new.items ≡ kinds.old.items ++ kinds_in (hangups (drop next entries.now))) }
 {
     for number in next..entries.len() {
-        push_asking(kinds, Kind::Leaves, &entries[number])?;
+        push_asking(kinds, Kind::Hangup, &entries[number])?;
     }
     Ok(())
 }

@@ -22,8 +22,7 @@ same_ballot a b = a.round == b.round && a.leader == b.leader
 
 -- this node's ballot of the round after the seen one
 abbrev pub next_ballot : BallotNumber → ℕ → Option BallotNumber
-next_ballot seen me =
-    if nat_lt (seen.round + 1) (2 ^ 64) then Some (record { round = seen.round + 1; leader = me }) else None
+next_ballot seen me = if nat_lt (seen.round + 1) (2 ^ 64) then Some (record { round = seen.round + 1; leader = me }) else None
 
 -- worked examples
 next_of_four : next_ballot (record { round = 4; leader = 2 }) 1 ≡ Some (record { round = 5; leader = 1 })

@@ -3,3 +3,4 @@ pub mod Ballots
 pub mod Nodes
 pub mod PValues
 pub mod Sends
+pub mod Slots

@@ -14,7 +14,7 @@ module _ {C : Type 0} where
 
   -- p at the end, unless an equal one is there
   abbrev pub added : (C → C → Bool) → List (PValue C) → PValue C → List (PValue C)
-  added eq ps p = if has_pvalue eq p ps then ps else ps ++ p ∷ []
+  added eq ps p = if list_any (same_pvalue eq p) ps then ps else ps ++ p ∷ []
 
   -- those of ps, then those of qs that are new, in their order
   abbrev pub joined : (C → C → Bool) → List (PValue C) → List (PValue C) → List (PValue C)

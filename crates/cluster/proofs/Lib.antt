@@ -1,3 +1,5 @@
 pub mod Fitting
 pub mod Statuses
 pub mod Tickets
+pub mod AsLogged
+pub mod Bests

@@ -1,5 +1,7 @@
 -- Worked examples of nodes that run together, and of nodes that wait in vain.
-use Rattle.std.specs.Prelude.{◌≡◌, refl, ℕ, List, [], ◌∷◌, ◌++◌, replicate, Bool, true, false}
+use Rattle.std.specs.Prelude.{◌≡◌, refl, ℕ, List, [], ◌∷◌, ◌++◌, replicate, true, false}
+use Rattle.std.specs.declared.alloc.Global.{Global}
+use Rattle.maildrop.specs.Kept.{KeptTable}
 use Rattle.maildrop.specs.Limits.{Limits}
 use Rattle.cluster.specs.Starts.{all_nodes, can_run}
 use Rattle.cluster.specs.declared.setup.Setup.{Setup}
@@ -37,9 +39,9 @@ nothing_awaited = refl
 all_of_three : all_nodes 3 ≡ 1 ∷ 2 ∷ 3 ∷ []
 all_of_three = refl
 
-module _ (names : List (List ℕ)) (limits : Limits) where
+module _ (names : List (List ℕ)) (limits : Limits) (kept : KeptTable Global) where
   abbrev three_nodes : Setup
-  three_nodes = record { cluster = 3; window = 10; names = names; limits = limits }
+  three_nodes = record { cluster = 3; window = 10; names = names; limits = limits; kept = kept; keys = 10000 }
 
   two_of_three : can_run three_nodes (3 ∷ 1 ∷ []) ≡ true
   two_of_three = refl

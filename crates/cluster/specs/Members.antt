@@ -1,5 +1,5 @@
 -- What is known of a node of a cluster by whoever gets its lock, or got it.
-use Rattle.std.specs.Prelude.{◌≡◌, ◌⊎◌, ℕ, Bool, true, false, if◌then◌else◌, List, [], ◌∷◌, Option, Some, None, is_some, is_none, IfSome}
+use Rattle.std.specs.Prelude.{◌≡◌, ◌⊎◌, ℕ, Bool, true, false, if◌then◌else◌, List, [], ◌∷◌, Option, Some, None, is_some, IfSome}
 use Rattle.std.specs.declared.alloc.Global.{Global}
 use Rattle.std.specs.Ordering.{is_eq}
 use Rattle.maildrop.specs.CommandId.{CommandId, compare_ids}
@@ -61,7 +61,15 @@ IsGone (first ∷ others) awaited = answer_of first awaited ≡ None
 
 -- what the node of this number begins with
 abbrev pub opening_of : Setup → ℕ → Opening Global
-opening_of setup me = record { me = me; cluster = setup.cluster; window = setup.window; names = setup.names; limits = setup.limits }
+opening_of setup me = record {
+  me = me;
+  cluster = setup.cluster;
+  window = setup.window;
+  names = setup.names;
+  limits = setup.limits;
+  kept = setup.kept;
+  keys = setup.keys;
+}
 
 -- a log of the node of this number
 abbrev pub IsLogOf : Setup → ℕ → NodeLog Global → Type 0

@@ -1,5 +1,5 @@
 -- How long a node waits in vain before it asks to lead, counted in ticks.
-use Rattle.std.specs.Prelude.{ℕ, ◌+◌, ◌*◌, ◌==◌, List, [], ◌∷◌, Bool, true, false, ◌&&◌, nat_le, if◌then◌else◌}
+use Rattle.std.specs.Prelude.{ℕ, ◌+◌, ◌*◌, ◌==◌, List, [], ◌∷◌, Bool, ◌&&◌, nat_le, if◌then◌else◌}
 use Rattle.cluster.specs.declared.status.Status.{Status}
 
 -- 4 ticks, and 4 more for each number up to the node's own, so that nodes with low numbers ask first

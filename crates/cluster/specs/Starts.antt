@@ -1,5 +1,5 @@
 -- Which nodes of a cluster can run together, and why a cluster doesn't start.
-use Rattle.std.specs.Prelude.{ℕ, zero, suc, nat_le, List, [], ◌∷◌, ◌++◌, Bool, true, false, ◌&&◌, not}
+use Rattle.std.specs.Prelude.{ℕ, zero, suc, nat_le, List, [], ◌∷◌, ◌++◌, Bool, true, ◌&&◌, not}
 use Rattle.ballot.specs.Nodes.{is_among}
 use Rattle.node.specs.Nodes.{can_begin}
 use Rattle.node.specs.declared.node.TheConstants.{WIDEST_WINDOW}

@@ -1,14 +1,19 @@
 //! A cluster of nodes, each with a thread of its own.
-ghost use Rattle.std.specs.Prelude.{◌≡◌, ◌≤◌, [], ◌∷◌, ◌++◌, false, None, Ok, Err, is_some, map, IsTrue, IfOk, OnOk, IfSome, length, vec_capacity};
+ghost use Rattle.std.specs.Prelude.{◌≡◌, ◌≤◌, [], ◌∷◌, ◌++◌, false, None, Ok, Err, is_some, map, IsTrue, IfOk, OnOk, IfSome, length, vec_len, vec_capacity};
 ghost use Rattle.std.specs.List.{All};
 ghost use Rattle.ballot.specs.Nodes.{is_among};
 ghost use Rattle.maildrop.specs.Name.{are_different};
 ghost use Rattle.node.specs.Nodes.{opened};
-ghost use Rattle.cluster.specs.Members.{member_of, opening_of, IsLogOf, IsStatusOf};
+ghost use Rattle.cluster.specs.Ends.{IsLeftBy};
+ghost use Rattle.cluster.specs.Members as members;
+ghost use Rattle.cluster.specs.Members.{member_of, IsLogOf, IsStatusOf};
 ghost use Rattle.cluster.specs.Starts as spec;
 ghost use Rattle.cluster.specs.Starts.{all_nodes};
+ghost use Rattle.cluster.specs.Users.{AreLocksOf, AreUsagesOf};
 
+use crate::closed::Closed;
 use crate::desk::NodeDesk;
+use crate::ended::{Ended, end_all};
 use crate::handle::NodeHandle;
 use crate::hub::{Hub, Inbox};
 use crate::link::{InboxLink, Link};
@@ -18,9 +23,9 @@ use crate::setup::{Deployment, Setup};
 use crate::start_error::StartError;
 use crate::start_links::{can_run, has_window};
 use crate::status::Status;
-use ballot::{Cluster as Size, Envelope, Memory, NodeId};
-use maildrop::SharedCommand;
-use node::{Input, Node, NodeLog};
+use ballot::{Cluster as Size, Envelope, Items, Memory, NodeId};
+use maildrop::{Kept, Name, Shared, SharedCommand, Ticket, Usage};
+use node::{Input, Node, NodeLog, Opening};
 use std::alloc::Global;
 use std::marker::Model;
 use std::sync::{Arc, Wait};
@@ -36,18 +41,25 @@ pub struct Cluster<D: Deployment, R: Threads + Wait, L: Link> {
     hub: Arc<Hub>,
     nodes: Vec<NodeHandle<D, L>>,
     threads: Vec<JoinHandle<()>>,
+    /// What the maildrops opened with.
+    kept: Shared<Kept>,
+    /// Room for all nodes once they are closed.
+    closed: Vec<Closed<D>>,
     /// Room for the logs of all nodes.
     logs: Vec<NodeLog>,
 }
 
 impl<D: Deployment, R: Threads + Wait, L: Link> Model for Cluster<D, R, L> {
-    ghost use Rattle.std.specs.Prelude.{◌≡◌, ◌≤◌, ℕ, List, [], vec_len, vec_capacity};
+    ghost use Rattle.std.specs.Prelude.{◌≡◌, ◌≤◌, ℕ, List, [], IsTrue, vec_len, vec_capacity};
+    ghost use Rattle.maildrop.specs.Name.{are_different};
 
     ghost Value = { List ℕ };
 
     ghost view = { λ c. c.nodes.items };
 
-    ghost invariant = { λ c. (c.logs.items ≡ []) × (vec_len c.nodes ≤ vec_capacity c.logs) };
+    ghost invariant = { λ c. (c.closed.items ≡ []) × (vec_len c.nodes ≤ vec_capacity c.closed)
+        × (c.logs.items ≡ []) × (vec_len c.nodes ≤ vec_capacity c.logs)
+        × (c.kept ≡ D.setup.kept) × IsTrue (are_different D.setup.names) };
 }
 
 /// The thread of a node: hears what comes to the inbox, until the node has stopped or nobody can put anything in there.
@@ -67,6 +79,51 @@ fn run_node<D: Deployment, R: Wait, L: Link>(
     }
 }
 
+/// What the node of this number begins with.
+fn opening_of(alloc: Global, setup: &Setup, me: NodeId) -> Result<Opening, Memory>
+    ensures { IfOk result (λ opening. opening ≡ members.opening_of setup.now me) }
+{
+    Ok(Opening {
+        me,
+        cluster: setup.cluster,
+        window: setup.window,
+        names: Items::from_vec(Vec::from_slice(alloc, setup.names.get())?),
+        limits: setup.limits,
+        kept: setup.kept.copy()?,
+        keys: setup.keys,
+    })
+}
+
+/// The node of this number, as it begins, with its link.
+fn new_node<D: Deployment, L: Link + Drop>(
+    alloc: Global,
+    setup: &Setup,
+    me: NodeId,
+    link: L,
+) -> Result<NodeHandle<D, L>, StartError>
+    requires deployment { setup.now ≡ D.setup }
+    requires names { IsTrue (are_different setup.now.names) }
+    ensures { IfOk result (λ node. node ≡ me) }
+{
+    let member = new_member(alloc, setup, me)?;
+    Ok(NodeHandle::new(alloc, me, member, link)?)
+}
+
+/// Opens an inbox for a node, and starts the thread that hears what comes there.
+fn start_thread<
+    D: Deployment + Send + Sync + 'static,
+    R: Threads + Wait + Copy + Send + Sync + 'static,
+    L: Link + Drop + Send + Sync + 'static,
+>(rt: R, alloc: Global, hub: &Hub, node: &NodeHandle<D, L>) -> Result<JoinHandle<()>, StartError> {
+    let theirs = node.share()?;
+    let inbox = hub.open(&rt, alloc, node.me())?;
+    let sends = node.new_outbox();
+    match thread::spawn(&rt, move || run_node(&rt, &theirs, &inbox, sends)) {
+        Ok(thread) => Ok(thread),
+        Err(_) => Err(StartError::Thread),
+    }
+}
+
 /// The node of this number, as it begins.
 fn new_member<D: Deployment>(
     alloc: Global,
@@ -75,16 +132,10 @@ fn new_member<D: Deployment>(
 ) -> Result<Member<D>, StartError>
     requires deployment { setup.now ≡ D.setup }
     requires names { IsTrue (are_different setup.now.names) }
-    ensures { IfOk result (λ member. member ≡ member_of (opened (opening_of setup.now me))) }
+    ensures { IfOk result (λ member. member ≡ member_of (opened (members.opening_of setup.now me))) }
 {
-    match Node::new(
-        alloc,
-        me,
-        setup.cluster,
-        setup.window,
-        setup.names.get(),
-        setup.limits,
-    )? {
+    let opening = opening_of(alloc, setup, me)?;
+    match Node::open(alloc, opening)? {
         Some(node) => Ok(Member::new(alloc, node)),
         None => Err(StartError::Setup),
     }
@@ -167,12 +218,15 @@ impl<
         requires names { IsTrue (are_different setup.now.names) }
         ensures { IfOk result (λ cluster. cluster ≡ map (λ link. link.0) links.items) }
     {
+        let kept = setup.kept.copy()?;
         let mut cluster = Cluster {
             rt,
             alloc,
             hub,
             nodes: Vec::new(alloc),
             threads: Vec::new(alloc),
+            kept,
+            closed: Vec::new(alloc),
             logs: Vec::new(alloc),
         };
         for (me, link) in links {
@@ -187,22 +241,16 @@ impl<
         requires names { IsTrue (are_different setup.now.names) }
         ensures { OnOk result (self.new ≡ self.old ++ me ∷ []) }
     {
-        let member = new_member(self.alloc, setup, me)?;
-        let node = NodeHandle::new(self.alloc, me, member, link)?;
-        let theirs = node.share()?;
-        let inbox = self.hub.open(&self.rt, self.alloc, me)?;
-        let sends = node.new_outbox();
+        let count = self.nodes.len() + 1;
+        self.closed.reserve(count)?;
+        self.logs.reserve(count)?;
         self.threads.reserve(1)?;
-        self.logs.reserve(self.nodes.len() + 1)?;
-        self.nodes.push(node)?;
-        let rt = self.rt;
-        match thread::spawn(&rt, move || run_node(&rt, &theirs, &inbox, sends)) {
-            Err(_) => Err(StartError::Thread),
-            Ok(thread) => {
-                self.threads.push_reserved(thread);
-                Ok(())
-            }
-        }
+        self.nodes.reserve(1)?;
+        let node = new_node(self.alloc, setup, me, link)?;
+        self.threads
+            .push_reserved(start_thread(self.rt, self.alloc, &self.hub, &node)?);
+        self.nodes.push_reserved(node);
+        Ok(())
     }
 
     /// Puts an envelope into its addressee's inbox. Gives whether it is in there: not where that node doesn't run here, its
@@ -269,6 +317,30 @@ impl<
         find_node(&self.nodes, node)
     }
 
+    /// The users whose maildrop is locked at a node, each with the ticket of the Take that holds the lock, in the order of
+    /// the setup's names. Empty if the node isn't here, or has stopped without memory.
+    pub fn locks(&self, node: NodeId) -> Result<Vec<(Name, Ticket)>, Memory>
+        ensures here { is_among node self.now ≡ false → IfOk result (λ locks. locks.items ≡ []) }
+        ensures logged { IfOk result (λ locks. AreLocksOf D.setup node locks.items) }
+    {
+        match self.find(node) {
+            None => Ok(Vec::new(self.alloc)),
+            Some(handle) => handle.locks(&self.rt),
+        }
+    }
+
+    /// All users, each with what the maildrop has at a node, in the order of the setup's names. Empty if the node isn't here,
+    /// or has stopped without memory.
+    pub fn usage(&self, node: NodeId) -> Result<Vec<(Name, Usage)>, Memory>
+        ensures here { is_among node self.now ≡ false → IfOk result (λ usages. usages.items ≡ []) }
+        ensures logged { IfOk result (λ usages. AreUsagesOf D.setup node usages.items) }
+    {
+        match self.find(node) {
+            None => Ok(Vec::new(self.alloc)),
+            Some(handle) => handle.usages(&self.rt),
+        }
+    }
+
     pub(crate) fn runtime(&self) -> R {
         self.rt
     }
@@ -277,11 +349,14 @@ impl<
         self.alloc
     }
 
-    /// Ends the threads, each once its node has heard what is in its inbox or has stopped, and gives the logs of the nodes,
-    /// in the order in which these were started. From then on their desks answer that they have stopped. Where a link's `send` doesn't return,
-    /// neither does this. Takes no memory.
-    pub fn stop(self) -> Vec<NodeLog>
-        ensures { All (λ log. IsLogOf D.setup log.opening.me log) result.items }
+    /// Ends the threads, each once its node has heard what is in its inbox or has stopped, and returns the logs of the nodes,
+    /// in the order in which these were started, with what is kept of the maildrops: as a log leaves them than which none has
+    /// performed more, or without a node as the setup has them. From then on their desks answer that they have stopped. If a
+    /// link's `send` doesn't return, neither does this. Takes no memory, but for a node that has stopped without memory, whose
+    /// log is replayed, and for a cluster without a node: `kept` is `Memory` if there is none for that.
+    pub fn stop(self) -> Ended
+        ensures logs { All (λ log. IsLogOf D.setup log.opening.me log) result.logs.items }
+        ensures kept { IfOk result.kept (λ kept. IsLeftBy D.setup result.logs.items kept) }
     {
         let Cluster {
             rt,
@@ -289,10 +364,13 @@ impl<
             hub,
             nodes,
             threads,
+            kept,
+            closed,
             logs,
         } = self;
         end_threads(&rt, alloc, &hub, threads);
-        retire_all(&rt, &nodes, logs)
+        let closed = retire_all(&rt, &nodes, closed);
+        end_all(alloc, kept.get(), closed, logs)
     }
 }
 
@@ -304,10 +382,12 @@ impl<D: Deployment, R: Threads + Wait + Drop, L: Link + Drop> Drop for Cluster<D
             hub,
             nodes,
             threads,
-            logs,
+            kept: _,
+            closed,
+            logs: _,
         } = self;
         end_threads(&rt, alloc, &hub, threads);
-        drop(retire_all(&rt, &nodes, logs));
+        drop(retire_all(&rt, &nodes, closed));
     }
 }
 
@@ -337,20 +417,20 @@ fn end_threads<R: Threads + Wait>(rt: &R, alloc: Global, hub: &Hub, threads: Vec
     }
 }
 
-/// Takes the nodes away, and gives their logs.
+/// Takes the nodes away, and closes them. Takes no memory.
 fn retire_all<D: Deployment, R: Wait, L: Link>(
     rt: &R,
     nodes: &[NodeHandle<D, L>],
-    mut logs: Vec<NodeLog>,
-) -> Vec<NodeLog>
-    requires none { logs.items ≡ [] }
-    requires room { length nodes.now ≤ vec_capacity logs }
-    ensures { All (λ log. IsLogOf D.setup log.opening.me log) result.items }
+    mut closed: Vec<Closed<D>>,
+) -> Vec<Closed<D>>
+    requires none { closed.items ≡ [] }
+    requires room { length nodes.now ≤ vec_capacity closed }
+    ensures few { vec_len result ≤ length nodes.now }
 {
     for node in nodes {
-        if let Some(log) = node.retire(rt) {
-            logs.push_reserved(log);
+        if let Some(node) = node.retire(rt) {
+            closed.push_reserved(node);
         }
     }
-    logs
+    closed
 }

@@ -2,6 +2,7 @@
 ghost use Rattle.std.specs.Prelude.{◌≡◌, true, IfOk, IfSome};
 ghost use Rattle.session.specs.Desks.{given_by_ask, given_by_tell};
 ghost use Rattle.cluster.specs.Members.{IsAnswered, IsGiven, IsStatusOf};
+ghost use Rattle.cluster.specs.Users.{AreLocksOf, AreUsagesOf};
 
 use crate::handle::NodeHandle;
 use crate::hub::Hub;
@@ -10,7 +11,7 @@ use crate::op_kind::OpKind;
 use crate::setup::Deployment;
 use crate::status::Status;
 use ballot::{Envelope, Memory, NodeId};
-use maildrop::{Name, Op, Outcome, SharedCommand, Ticket};
+use maildrop::{Name, Op, Outcome, SharedCommand, Ticket, Usage};
 use node::Input;
 use session::{Desk, DeskStopped};
 use std::marker::Model;
@@ -68,6 +69,22 @@ impl<D: Deployment, R: Wait, L: Link> NodeDesk<D, R, L> {
         ensures { IfSome result (λ status. IsStatusOf D.setup self.now status) }
     {
         self.node.status(&self.rt)
+    }
+
+    /// The users whose maildrop is locked at the node, each with the ticket of the Take that holds the lock, in the order of
+    /// the setup's names. Empty once its cluster has ended, or if the node has stopped without memory.
+    pub fn locks(&self) -> Result<Vec<(Name, Ticket)>, Memory>
+        ensures { IfOk result (λ locks. AreLocksOf D.setup self.now locks.items) }
+    {
+        self.node.locks(&self.rt)
+    }
+
+    /// All users, each with what the maildrop has at the node, in the order of the setup's names. Empty once its cluster has
+    /// ended, or if the node has stopped without memory.
+    pub fn usage(&self) -> Result<Vec<(Name, Usage)>, Memory>
+        ensures { IfOk result (λ usages. AreUsagesOf D.setup self.now usages.items) }
+    {
+        self.node.usages(&self.rt)
     }
 
     /// Whether an envelope lies in the inbox of a node of this cluster that runs here, and was not heard yet. Others may

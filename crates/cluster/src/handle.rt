@@ -1,7 +1,9 @@
 //! What the threads that step one node share.
 ghost use Rattle.std.specs.Prelude.{◌≡◌, IfOk, IfSome};
 ghost use Rattle.cluster.specs.Members.{IsAnswered, IsLogOf, IsStatusOf, AreAll};
+ghost use Rattle.cluster.specs.Users.{AreLocksOf, AreUsagesOf};
 
+use crate::closed::Closed;
 use crate::hub::Inbox;
 use crate::link::Link;
 use crate::member::Member;
@@ -10,8 +12,8 @@ use crate::setup::Deployment;
 use crate::status::Status;
 use crate::waiters::{Groups, Waiters};
 use ballot::{Envelope, Memory, NodeId};
-use maildrop::{Name, Op, Outcome, SharedCommand, Ticket};
-use node::{Input, NodeLog, Outputs, SharedOp};
+use maildrop::{Name, Op, Outcome, SharedCommand, Ticket, Usage};
+use node::{Input, Outputs, SharedOp};
 use session::DeskStopped;
 use std::alloc::Global;
 use std::marker::Model;
@@ -236,16 +238,45 @@ impl<D: Deployment, L: Link> NodeHandle<D, L> {
         }
     }
 
-    /// Takes the node away, and gives its log. From then on there is none.
-    pub(crate) fn retire<R: Wait>(&self, rt: &R) -> Option<NodeLog>
-        ensures { IfSome result (λ log. IsLogOf D.setup self.now log) }
+    /// The users whose maildrop is locked at the node, each with the ticket of the Take that holds the lock. None if it
+    /// is no more, or if it has stopped without memory.
+    pub(crate) fn locks<R: Wait>(&self, rt: &R) -> Result<Vec<(Name, Ticket)>, Memory>
+        ensures { IfOk result (λ locks. AreLocksOf D.setup self.now locks.items) }
+    {
+        match &*self.shared.member.lock(rt) {
+            Some(member) if member.me() == self.me => member.locks(self.shared.alloc),
+            _ => Ok(Vec::new(self.shared.alloc)),
+        }
+    }
+
+    /// All users, each with what the maildrop has at the node. None if it is no more, or if it has stopped without memory.
+    pub(crate) fn usages<R: Wait>(&self, rt: &R) -> Result<Vec<(Name, Usage)>, Memory>
+        ensures { IfOk result (λ usages. AreUsagesOf D.setup self.now usages.items) }
+    {
+        match &*self.shared.member.lock(rt) {
+            Some(member) if member.me() == self.me => member.usages(self.shared.alloc),
+            _ => Ok(Vec::new(self.shared.alloc)),
+        }
+    }
+
+    /// Takes the node away, and closes it. From then on there is none. Takes no memory.
+    pub(crate) fn retire<R: Wait>(&self, rt: &R) -> Option<Closed<D>>
+        ensures { IfSome result (λ closed. IsLogOf D.setup self.now closed) }
     {
         let member = self.shared.member.lock(rt).take();
         self.shared.waiters.wake(Groups::ALL);
-        match member {
-            Some(member) if member.me() == self.me => Some(member.into_log()),
-            _ => None,
-        }
+        close(member?, self.me)
+    }
+}
+
+/// A node, closed, if its number is this one.
+fn close<D: Deployment>(member: Member<D>, me: NodeId) -> Option<Closed<D>>
+    ensures { IfSome result (λ closed. IsLogOf D.setup me closed) }
+{
+    if member.me() == me {
+        Some(member.close())
+    } else {
+        None
     }
 }
 

@@ -3,8 +3,10 @@
 //! envelopes at a time and each with what the node sends to itself, the taking and letting go of answers, and the end.
 #![tactic(auto)]
 
+mod closed;
 mod cluster;
 mod desk;
+mod ended;
 mod handle;
 mod hub;
 mod laws;
@@ -18,10 +20,12 @@ mod setup;
 mod start_error;
 mod start_links;
 mod status;
+mod users;
 mod waiters;
 
 pub use cluster::Cluster;
 pub use desk::NodeDesk;
+pub use ended::Ended;
 pub use laws::outcomes_fit_their_operations;
 pub use link::{InboxLink, Link};
 pub use patience::Patience;

@@ -5,14 +5,17 @@ ghost use Rattle.maildrop.specs.CommandId.{CommandId, compare_ids};
 ghost use Rattle.node.specs.Replay.{sends_of, ticket_of};
 ghost use Rattle.node.specs.Nodes.{logged, stops_after, no_ticket_for, answer_of, answer_after, answered, IsKnown};
 ghost use Rattle.node.specs.Tickets.{CanStop};
+ghost use Rattle.cluster.specs.Users as spec;
 ghost use Rattle.cluster.specs.Members.{member_of, HasCrashed, is_first, still_told, IsGone, IsLogOf, IsAnswered, IsStatusOf, status_of};
 
+use crate::closed::{Closed, is_known};
 use crate::setup::Deployment;
 use crate::status::Status;
+use crate::users::{locks_in, usages_in};
 use crate::waiters::Groups;
 use ballot::{Memory, NodeId};
-use maildrop::{CommandId, Name, Outcome, Ticket};
-use node::{Input, Node, NodeLog, Outputs, Stopped};
+use maildrop::{CommandId, Name, Outcome, Ticket, Usage};
+use node::{Input, Node, Outputs, Stopped};
 use std::alloc::Global;
 use std::collections::VecDeque;
 use std::marker::{Model, PhantomData};
@@ -175,10 +178,42 @@ impl<D: Deployment> Member<D> {
         }
     }
 
-    pub(crate) fn into_log(self) -> NodeLog
+    /// The users whose maildrop is locked, each with the ticket of the Take that holds the lock. None if the node has
+    /// stopped without memory: they are unknown then.
+    #[tactic(auto, using(crate::proofs::AsLogged::locks_as_logged))]
+    pub(crate) fn locks(&self, alloc: Global) -> Result<Vec<(Name, Ticket)>, Memory>
+        ensures known { IfOk result (λ locks. IsKnown self.now.stopped → locks.items ≡ spec.locks_in (spec.users_by self.now.log)) }
+        ensures unknown { IfOk result (λ locks. self.now.stopped ≡ Some Stopped.Memory → locks.items ≡ []) }
+        ensures logged { IfOk result (λ locks. spec.AreLocksOf D.setup self.now.log.opening.me locks.items) }
+    {
+        let _ = &self.of;
+        if !is_known(self.node.stopped()) {
+            return Ok(Vec::new(alloc));
+        }
+        let locks = locks_in(alloc, self.node.office())?;
+        Ok(locks)
+    }
+
+    /// All users, each with what the maildrop has. None if the node has stopped without memory: it is unknown then.
+    #[tactic(auto, using(crate::proofs::AsLogged::usages_as_logged))]
+    pub(crate) fn usages(&self, alloc: Global) -> Result<Vec<(Name, Usage)>, Memory>
+        ensures known { IfOk result (λ usages. IsKnown self.now.stopped → usages.items ≡ spec.usages_in (spec.users_by self.now.log)) }
+        ensures unknown { IfOk result (λ usages. self.now.stopped ≡ Some Stopped.Memory → usages.items ≡ []) }
+        ensures logged { IfOk result (λ usages. spec.AreUsagesOf D.setup self.now.log.opening.me usages.items) }
+    {
+        let _ = &self.of;
+        if !is_known(self.node.stopped()) {
+            return Ok(Vec::new(alloc));
+        }
+        let usages = usages_in(alloc, self.node.office())?;
+        Ok(usages)
+    }
+
+    /// The node, closed. Takes no memory.
+    pub(crate) fn close(self) -> Closed<D>
         ensures log { result ≡ self.log }
         ensures opening { IsLogOf D.setup self.log.opening.me result }
     {
-        self.node.into_log()
+        Closed::new(self.node)
     }
 }

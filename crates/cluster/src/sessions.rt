@@ -45,13 +45,41 @@ impl<
         accounts: &Arc<Accounts>,
     ) -> Result<Vec<Option<Transcript>>, Memory> {
         let alloc = self.allocator();
-        let rt = self.runtime();
-        let mut desks = Vec::with_capacity(alloc, jobs.len())?;
-        for job in &jobs {
-            desks.push((self.desk(job.node)?, Arc::try_clone(accounts)?))?;
-        }
-        let mut threads = Vec::with_capacity(alloc, jobs.len())?;
         let mut transcripts = Vec::with_capacity(alloc, jobs.len())?;
+        let mut threads = Vec::with_capacity(alloc, jobs.len())?;
+        let desks = self.desks_for(&jobs, accounts)?;
+        self.start_jobs(jobs, desks, &mut threads);
+        join_all(&self.runtime(), threads, &mut transcripts);
+        Ok(transcripts)
+    }
+
+    /// What each job asks: the desk of its node, if that is here, and the accounts.
+    fn desks_for<I, O, G>(
+        &self,
+        jobs: &[Job<I, O, G>],
+        accounts: &Arc<Accounts>,
+    ) -> Result<Vec<(Option<NodeDesk<D, R, L>>, Arc<Accounts>)>, Memory> {
+        let mut desks = Vec::with_capacity(self.allocator(), jobs.len())?;
+        for job in jobs {
+            let desk = self.desk(job.node)?;
+            desks.push((desk, Arc::try_clone(accounts)?))?;
+        }
+        Ok(desks)
+    }
+
+    /// Starts a thread for each job. There is room for them all.
+    fn start_jobs<
+        I: Read + Drop + Send + 'static,
+        O: Write + Drop + Send + 'static,
+        G: Gate + Drop + Send + 'static,
+    >(
+        &self,
+        jobs: Vec<Job<I, O, G>>,
+        desks: Vec<(Option<NodeDesk<D, R, L>>, Arc<Accounts>)>,
+        threads: &mut Vec<Option<JoinHandle<Transcript>>>,
+    ) {
+        let alloc = self.allocator();
+        let rt = self.runtime();
         for (job, (desk, accounts)) in jobs.into_iter().zip(desks) {
             let thread = match desk {
                 None => None,
@@ -62,10 +90,17 @@ impl<
                 let _transcript = joined(&rt, refused.value);
             }
         }
-        for thread in threads {
-            let _room = transcripts.push(joined(&rt, thread));
-        }
-        Ok(transcripts)
+    }
+}
+
+/// Joins the threads. There is room for what all of them leave.
+fn join_all<R: Threads>(
+    rt: &R,
+    threads: Vec<Option<JoinHandle<Transcript>>>,
+    transcripts: &mut Vec<Option<Transcript>>,
+) {
+    for thread in threads {
+        let _room = transcripts.push(joined(rt, thread));
     }
 }
 

@@ -1,7 +1,7 @@
 //! What the nodes of a cluster begin with.
 
 use ballot::{Cluster, Items};
-use maildrop::{Limits, Name};
+use maildrop::{Kept, Limits, Name, Shared};
 use std::marker::Brand;
 
 /// What all nodes of a cluster begin with, beside their numbers.
@@ -15,6 +15,11 @@ pub struct Setup {
     pub names: Items<Name>,
     /// The limits of each maildrop.
     pub limits: Limits,
+    /// What the maildrops open with, each by the name of its user. A user of whom nothing is kept begins with an empty
+    /// one.
+    pub kept: Shared<Kept>,
+    /// How many keys a maildrop opens with at most: the last ones that are kept of it.
+    pub keys: usize,
 }
 
 /// One cluster, by what its nodes began with. It has no values: types that lie under a lock name it, so that whoever
@@ -29,5 +34,5 @@ impl Deployment for Brand {
     ghost use Rattle.std.specs.Prelude.{[]};
     ghost use Rattle.cluster.specs.declared.setup.Setup.{Setup};
 
-    ghost setup = { record { cluster = 1; window = 1; names = []; limits = record { messages = 0; octets = 0; ids = 0 } } };
+    ghost setup = { record { cluster = 1; window = 1; names = []; limits = record { messages = 0; octets = 0; ids = 0 }; kept = []; keys = 0 } };
 }

@@ -87,7 +87,7 @@ fn end<
 ) -> Result<(), Fail> {
     if stops {
         desk.tick();
-        check_logs(&cluster.stop())?;
+        check_logs(&cluster.stop().logs)?;
     } else {
         check_served(rt, alloc, &cluster)?;
         check_crash(&cluster)?;

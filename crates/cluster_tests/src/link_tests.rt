@@ -94,7 +94,11 @@ fn hears_all<
     let (sent, answers) = unbounded(alloc)?;
     let free = new_flag(alloc)?;
     *free.lock(&rt) = true;
-    check_logs(&asked::<D, R>(rt, alloc, setup, sent.clone()?, &free)?.stop())?;
+    check_logs(
+        &asked::<D, R>(rt, alloc, setup, sent.clone()?, &free)?
+            .stop()
+            .logs,
+    )?;
     check_answers(&rt, &answers)?;
     drop(asked::<D, R>(rt, alloc, setup, sent, &free)?);
     check_answers(&rt, &answers)

@@ -180,7 +180,7 @@ pub fn lives<
     let pages = new_pages(alloc, plan.talks)?;
     let cluster = Nodes::<D, R>::start(rt, alloc, setup)?;
     let outcome = play_watched(rt, alloc, &cluster, plan, &pages);
-    let logs = cluster.stop();
+    let logs = cluster.stop().logs;
     Ok(Remains {
         logs,
         transcripts: outcome?,

@@ -130,6 +130,8 @@ fn played(alloc: Global, setup: &Setup, remains: &Remains) -> Result<Runs, Fail>
     let config = Config {
         accounts: accounts(alloc)?,
         limits: setup.limits,
+        kept: setup.kept.copy()?,
+        keys: setup.keys,
         cluster: setup.cluster,
         window: setup.window,
     };

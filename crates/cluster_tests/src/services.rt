@@ -4,7 +4,7 @@ ghost use Rattle.maildrop.specs.Name.{are_different as differ};
 
 use ballot::{Cluster as Size, Items, LAST_NODE};
 use cluster::{Cluster, Deployment, InboxLink, Link, NodeDesk, Setup};
-use maildrop::{Outcome, are_different};
+use maildrop::{Kept, Outcome, Shared, are_different};
 use samples::{check, mail, name, node, widest_limits};
 use session::Desk;
 use std::alloc::{AllocError, Global};
@@ -47,6 +47,8 @@ pub fn setup_of(alloc: Global, nodes: u8) -> Result<Setup, Fail>
         window: 5,
         names,
         limits: widest_limits()?,
+        kept: Shared::new(alloc, Kept::new(alloc))?,
+        keys: 0,
     })
 }
 

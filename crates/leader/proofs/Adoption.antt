@@ -8,7 +8,9 @@ use Rattle.ballot.specs.Lists.{IsIn}
 use Rattle.ballot.specs.declared.pvalue.PValue.{PValue}
 use Rattle.ballot.proofs.Member.{in_left, in_last, in_push}
 use Rattle.ballot.proofs.Order.{most_refl, most_trans, below-true, below-false, below_to_most}
-use Rattle.leader.specs.Leaders.{at_slot, with_slot, Rising, if_better, keep_better, best_pvalues, replaced}
+use Rattle.ballot.specs.Slots.{at_slot, with_slot, Rising}
+use Rattle.leader.proofs.Parts.{if_better}
+use Rattle.leader.specs.Leaders.{keep_better, best_pvalues, replaced}
 use Rattle.leader.specs.Calls.{HasHighest, KeepsOthers}
 use Rattle.leader.proofs.Slots.{at_slot-with_slot, at_slot-with_other, rising_with, rising_found, above_apart, at_slot-among}
 

@@ -5,7 +5,7 @@ use Rattle.std.specs.List.{flat_map}
 use Rattle.std.proofs.lemmas.Bool.{true≢false}
 use Rattle.ballot.specs.Ballots.{BallotNumber, Below, below, same_ballot, next_ballot}
 use Rattle.ballot.specs.Lists.{IsIn}
-use Rattle.ballot.specs.Sends.{to_all}
+use Rattle.ballot.specs.Sends.{to_all, Move, stays}
 use Rattle.ballot.specs.declared.pvalue.PValue.{PValue}
 use Rattle.ballot.specs.declared.message.Promise.{Promise}
 use Rattle.ballot.specs.declared.message.Vote.{Vote}
@@ -22,7 +22,10 @@ use Rattle.proposer.specs.declared.scout.Progress.TheVariants.{Waiting, Adopted,
 use Rattle.proposer.specs.declared.commander.Verdict.{Verdict}
 use Rattle.proposer.specs.declared.commander.Verdict.TheVariants.{Decided}
 use Rattle.proposer.specs.declared.commander.Verdict.TheVariants as vote
-use Rattle.leader.specs.Leaders.{Phase, Passive, Scouting, Active, Over, LeaderState, Move, at_slot, with_slot, Rising, new_leader, in_phase, phase_is_active, best_pvalues, replaced, goes_on, yields_in, stays, p2a, p2a_again, keeps_proposal, proposed_at, proposed, campaigned, preempted, adopts, adopted, after_promise, on_progress, hears_promise, decision, after_vote, verdict_on, on_verdict, hears_vote, ticked}
+use Rattle.ballot.specs.Slots.{at_slot, with_slot, Rising}
+use Rattle.leader.proofs.Parts.{in_phase, goes_on, yields_in, p2a_again, proposed_at, after_promise, on_progress, on_verdict}
+use Rattle.leader.specs.Leaders.{Phase, Passive, Scouting, Active, Over, LeaderState, new_leader, phase_is_active, best_pvalues, replaced, p2a, keeps_proposal, proposed, campaigned, preempted, adopts, adopted, hears_promise, hears_vote, leader_ticks}
+use Rattle.leader.specs.Parts.{decision, after_vote, verdict_on}
 use Rattle.leader.specs.Calls.{Call, Proposes, HearsPromise, HearsVote, Adopts, IsPreempted, Campaigns, Ticks, called, all_called, Asks, IsAsked}
 use Rattle.leader.proofs.Slots.{at_slot-with_slot, at_slot-with_other, rising_with, rising_found}
 
@@ -71,14 +74,14 @@ module _ {C : Type 0} (A : Type 0) where
       ⊎_elim (λ l. (x, inl refl, l)) (λ r. let y = in_flat_map f xs o r in (y.0, inr y.1, y.2)) (in_either o (f x) (flat_map f xs) h)
 
   -- what a call does to a leader
-  pub record Kept (l : LeaderState C) (move : Move C A) : Type 0 where
-    pub rising : Rising l.proposals → Rising move.leader.proposals
-    pub asks : Rising l.proposals → (p : PValue C) → Asks move.sends p → IsAsked move.leader p
-    pub keeps : (p : PValue C) → Past l p → Past move.leader p
+  pub record Kept (l : LeaderState C) (move : Move (LeaderState C) C A) : Type 0 where
+    pub rising : Rising l.proposals → Rising move.after.proposals
+    pub asks : Rising l.proposals → (p : PValue C) → Asks move.sends p → IsAsked move.after p
+    pub keeps : (p : PValue C) → Past l p → Past move.after p
 
   -- a call that asks for nothing
-  quietly : (l : LeaderState C) (move : Move C A) → (Rising l.proposals → Rising move.leader.proposals) →
-      ((p : PValue C) → Asks move.sends p → ⊥) → ((p : PValue C) → Past l p → Past move.leader p) → Kept l move
+  quietly : (l : LeaderState C) (move : Move (LeaderState C) C A) → (Rising l.proposals → Rising move.after.proposals) →
+      ((p : PValue C) → Asks move.sends p → ⊥) → ((p : PValue C) → Past l p → Past move.after p) → Kept l move
   quietly l move rising none keeps = record { rising = rising; asks = λ r p h. absurd (none p h); keeps = keeps }
 
   stays_kept : (l : LeaderState C) → Kept l (stays l)
@@ -106,7 +109,7 @@ module _ {C : Type 0} (A : Type 0) where
   keeps_proposal_kept l (Active ks) s c free =
       record {
         rising = rising_with s c l.proposals;
-        asks = λ r p h. p2a_asked (keeps_proposal {A = A} (in_phase l (Active ks)) s c (Active ks)).leader s c refl (at_slot-with_slot s c l.proposals) p h;
+        asks = λ r p h. p2a_asked (keeps_proposal {A = A} (in_phase l (Active ks)) s c (Active ks)).after s c refl (at_slot-with_slot s c l.proposals) p h;
         keeps = λ p h.
             ⊎_elim
             (λ b. inl b)
@@ -182,7 +185,7 @@ module _ {C : Type 0} (A : Type 0) where
       }
     where
       after : LeaderState C
-      after = (adopts {A = A} (in_phase l (Scouting scout)) ps).leader
+      after = (adopts {A = A} (in_phase l (Scouting scout)) ps).after
 
   adopted_kept : (l : LeaderState C) (phase : Phase C) (b : BallotNumber) (ps : List (PValue C)) → Kept (in_phase l phase) (adopted (in_phase l phase) b ps)
   adopted_kept l Passive b ps = stays_kept (in_phase l Passive)
@@ -238,7 +241,7 @@ module _ {C : Type 0} (A : Type 0) where
       go None e h = absurd h.1
       go (Some c) e h = p2a_asked l s c active e p h
 
-  ticked_kept : (l : LeaderState C) (phase : Phase C) → Kept (in_phase l phase) (ticked (in_phase l phase))
+  ticked_kept : (l : LeaderState C) (phase : Phase C) → Kept (in_phase l phase) (leader_ticks (in_phase l phase))
   ticked_kept l Passive = stays_kept (in_phase l Passive)
   ticked_kept l (Scouting scout) = quietly _ _ (λ r. r) (not_p1a l.size l.ballot) (λ p h. h)
   ticked_kept l (Active ks) =
@@ -273,8 +276,8 @@ module _ {C : Type 0} (A : Type 0) where
   asks_either xs ys p h = ⊎_elim (λ l. inl (h.0, l)) (λ r. inr (h.0, r)) (in_either _ xs ys h.1)
 
   -- what calls do to a leader, one after another
-  pub record Ran (l : LeaderState C) (move : Move C A) : Type 0 where
-    pub rising : Rising l.proposals → Rising move.leader.proposals
+  pub record Ran (l : LeaderState C) (move : Move (LeaderState C) C A) : Type 0 where
+    pub rising : Rising l.proposals → Rising move.after.proposals
     -- what stands is the command of all that is asked for with its ballot and slot
     pub agrees : Rising l.proposals → (p q : PValue C) → Past l p → Asks move.sends q → p.ballot ≡ q.ballot → p.slot ≡ q.slot → p.command ≡ q.command
     pub once : Rising l.proposals → (p q : PValue C) → Asks move.sends p → Asks move.sends q → p.ballot ≡ q.ballot → p.slot ≡ q.slot → p.command ≡ q.command
@@ -287,10 +290,10 @@ module _ {C : Type 0} (A : Type 0) where
         once = λ r p q h k b s. absurd h.1;
       }
   all_ran eq l (call ∷ calls) =
-      let first : Move C A = called eq l call in
-      then first (called_kept eq l call) (all_called eq first.leader calls) (all_ran eq first.leader calls)
+      let first : Move (LeaderState C) C A = called eq l call in
+      then first (called_kept eq l call) (all_called eq first.after calls) (all_ran eq first.after calls)
     where
-      then : (first : Move C A) → Kept l first → (rest : Move C A) → Ran first.leader rest → Ran l (record { leader = rest.leader; sends = first.sends ++ rest.sends })
+      then : (first : Move (LeaderState C) C A) → Kept l first → (rest : Move (LeaderState C) C A) → Ran first.after rest → Ran l (record { after = rest.after; sends = first.sends ++ rest.sends })
       then first one rest all =
           record {
             rising = λ r. all.rising (one.rising r);
@@ -298,34 +301,34 @@ module _ {C : Type 0} (A : Type 0) where
                 ⊎_elim
                 (λ f.
                 let asked = one.asks r q f in
-                let stands : at_slot p.slot first.leader.proposals ≡ Some p.command = stands_active first.leader p (one.keeps p past) (b ∙ asked.0) asked.1 in
-                one_command first.leader p q (b ∙ asked.0, asked.1, stands) asked s)
+                let stands : at_slot p.slot first.after.proposals ≡ Some p.command = stands_active first.after p (one.keeps p past) (b ∙ asked.0) asked.1 in
+                one_command first.after p q (b ∙ asked.0, asked.1, stands) asked s)
                 (λ k. all.agrees (one.rising r) p q (one.keeps p past) k b s)
                 (asks_either first.sends rest.sends q h);
             once = λ r p q h k b s.
                 ⊎_elim
                 (λ f. ⊎_elim
-                (λ g. one_command first.leader p q (one.asks r p f) (one.asks r q g) s)
-                (λ g. all.agrees (one.rising r) p q (asked_stands first.leader p (one.asks r p f)) g b s)
+                (λ g. one_command first.after p q (one.asks r p f) (one.asks r q g) s)
+                (λ g. all.agrees (one.rising r) p q (asked_stands first.after p (one.asks r p f)) g b s)
                 (asks_either first.sends rest.sends q k))
                 (λ f. ⊎_elim
-                (λ g. sym (all.agrees (one.rising r) q p (asked_stands first.leader q (one.asks r q g)) f (sym b) (sym s)))
+                (λ g. sym (all.agrees (one.rising r) q p (asked_stands first.after q (one.asks r q g)) f (sym b) (sym s)))
                 (λ g. all.once (one.rising r) p q f g b s)
                 (asks_either first.sends rest.sends q k))
                 (asks_either first.sends rest.sends p h);
           }
 
   pub asked_of : (eq : C → C → Bool) (me size : ℕ) (before : List (Call C A)) (call : Call C A) (p : PValue C) →
-      Asks (called eq (all_called eq (new_leader me size) before).leader call).sends p → IsAsked (called eq (all_called eq (new_leader me size) before).leader call).leader p
+      Asks (called eq (all_called eq (new_leader me size) before).after call).sends p → IsAsked (called eq (all_called eq (new_leader me size) before).after call).after p
   asked_of eq me size before call p h =
-      (called_kept eq (all_called eq (new_leader me size) before).leader call).asks ((all_ran eq (new_leader me size) before).rising tt) p h
+      (called_kept eq (all_called eq (new_leader me size) before).after call).asks ((all_ran eq (new_leader me size) before).rising tt) p h
 
   pub proposal_stays : (eq : C → C → Bool) (l : LeaderState C) (call : Call C A) (s : ℕ) (c : C) →
-      phase_is_active l.phase ≡ true → phase_is_active (called eq l call).leader.phase ≡ true → (called eq l call).leader.ballot ≡ l.ballot →
-      at_slot s l.proposals ≡ Some c → at_slot s (called eq l call).leader.proposals ≡ Some c
+      phase_is_active l.phase ≡ true → phase_is_active (called eq l call).after.phase ≡ true → (called eq l call).after.ballot ≡ l.ballot →
+      at_slot s l.proposals ≡ Some c → at_slot s (called eq l call).after.proposals ≡ Some c
   proposal_stays eq l call s c before after same at =
       let p : PValue C = record { ballot = l.ballot; slot = s; command = c } in
-      stands_active (called eq l call).leader p ((called_kept eq l call).keeps p (asked_stands l p (refl, before, at))) (sym same) after
+      stands_active (called eq l call).after p ((called_kept eq l call).keeps p (asked_stands l p (refl, before, at))) (sym same) after
 
   pub asked_once : (eq : C → C → Bool) (me size : ℕ) (calls : List (Call C A)) (p q : PValue C) →
       Asks (all_called eq (new_leader me size) calls).sends p → Asks (all_called eq (new_leader me size) calls).sends q → p.ballot ≡ q.ballot → p.slot ≡ q.slot → p.command ≡ q.command

@@ -1,3 +1,4 @@
+pub mod Parts
 pub mod Slots
 pub mod Asked
 pub mod Idle

@@ -7,7 +7,7 @@ use Rattle.std.specs.declared.cmp.Ordering.TheVariants.{Less, Equal, Greater}
 use Rattle.std.proofs.lemmas.Bool.{cases_eq}
 use Rattle.std.proofs.lemmas.Cmp.{ranked}
 use Rattle.ballot.specs.Lists.{IsIn}
-use Rattle.leader.specs.Leaders.{at_slot, with_slot, set_slot, without_slot, Above, Rising}
+use Rattle.ballot.specs.Slots.{at_slot, with_slot, set_slot, without_slot, Above, Rising}
 
 same_slot : (s : ℕ) → nat_cmp s s ≡ Equal
 same_slot s = sym (nat_cmp_is s s Equal refl)

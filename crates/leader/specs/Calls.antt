@@ -11,7 +11,9 @@ use Rattle.ballot.specs.declared.outgoing.Outgoing.{Outgoing}
 use Rattle.proposer.specs.Quorums.{Pending}
 use Rattle.proposer.specs.Scouts.{ScoutState}
 use Rattle.proposer.specs.Commanders.{CommanderState}
-use Rattle.leader.specs.Leaders.{LeaderState, Move, Phase, Scouting, Active, Rising, stays, at_slot, phase_is_active, proposed, campaigned, preempted, adopted, hears_promise, hears_vote, ticked}
+use Rattle.ballot.specs.Slots.{Rising, at_slot}
+use Rattle.ballot.specs.Sends.{Move, stays}
+use Rattle.leader.specs.Leaders.{LeaderState, Phase, Scouting, Active, phase_is_active, proposed, campaigned, preempted, adopted, hears_promise, hears_vote, leader_ticks}
 
 pub data Call (C A : Type 0) : Type 0 where
   Proposes : (slot : ℕ) → (command : C) → Call C A
@@ -23,22 +25,22 @@ pub data Call (C A : Type 0) : Type 0 where
   Ticks : Call C A
 
 module _ {C A : Type 0} where
-  abbrev pub called : (C → C → Bool) → LeaderState C → Call C A → Move C A
+  abbrev pub called : (C → C → Bool) → LeaderState C → Call C A → Move (LeaderState C) C A
   called eq l (Proposes slot command) = proposed l slot command
   called eq l (HearsPromise from promise) = hears_promise eq l from promise
   called eq l (HearsVote from vote) = hears_vote l from vote
   called eq l (Adopts ballot pvalues) = adopted l ballot pvalues
   called eq l (IsPreempted ballot) = preempted l ballot
   called eq l Campaigns = campaigned l
-  called eq l Ticks = ticked l
+  called eq l Ticks = leader_ticks l
 
   -- the leader after all these calls, and all that they send
-  abbrev pub all_called : (C → C → Bool) → LeaderState C → List (Call C A) → Move C A
+  abbrev pub all_called : (C → C → Bool) → LeaderState C → List (Call C A) → Move (LeaderState C) C A
   all_called eq l [] = stays l
   all_called eq l (call ∷ calls) =
-      let first : Move C A = called eq l call in
-      let rest : Move C A = all_called eq first.leader calls in
-      record { leader = rest.leader; sends = first.sends ++ rest.sends }
+      let first : Move (LeaderState C) C A = called eq l call in
+      let rest : Move (LeaderState C) C A = all_called eq first.after calls in
+      record { after = rest.after; sends = first.sends ++ rest.sends }
 
   -- some acceptor is asked to accept the pvalue
   abbrev pub Asks : List (Outgoing C A) → PValue C → Type 0

@@ -1,3 +1,4 @@
 pub mod Leaders
+pub mod Parts
 pub mod States
 pub mod Calls

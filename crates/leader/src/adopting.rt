@@ -1,7 +1,8 @@
 //! What a leader does when a majority promises its ballot.
 ghost use Rattle.std.specs.Prelude.{◌≡◌, ◌&&◌, false, IsOk, OnOk, IfOk};
 ghost use Rattle.ballot.specs.Ballots.{same_ballot};
-ghost use Rattle.leader.specs.Leaders.{phase_is_scouting, counts_in, keep_better, best_pvalues, replaced, leads, adopts, adopted, hears_promise};
+ghost use Rattle.leader.specs.Leaders.{phase_is_scouting, keep_better, best_pvalues, replaced, leads, adopts, adopted, hears_promise};
+ghost use Rattle.leader.specs.Parts.{counts_in};
 ghost use Rattle.leader.specs.States.{state_of};
 
 use crate::events::{preempt, start};
@@ -56,7 +57,7 @@ fn replace<C: Payload, A: Allocator + Copy>(
 
 /// Makes the leader active, with a commander for each proposal, and asks for all of them.
 fn lead<C: Payload, A: Allocator + Copy>(state: &mut State<C, A>) -> Result<Sends<C, A>, Memory>
-    ensures leader { OnOk result (state_of state.new ≡ (leads {A = A} (state_of state.old)).leader) }
+    ensures leader { OnOk result (state_of state.new ≡ (leads {A = A} (state_of state.old)).after) }
     ensures sends { IfOk result (λ sends. sends ≡ (leads (state_of state.old)).sends) }
 {
     let mut sends = Items::new(state.alloc);
@@ -80,7 +81,7 @@ fn adopt<C: Payload, A: Allocator + Copy>(
     state: &mut State<C, A>,
     pvalues: Items<PValue<C>, A>,
 ) -> Result<Sends<C, A>, Memory>
-    ensures leader { OnOk result (state_of state.new ≡ (adopts {A = A} (state_of state.old) pvalues).leader) }
+    ensures leader { OnOk result (state_of state.new ≡ (adopts {A = A} (state_of state.old) pvalues).after) }
     ensures sends { IfOk result (λ sends. sends ≡ (adopts (state_of state.old) pvalues).sends) }
 {
     let best = best_of(state.alloc, pvalues)?;
@@ -94,7 +95,7 @@ pub fn adopt_for<C: Payload, A: Allocator + Copy>(
     ballot: Ballot,
     pvalues: Items<PValue<C>, A>,
 ) -> Result<Sends<C, A>, Memory>
-    ensures leader { OnOk result (state_of state.new ≡ (adopted {A = A} (state_of state.old) ballot pvalues).leader) }
+    ensures leader { OnOk result (state_of state.new ≡ (adopted {A = A} (state_of state.old) ballot pvalues).after) }
     ensures sends { IfOk result (λ sends. sends ≡ (adopted (state_of state.old) ballot pvalues).sends) }
     ensures not_asked { (phase_is_scouting (state_of state.old).phase && same_ballot ballot state.old.ballot) ≡ false → IsOk result }
 {
@@ -112,7 +113,7 @@ pub fn hear_promise<C: Payload, A: Allocator + Copy>(
     from: NodeId,
     promise: Promise<C, A>,
 ) -> Result<Sends<C, A>, Memory>
-    ensures leader { OnOk result (state_of state.new ≡ (hears_promise {A = A} C.equal (state_of state.old) from promise).leader) }
+    ensures leader { OnOk result (state_of state.new ≡ (hears_promise {A = A} C.equal (state_of state.old) from promise).after) }
     ensures sends { IfOk result (λ sends. sends ≡ (hears_promise C.equal (state_of state.old) from promise).sends) }
     ensures uncounted { counts_in C.equal from promise (state_of state.old).phase ≡ false → IsOk result }
 {

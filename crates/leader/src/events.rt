@@ -3,7 +3,9 @@ ghost use Rattle.std.specs.Prelude.{◌≡◌, [], ◌++◌, Some, false, IsSome
 ghost use Rattle.ballot.specs.declared.message.Message.TheVariants.{P2a};
 ghost use Rattle.ballot.specs.Sends.{to_all};
 ghost use Rattle.proposer.specs.Commanders.{new_commander};
-ghost use Rattle.leader.specs.Leaders.{phase_is_passive, decides_in, has_to_ask, p2as_again, at_slot, with_slot, after_vote, verdict_on, proposed, campaigned, yields, decision, hears_vote, ticked};
+ghost use Rattle.ballot.specs.Slots.{at_slot, with_slot};
+ghost use Rattle.leader.specs.Leaders.{phase_is_passive, proposed, campaigned, yields, hears_vote, leader_ticks};
+ghost use Rattle.leader.specs.Parts.{decides_in, has_to_ask, p2as_again, after_vote, verdict_on, decision};
 ghost use Rattle.leader.specs.States.{state_of};
 
 use crate::state::{Commanders, Phase, State};
@@ -53,7 +55,7 @@ pub fn propose<C: Payload, A: Allocator + Copy>(
     slot: Slot,
     command: C,
 ) -> Result<Sends<C, A>, Memory>
-    ensures leader { OnOk result (state_of state.new ≡ (proposed {A = A} (state_of state.old) slot command).leader) }
+    ensures leader { OnOk result (state_of state.new ≡ (proposed {A = A} (state_of state.old) slot command).after) }
     ensures sends { IfOk result (λ sends. sends ≡ (proposed (state_of state.old) slot command).sends) }
     ensures taken { IsSome (at_slot slot state.old.proposals.entries) → IsOk result }
 {
@@ -75,7 +77,7 @@ pub fn propose<C: Payload, A: Allocator + Copy>(
 pub fn campaign<C: Payload, A: Allocator + Copy>(
     state: &mut State<C, A>,
 ) -> Result<Sends<C, A>, Memory>
-    ensures leader { OnOk result (state_of state.new ≡ (campaigned {A = A} (state_of state.old)).leader) }
+    ensures leader { OnOk result (state_of state.new ≡ (campaigned {A = A} (state_of state.old)).after) }
     ensures sends { IfOk result (λ sends. sends ≡ (campaigned (state_of state.old)).sends) }
     ensures not_passive { phase_is_passive (state_of state.old).phase ≡ false → IsOk result }
 {
@@ -123,7 +125,7 @@ pub fn hear_vote<C: Payload, A: Allocator + Copy>(
     from: NodeId,
     vote: Vote,
 ) -> Result<Sends<C, A>, Memory>
-    ensures leader { OnOk result (state_of state.new ≡ (hears_vote {A = A} (state_of state.old) from vote).leader) }
+    ensures leader { OnOk result (state_of state.new ≡ (hears_vote {A = A} (state_of state.old) from vote).after) }
     ensures sends { IfOk result (λ sends. sends ≡ (hears_vote (state_of state.old) from vote).sends) }
     ensures undecided { decides_in from vote (state_of state.old).phase ≡ false → IsOk result }
 {
@@ -160,7 +162,7 @@ fn tell<C: Payload, A: Allocator + Copy>(
 
 /// Sends again what the scout or the commanders ask.
 pub fn tick<C: Payload, A: Allocator + Copy>(state: &State<C, A>) -> Result<Sends<C, A>, Memory>
-    ensures sends { IfOk result (λ sends. sends ≡ (ticked (state_of state.now)).sends) }
+    ensures sends { IfOk result (λ sends. sends ≡ (leader_ticks (state_of state.now)).sends) }
     ensures nothing_to_ask { has_to_ask (state_of state.now).phase ≡ false → IsOk result }
 {
     match &state.phase {

@@ -29,7 +29,9 @@ impl<C, A: Allocator> Model for Leader<C, A> {
 }
 
 impl<C: Payload, A: Allocator + Copy> Leader<C, A> {
-    ghost use Rattle.leader.specs.Leaders.{LeaderState, IsMoved, new_leader, at_slot, phase_is_active, phase_is_passive, phase_is_scouting, counts_in, decides_in, has_to_ask, proposed, hears_promise, hears_vote, adopted, preempted, campaigned, ticked};
+    ghost use Rattle.ballot.specs.Slots.{at_slot};
+    ghost use Rattle.leader.specs.Leaders.{LeaderState, IsMoved, new_leader, phase_is_active, phase_is_passive, phase_is_scouting, proposed, hears_promise, hears_vote, adopted, preempted, campaigned, leader_ticks};
+    ghost use Rattle.leader.specs.Parts.{counts_in, decides_in, has_to_ask};
 
     /// A passive leader of the lowest ballot of this node, without proposals. Takes no memory.
     pub fn new(alloc: A, me: NodeId, cluster: Cluster) -> Self
@@ -132,7 +134,7 @@ impl<C: Payload, A: Allocator + Copy> Leader<C, A> {
 
     /// Sends again what its scout asks, or what its commanders ask, in slot order.
     pub fn tick(&mut self) -> Result<Sends<C, A>, Memory>
-        ensures moves { IsMoved (λ l. ticked l) self.old self.new result }
+        ensures moves { IsMoved (λ l. leader_ticks l) self.old self.new result }
         ensures nothing_to_ask { (l : LeaderState C) → self.old ≡ Some l → has_to_ask l.phase ≡ false → IsOk result }
     {
         spend(&mut self.spent)?;

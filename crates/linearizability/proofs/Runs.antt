@@ -9,28 +9,28 @@ use Rattle.node.specs.Outcomes.{IsOutcomeOf}
 use Rattle.node.specs.Submits.{IsSubmitted}
 use Rattle.node.specs.declared.log.Opening.{Opening}
 use Rattle.session.specs.Prefix.{IsPrefix}
-use Rattle.world.specs.Chosen.{chosen, IsChosen}
-use Rattle.world.specs.Decided.{without_gap}
-use Rattle.world.specs.Decisions.{WereSubmitted}
-use Rattle.world.specs.Messages.{NodeEvent, Network, new_network, happen, network_of, envelopes, log_of}
-use Rattle.world.specs.Messages as network
-use Rattle.world.specs.Projection.{decided}
-use Rattle.world.specs.Runs.{order_of}
-use Rattle.world.specs.Services.{Service, Happening, opening_of, new_service, happens, run_of}
-use Rattle.world.specs.declared.config.Config.{Config}
-use Rattle.world.proofs.Decisions.{decided_submitted}
-use Rattle.world.proofs.Outcomes.{answer_own}
-use Rattle.world.proofs.Prefixes.{all_of, prefix_on}
-use Rattle.world.proofs.ServiceRuns.{AreOfRun, Follows, happens_follows}
-use Rattle.world.proofs.Serving.{every_service}
-use Rattle.world.proofs.Theorems.{stays_chosen, order_prefix}
+use Rattle.runs.specs.Chosen.{chosen, IsChosen}
+use Rattle.runs.specs.Decided.{without_gap}
+use Rattle.runs.specs.Decisions.{WereSubmitted}
+use Rattle.runs.specs.Messages.{NodeEvent, Network, new_network, after_node_events, network_of, envelopes, log_of}
+use Rattle.runs.specs.Messages as network
+use Rattle.runs.specs.Projection.{decided}
+use Rattle.runs.specs.Runs.{order_of}
+use Rattle.runs.specs.Services.{Service, Happening, opening_of, new_service, happens, run_of}
+use Rattle.runs.specs.declared.config.Config.{Config}
+use Rattle.runs.proofs.Decisions.{decided_submitted}
+use Rattle.runs.proofs.Outcomes.{answer_own}
+use Rattle.runs.proofs.Prefixes.{all_of, prefix_on}
+use Rattle.runs.proofs.ServiceRuns.{AreOfRun, Follows, happens_follows}
+use Rattle.runs.proofs.Serving.{every_service}
+use Rattle.runs.proofs.Theorems.{stays_chosen, order_prefix}
 use Rattle.linearizability.specs.Linearized.{IsAnswered, IsNew, StandsIn, Precedes, IsLinearized}
 use Rattle.linearizability.proofs.Repeats.{each_once, stands_between, stands_as}
 
 module _ {A : Type 0} where
-  happen_then : (n : Network A) (early late : List (NodeEvent A)) → happen n (early ++ late) ≡ happen (happen n early) late
+  happen_then : (n : Network A) (early late : List (NodeEvent A)) → after_node_events n (early ++ late) ≡ after_node_events (after_node_events n early) late
   happen_then n [] late = refl
-  happen_then n (e ∷ early) late = happen_then (network.happens n e) early late
+  happen_then n (e ∷ early) late = happen_then (network.after_node_event n e) early late
 
   -- the nodes of a service take part in a run of nodes, whatever happens
   goes_on : (cfg : Config A) (w : Service A) (happenings : List (Happening A)) → Follows w (fold (happens cfg) w happenings)
@@ -38,7 +38,7 @@ module _ {A : Type 0} where
   goes_on cfg w (h ∷ hs) =
       let first = happens_follows w cfg h in
       let then = goes_on cfg (happens cfg w h) hs in
-      (first.0 ++ then.0, then.1 ∙ ap (λ n. happen n then.0) first.1 ∙ sym (happen_then w.network first.0 then.0))
+      (first.0 ++ then.0, then.1 ∙ ap (λ n. after_node_events n then.0) first.1 ∙ sym (happen_then w.network first.0 then.0))
 
   -- what holds of the nodes of a run, and of those of every longer one once it does, holds of a longer run of the service
   stays : (P : Network A → Type 0) (cfg : Config A) →
@@ -49,7 +49,7 @@ module _ {A : Type 0} where
       let run = (every_service cfg early).nodes in
       let longer = goes_on cfg w late in
       subst (λ (x : Service A). P x.network) (sym (fold-append (happens cfg) (new_service cfg) early late))
-      (subst P (sym (longer.1 ∙ ap (λ n. happen n longer.0) run.1 ∙ sym (happen_then (new_network (opening_of cfg)) run.0 longer.0)))
+      (subst P (sym (longer.1 ∙ ap (λ n. after_node_events n longer.0) run.1 ∙ sym (happen_then (new_network (opening_of cfg)) run.0 longer.0)))
       (keeps run.0 longer.0 (subst P run.1 h)))
 
   pub run_chosen : (cfg : Config A) (early late : List (Happening A)) (slot : ℕ) (c : Command A) →

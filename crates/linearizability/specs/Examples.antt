@@ -11,11 +11,11 @@ use Rattle.maildrop.specs.declared.outcome.Outcome.TheVariants.{Done}
 use Rattle.node.specs.Submits.{op_of}
 use Rattle.node.specs.declared.log.NodeLog.{NodeLog}
 use Rattle.node.proofs.Submitting.{op_named}
-use Rattle.world.specs.Messages.{log_of}
-use Rattle.world.specs.Projection.{decided}
-use Rattle.world.specs.Services.{Happening, Occurs, opening_of, run_of}
-use Rattle.world.specs.declared.config.Config.{Config}
-use Rattle.world.specs.declared.event.Event.TheVariants.{Break, Arrive, Campaign}
+use Rattle.runs.specs.Messages.{log_of}
+use Rattle.runs.specs.Projection.{decided}
+use Rattle.runs.specs.Services.{Happening, Occurs, opening_of, run_of}
+use Rattle.runs.specs.declared.config.Config.{Config}
+use Rattle.runs.specs.declared.event.Event.TheVariants.{Break, Arrive, Campaign}
 use Rattle.linearizability.specs.Linearized.{IsAnswered, IsNew, StandsIn, Precedes}
 
 abbrev alice : List ℕ
@@ -46,7 +46,7 @@ module _ (A : Type 0) where
   module _ (limits : Limits) where
     abbrev cfg : Config A
     cfg =
-        record { accounts = record { name = alice; method = Pass; secret = codes "s" } ∷ []; limits = limits; cluster = 1; window = 5 }
+        record { accounts = record { name = alice; method = Pass; secret = codes "s" } ∷ []; limits = limits; cluster = 1; window = 5; kept = []; keys = 0 }
 
     abbrev arrive : ℕ → Happening A
     arrive which = Occurs (Arrive which)

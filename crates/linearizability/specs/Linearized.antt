@@ -11,11 +11,11 @@ use Rattle.node.specs.Outcomes.{IsOutcomeOf}
 use Rattle.node.specs.Submits.{IsSubmitted}
 use Rattle.node.specs.declared.log.NodeLog.{NodeLog}
 use Rattle.session.specs.Prefix.{IsPrefix}
-use Rattle.world.specs.Decisions.{WereSubmitted}
-use Rattle.world.specs.Messages.{log_of}
-use Rattle.world.specs.Projection.{decided}
-use Rattle.world.specs.Services.{Service, opening_of}
-use Rattle.world.specs.declared.config.Config.{Config}
+use Rattle.runs.specs.Decisions.{WereSubmitted}
+use Rattle.runs.specs.Messages.{log_of}
+use Rattle.runs.specs.Projection.{decided}
+use Rattle.runs.specs.Services.{Service, opening_of}
+use Rattle.runs.specs.declared.config.Config.{Config}
 
 module _ {A : Type 0} where
   -- some node has got this answer for the command

@@ -13,11 +13,11 @@ ghost use Rattle.maildrop.specs.CommandId.{CommandId};
 ghost use Rattle.maildrop.specs.declared.command.Command.{Command};
 ghost use Rattle.maildrop.specs.declared.outcome.Outcome.{Outcome};
 ghost use Rattle.session.specs.Prefix.{IsPrefix};
-ghost use Rattle.world.specs.Chosen.{IsChosen};
-ghost use Rattle.world.specs.Messages.{envelopes};
-ghost use Rattle.world.specs.Projection.{decided};
-ghost use Rattle.world.specs.Services.{Happening, run_of};
-ghost use Rattle.world.specs.declared.config.Config.{Config};
+ghost use Rattle.runs.specs.Chosen.{IsChosen};
+ghost use Rattle.runs.specs.Messages.{envelopes};
+ghost use Rattle.runs.specs.Projection.{decided};
+ghost use Rattle.runs.specs.Services.{Happening, run_of};
+ghost use Rattle.runs.specs.declared.config.Config.{Config};
 ghost use Rattle.linearizability.specs.Linearized.{IsAnswered, IsNew, IsLinearized, Precedes};
 
 use std::alloc::Allocator;

@@ -17,6 +17,8 @@ mod mailbox_tests;
 #[cfg(test)]
 mod office_tests;
 #[cfg(test)]
+mod opening_tests;
+#[cfg(test)]
 mod operation_tests;
 #[cfg(test)]
 mod plain;

@@ -1,10 +1,13 @@
 pub mod UniqueIds
 pub mod Consistent
 pub mod Isolation
+pub mod Tables
 pub mod Users
 pub mod FewKeys
 pub mod TextLemmas
 pub mod FileLemmas
 pub mod KeyLemmas
+pub mod LastKeys
 pub mod RisingIds
 pub mod IdOrder
+pub mod Steps

@@ -1,12 +1,14 @@
 -- Worked examples of the definitions.
-use Rattle.std.specs.Prelude.{◌≡◌, ℕ, List, [], ◌∷◌, replicate, refl, codes, true, false, Some, None}
+use Rattle.std.specs.Prelude.{◌≡◌, ℕ, List, [], ◌∷◌, map, replicate, refl, codes, true, false, Some, None}
 use Rattle.maildrop.specs.Name.{is_name}
-use Rattle.maildrop.specs.Key.{is_key}
+use Rattle.maildrop.specs.Key.{is_key, later_keys}
 use Rattle.maildrop.specs.Text.{octets_of, block_of, lines_of}
 use Rattle.maildrop.specs.Limits.{Limits}
 use Rattle.maildrop.specs.Ticket.{Ticket}
-use Rattle.maildrop.specs.Maildrop.{empty_maildrop}
-use Rattle.maildrop.specs.Office.{new_user, outcomes_at, outcomes_in, ids_given}
+use Rattle.maildrop.specs.Kept.{KeptMaildrop, nothing_kept, kept_for, with_others_of}
+use Rattle.maildrop.specs.Maildrop.{empty_maildrop, opened}
+use Rattle.maildrop.specs.Office.{new_user, opened_user, kept_of, holder_in, usage_in, users_after, outcomes_at, outcomes_in, ids_given}
+use Rattle.maildrop.specs.Reopening.{Performs, Reopens, ids_given_in, keep_key}
 use Rattle.maildrop.specs.Same.{same_command, same_outcome, identity_of}
 use Rattle.std.specs.declared.cmp.Ordering.TheVariants.{Less, Greater}
 use Rattle.maildrop.specs.CommandId.{same_id, compare_ids}
@@ -142,3 +144,87 @@ alice_before_bob A = refl
 
 second_after_first : (A : Type 0) → compare_ids (identity_of {A = A} (by alice 2 Take)) (identity_of {A = A} (by alice 1 Take)) ≡ Greater
 second_after_first A = refl
+
+-- a closed maildrop with the messages 3 and 7, and a key of a message that was removed
+abbrev kept : {A : Type 0} → KeptMaildrop A
+kept = record { messages = record { uid = 3; text = small } ∷ record { uid = 7; text = small } ∷ []; next_uid = 9; keys = (codes "k1", 5) ∷ [] }
+
+abbrev wide : Limits
+wide = record { messages = 9; octets = 999; ids = 99 }
+
+-- an office that opens with it goes on with unique id 9, knows the key, and has both messages
+goes_on : {A : Type 0} →
+    outcomes_in {A = A} (map (opened_user wide 10 ((alice, kept) ∷ [])) (alice ∷ bob ∷ [])) (
+    by alice 1 (Mail small None) ∷ by alice 2 (Mail small (Some (codes "k1"))) ∷ by alice 3 Take ∷ by alice 4 Take
+    ∷ by bob 1 (Mail small None) ∷ [])
+    ≡ Stored 9 ∷ Stored 5
+    ∷ Taken (record { uid = 3; text = small } ∷ record { uid = 7; text = small } ∷ record { uid = 9; text = small } ∷ []) ∷ InUse
+    ∷ Stored 1 ∷ []
+goes_on = refl
+
+-- under lower limits nothing is gone, but nothing more is stored: there are too many messages, or no unique ids
+lower_limits : {A : Type 0} →
+    outcomes_at {A = A} (Some (opened (record { messages = 1; octets = 60; ids = 99 }) 10 kept)) (
+    by alice 1 (Mail small None) ∷ by alice 2 (Mail small (Some (codes "k1"))) ∷ by alice 3 Take ∷ [])
+    ≡ Full ∷ Stored 5 ∷ Taken (record { uid = 3; text = small } ∷ record { uid = 7; text = small } ∷ []) ∷ []
+lower_limits = refl
+
+lower_ids : {A : Type 0} → outcomes_at {A = A} (Some (opened (record { messages = 9; octets = 999; ids = 5 }) 10 kept)) (by alice 1 (Mail small None) ∷ []) ≡ IdsUsed ∷ []
+lower_ids = refl
+
+-- whoever held the lock when an office was closed doesn't hold it when another one opens, not even by an equal ticket
+lock_forgotten : {A : Type 0} →
+    outcomes_in {A = A} (map (opened_user wide 10 (kept_of (users_after (new_user wide alice ∷ []) (by alice 1 Take)))) (alice ∷ [])) (
+    by alice 1 (Free (ticket 1)) ∷ by alice 2 Take ∷ [])
+    ≡ NotHolder ∷ Taken [] ∷ []
+lock_forgotten = refl
+
+-- a delivery under a key that isn't among the last ones is stored again
+keys_forgotten : {A : Type 0} →
+    outcomes_at {A = A} (Some (opened wide 2 (record { messages = []; next_uid = 4; keys = (codes "k1", 1) ∷ (codes "k2", 2) ∷ (codes "k3", 3) ∷ [] }))) (
+    by alice 1 (Mail small (Some (codes "k2"))) ∷ by alice 2 (Mail small (Some (codes "k3"))) ∷ by alice 3 (Mail small (Some (codes "k1"))) ∷ [])
+    ≡ Stored 2 ∷ Stored 3 ∷ Stored 4 ∷ []
+keys_forgotten = refl
+
+-- after a key came others: one after k2, two after k1
+after_keys : later_keys (codes "k2") ((codes "k1", 1) ∷ (codes "k2", 2) ∷ (codes "k3", 3) ∷ []) ≡ 1
+after_keys = refl
+
+-- what is kept of alice stays as it is now, and what was kept of bob goes last
+others_kept : {A : Type 0} → with_others_of {V = KeptMaildrop A} ((alice, kept) ∷ []) ((bob, kept) ∷ (alice, nothing_kept) ∷ []) ≡ (alice, kept) ∷ (bob, kept) ∷ []
+others_kept = refl
+
+nothing_of_zoe : {A : Type 0} → kept_for {A = A} (codes "zoe") ((alice, kept) ∷ (bob, kept) ∷ []) ≡ nothing_kept
+nothing_of_zoe = refl
+
+-- the unique ids that are given before and after an opening that keeps one of two keys
+given_in_steps : (A : Type 0) →
+    ids_given_in {A = A} (empty_maildrop wide) (
+    Performs (by alice 1 (Mail small (Some (codes "k1")))) ∷ Performs (by alice 2 (Mail small (Some (codes "k2")))) ∷ Reopens wide 1
+    ∷ Performs (by alice 1 (Mail small (Some (codes "k2")))) ∷ Performs (by alice 2 (Mail small (Some (codes "k1")))) ∷ [])
+    ≡ 1 ∷ 2 ∷ 3 ∷ []
+given_in_steps A = refl
+
+-- of these keys that opening keeps the second
+kept_key : (A : Type 0) →
+    keep_key {A = A} (codes "k2") (empty_maildrop wide) (
+    Performs (by alice 1 (Mail small (Some (codes "k1")))) ∷ Performs (by alice 2 (Mail small (Some (codes "k2")))) ∷ Reopens wide 1 ∷ []) ≡ true
+kept_key A = refl
+
+dropped_key : (A : Type 0) →
+    keep_key {A = A} (codes "k1") (empty_maildrop wide) (
+    Performs (by alice 1 (Mail small (Some (codes "k1")))) ∷ Performs (by alice 2 (Mail small (Some (codes "k2")))) ∷ Reopens wide 1 ∷ []) ≡ false
+dropped_key A = refl
+
+-- bob's lock is held by ticket 5, and nobody holds alice's; alice has 2 messages of 30 octets
+bobs_lock : (A : Type 0) → holder_in {A = A} bob (users_after (new_user wide alice ∷ new_user wide bob ∷ []) (by bob 5 Take)) ≡ Some (ticket 5)
+bobs_lock A = refl
+
+alices_lock : (A : Type 0) → holder_in {A = A} alice (users_after (new_user wide alice ∷ new_user wide bob ∷ []) (by bob 5 Take)) ≡ None
+alices_lock A = refl
+
+alices_usage : (A : Type 0) → usage_in {A = A} alice (opened_user wide 10 ((alice, kept) ∷ []) alice ∷ []) ≡ Some (record { messages = 2; octets = 60; next_uid = 9 })
+alices_usage A = refl
+
+unknown_usage : (A : Type 0) → usage_in {A = A} bob (new_user wide alice ∷ []) ≡ None
+unknown_usage A = refl

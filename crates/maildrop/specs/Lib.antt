@@ -7,6 +7,8 @@ pub mod Limits
 pub mod Taken
 pub mod Same
 pub mod Equality
+pub mod Kept
 pub mod Maildrop
 pub mod Office
+pub mod Reopening
 pub mod Examples

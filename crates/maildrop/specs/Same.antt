@@ -1,5 +1,5 @@
 -- Equality of what commands and their outcomes are made of, as tests that compute; and what it takes to copy them.
-use Rattle.std.specs.Prelude.{ℕ, Bool, true, false, List, Option, ◌==◌, ◌&&◌}
+use Rattle.std.specs.Prelude.{ℕ, Bool, true, false, List, ◌==◌, ◌&&◌}
 use Rattle.std.specs.Option.{option_eq}
 use Rattle.std.specs.Cmp.Lexicographic.{pointwise}
 use Rattle.std.specs.Str.{bytes_eq}
@@ -12,26 +12,19 @@ use Rattle.maildrop.specs.declared.op.Op.TheVariants.{Mail, Take, Commit, Free, 
 use Rattle.maildrop.specs.declared.outcome.Outcome.{Outcome}
 use Rattle.maildrop.specs.declared.outcome.Outcome.TheVariants.{NoSuchUser, TooLarge, Full, IdsUsed, Stored, InUse, Taken, Done, NotHolder}
 
-abbrev pub same_text : List (List ℕ) → List (List ℕ) → Bool
-same_text = pointwise bytes_eq
-
-abbrev pub same_uids : List ℕ → List ℕ → Bool
-same_uids = pointwise (λ a b. a == b)
-
-abbrev pub same_key : Option (List ℕ) → Option (List ℕ) → Bool
-same_key = option_eq bytes_eq
-
 module _ {A : Type 0} where
   abbrev pub same_message : Message A → Message A → Bool
-  same_message a b = (a.uid == b.uid) && same_text a.text b.text
+  same_message a b = (a.uid == b.uid) && pointwise bytes_eq a.text b.text
 
   abbrev pub same_messages : List (Message A) → List (Message A) → Bool
   same_messages = pointwise same_message
 
+  -- texts are compared line by line, and lists of unique ids id by id
   abbrev pub same_op : Op A → Op A → Bool
-  same_op (Mail text key) (Mail other_text other_key) = same_text text other_text && same_key key other_key
+  same_op (Mail text key) (Mail other_text other_key) = pointwise bytes_eq text other_text && option_eq bytes_eq key other_key
   same_op Take Take = true
-  same_op (Commit lock uids) (Commit other_lock other_uids) = same_ticket lock other_lock && same_uids uids other_uids
+  same_op (Commit lock uids) (Commit other_lock other_uids) =
+      same_ticket lock other_lock && pointwise (λ a b. a == b) uids other_uids
   same_op (Free lock) (Free other_lock) = same_ticket lock other_lock
   same_op Break Break = true
   same_op op other = false
@@ -52,6 +45,7 @@ module _ {A : Type 0} where
   abbrev pub identity_of : Command A → CommandId
   identity_of c = record { user = c.user; ticket = c.ticket }
 
+  -- the user, the ticket and the operation
   abbrev pub same_command : Command A → Command A → Bool
   same_command c d = bytes_eq c.user d.user && same_ticket c.ticket d.ticket && same_op c.op d.op
 

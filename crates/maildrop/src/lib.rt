@@ -4,6 +4,7 @@
 mod command;
 mod command_id;
 mod file_lines;
+mod kept;
 mod key;
 mod laws;
 mod limits;
@@ -20,15 +21,17 @@ mod text;
 mod text_builder;
 mod ticket;
 mod uids;
+mod usage;
 mod visible;
 
 pub use command::{Command, SharedCommand};
 pub use command_id::CommandId;
 pub use file_lines::{next_line, without_carriage_return};
+pub use kept::Kept;
 pub use key::Key;
 pub use laws::{
     equality_is_tested, keys_keep_their_ids, keys_stay_few, maildrops_are_isolated,
-    unique_ids_only_rise,
+    reopening_keeps_ids, unique_ids_only_rise,
 };
 pub use limits::Limits;
 pub use lines::Lines;
@@ -43,3 +46,4 @@ pub use text::Text;
 pub use text_builder::{TextBuilder, begins_with_dot};
 pub use ticket::Ticket;
 pub use uids::Uids;
+pub use usage::Usage;

@@ -1,6 +1,8 @@
 //! One user's maildrop.
-ghost use Rattle.std.specs.Prelude.{◌≡◌, ◌≢◌, ◌==◌, ℕ, ◌≤◌, List, false, None, IfOk, IsOk, OnOk, OnErr};
+ghost use Rattle.std.specs.Prelude.{◌≡◌, ◌≢◌, ◌==◌, ◌+◌, ◌-◌, ◌<◌, ◌≤◌, ℕ, List, take, drop, false, None, IfOk, IsOk, OnOk, OnErr};
 ghost use Rattle.std.specs.List.{list_any};
+ghost use Rattle.std.specs.Str.{bytes_eq};
+ghost use Rattle.indexmap.specs.IndexMap.{IsUnique, index_map_len};
 ghost use Rattle.std.specs.List.Sorted.{IsStrictlyIncreasing};
 ghost use Rattle.maildrop.specs.Limits.{most_octets};
 ghost use Rattle.maildrop.specs.Taken.{message_octets};
@@ -16,6 +18,7 @@ use crate::taken::Taken;
 use crate::text::Text;
 use crate::ticket::Ticket;
 use crate::uids::Uids;
+use crate::usage::Usage;
 use ballot::Memory;
 use indexmap::IndexMap;
 use std::alloc::{Allocator, Global};
@@ -41,14 +44,15 @@ pub struct Maildrop<A: Allocator = Global> {
 impl<A: Allocator> Model for Maildrop<A> {
     ghost use Rattle.std.specs.Prelude.{◌≡◌};
     ghost use Rattle.maildrop.specs.Taken.{message_octets};
-    ghost use Rattle.maildrop.specs.Maildrop.{Maildrop, IsConsistent};
+    ghost use Rattle.maildrop.specs.Kept.{IsConsistent};
+    ghost use Rattle.maildrop.specs.Maildrop.{Maildrop};
 
     ghost Value = { Maildrop A };
 
     ghost view = { λ m. record { messages = m.messages.items; next_uid = m.next_uid; holder = m.holder; limits = m.limits; keys = m.keys.entries } };
 
     ghost invariant = { λ m. (m.octets ≡ message_octets m.messages.items)
-        × IsConsistent (record { messages = m.messages.items; next_uid = m.next_uid; holder = m.holder; limits = m.limits; keys = m.keys.entries }) };
+        × IsConsistent (record { messages = m.messages.items; next_uid = m.next_uid; keys = m.keys.entries }) };
 }
 
 impl<A: Allocator + Copy> Maildrop<A> {
@@ -63,6 +67,54 @@ impl<A: Allocator + Copy> Maildrop<A> {
             holder: None,
             limits,
             keys: IndexMap::new(alloc),
+        }
+    }
+
+    /// The same maildrop again. The texts share their lines.
+    pub(crate) fn copy(&self, alloc: A) -> Result<Self, Memory>
+        ensures { IfOk result (λ maildrop. maildrop ≡ self.now) }
+    {
+        Ok(Maildrop {
+            messages: copies_of(alloc, &self.messages)?,
+            octets: self.octets,
+            next_uid: self.next_uid,
+            holder: self.holder,
+            limits: self.limits,
+            keys: copy_from(alloc, &self.keys, 0)?,
+        })
+    }
+
+    /// The same maildrop with these limits, the last `keys` of its keys, and nobody who holds its lock. What it has
+    /// beyond the limits stays. The texts share their lines.
+    pub(crate) fn reopen(&self, alloc: A, limits: Limits, keys: usize) -> Result<Self, Memory>
+        ensures { IfOk result (λ maildrop. maildrop ≡ spec.opened limits keys (spec.closed self.now)) }
+    {
+        let dropped = self.keys.len().saturating_sub(keys);
+        Ok(Maildrop {
+            messages: copies_of(alloc, &self.messages)?,
+            octets: self.octets,
+            next_uid: self.next_uid,
+            holder: None,
+            limits,
+            keys: copy_from(alloc, &self.keys, dropped)?,
+        })
+    }
+
+    /// The ticket of the Take that holds the lock.
+    pub(crate) fn holder(&self) -> Option<Ticket>
+        ensures { result ≡ self.now.holder }
+    {
+        self.holder
+    }
+
+    /// How much it has. Costs the same however many messages there are.
+    pub(crate) fn usage(&self) -> Usage
+        ensures { result ≡ spec.usage_of self.now }
+    {
+        Usage {
+            messages: self.messages.len() as u64,
+            octets: self.octets,
+            next_uid: self.next_uid,
         }
     }
 
@@ -86,8 +138,8 @@ impl<A: Allocator + Copy> Maildrop<A> {
     }
 
     fn mail(&mut self, text: &Text<A>, key: &Option<Key>) -> Result<Outcome<A>, Memory>
-        ensures outcome { IfOk result (λ outcome. outcome ≡ (spec.effect_of_mail self.old text.now key.now).outcome) }
-        ensures after { OnOk result (self.new ≡ (spec.effect_of_mail self.old text.now key.now).after) }
+        ensures outcome { IfOk result (λ outcome. outcome ≡ (spec.delivered self.old text.now key.now (uid_in key.now self.old.keys) (spec.refusal_of self.old text.now)).outcome) }
+        ensures after { OnOk result (self.new ≡ (spec.delivered self.old text.now key.now (uid_in key.now self.old.keys) (spec.refusal_of self.old text.now)).after) }
         ensures err { OnErr result (self.new ≡ self.old) }
         ensures known { uid_in key.now self.old.keys ≢ None → IsOk result }
         ensures refused { spec.refusal_of self.old text.now ≢ None → IsOk result }
@@ -151,8 +203,8 @@ impl<A: Allocator + Copy> Maildrop<A> {
     }
 
     fn commit(&mut self, lock: Ticket, uids: &Uids<A>) -> Outcome<A>
-        ensures outcome { result ≡ (spec.effect_of_commit self.old lock uids.now).outcome }
-        ensures after { self.new ≡ (spec.effect_of_commit self.old lock uids.now).after }
+        ensures outcome { result ≡ (spec.unlocked self.old lock (spec.without uids.now self.old.messages)).outcome }
+        ensures after { self.new ≡ (spec.unlocked self.old lock (spec.without uids.now self.old.messages)).after }
     {
         if !is_held_by(&self.holder, lock) {
             return Outcome::NotHolder;
@@ -164,8 +216,8 @@ impl<A: Allocator + Copy> Maildrop<A> {
     }
 
     fn free(&mut self, lock: Ticket) -> Outcome<A>
-        ensures outcome { result ≡ (spec.effect_of_free self.old lock).outcome }
-        ensures after { self.new ≡ (spec.effect_of_free self.old lock).after }
+        ensures outcome { result ≡ (spec.unlocked self.old lock self.old.messages).outcome }
+        ensures after { self.new ≡ (spec.unlocked self.old lock self.old.messages).after }
     {
         if !is_held_by(&self.holder, lock) {
             return Outcome::NotHolder;
@@ -227,4 +279,35 @@ fn octets_of<A: Allocator + Copy>(messages: &[Message<A>]) -> u64
         octets += message.text.octets() as u64;
     }
     octets
+}
+
+/// The keys without the first ones.
+fn copy_from<A: Allocator + Copy>(alloc: A, keys: &Keys<A>, first: usize) -> Result<Keys<A>, Memory>
+    requires { first ≤ index_map_len keys.now }
+    ensures { IfOk result (λ copy. copy.entries ≡ drop first keys.now.entries) }
+{
+    let mut copy = IndexMap::with_capacity(alloc, keys.len() - first)?;
+    for i in first..keys.len() {
+        copy_next(&mut copy, keys, first, i)?;
+    }
+    Ok(copy)
+}
+
+/// Adds the key that comes after those that were copied.
+fn copy_next<A: Allocator + Copy>(
+    copy: &mut Keys<A>,
+    keys: &Keys<A>,
+    first: usize,
+    i: usize,
+) -> Result<(), Memory>
+    requires unique { IsUnique bytes_eq keys.now }
+    requires inside { (first ≤ i) × (i < index_map_len keys.now) }
+    requires before { copy.old.entries ≡ take (i - first) (drop first keys.now.entries) }
+    ensures { OnOk result (copy.new.entries ≡ take (i + 1 - first) (drop first keys.now.entries)) }
+{
+    let Some((key, uid)) = keys.get_index(i) else {
+        unreachable!()
+    };
+    copy.insert(*key, *uid)?;
+    Ok(())
 }

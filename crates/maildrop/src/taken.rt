@@ -35,7 +35,7 @@ impl<A: Allocator + Copy> Taken<A> {
         Taken { messages }
     }
 
-    /// The same messages again, kept by the same allocator. Where there is none it takes no memory.
+    /// The same messages again, kept by the same allocator. Takes no memory if there is none.
     pub fn copy(&self) -> Result<Self, Memory>
         ensures value { IfOk result (λ taken. taken ≡ self.now) }
         ensures sure { self.now ≡ [] → IsOk result }

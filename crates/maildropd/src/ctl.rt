@@ -14,10 +14,12 @@ const REQUESTS: &str = "Requests:
   put NODE USER [KEY]           Delivers one message, which is read from standard input as it is; NODE 0 is any node that is up. Under a key of any characters it is stored once
   break NODE USER               Takes the user's lock from the session that has it
   kick USER                     Cuts the user's sessions, and reports how many these were
-  crash NODE                    Stops a node, for good
+  crash NODE                    Stops a node, for good, and takes the locks from its sessions
   status                        Reports the state of each node
   sessions                      Lists the sessions that are open
   stats                         Reports what the service has done so far
+  locks                         Lists the users whose maildrop is locked, and by which node's session
+  users                         Lists the users, and what their maildrops have
   stop                          Ends the service, once its sessions have ended
   stop now                      Ends the service, and cuts its sessions
 After the first word of a request nothing is an option.
@@ -33,6 +35,8 @@ Examples:
   maildropd ctl --port 11999 status
   maildropd ctl --port 11999 sessions
   maildropd ctl --port 11999 stats
+  maildropd ctl --port 11999 locks
+  maildropd ctl --port 11999 users
   maildropd ctl --port 11999 --wait stop
   maildropd ctl --socket /run/maildropd/ctl stop now";
 

@@ -6,7 +6,8 @@ use Rattle.std.specs.Ordering.{is_eq}
 use Rattle.std.proofs.lemmas.List.{append-nil}
 use Rattle.ballot.specs.declared.message.Message.{Message}
 use Rattle.ballot.specs.declared.message.Message.TheVariants.{Propose, P1a, P1b, P2a, P2b, Decision, Ask}
-use Rattle.replica.specs.Replicas.{has_identity, held}
+use Rattle.replica.specs.Replicas.{has_identity}
+use Rattle.replica.proofs.Parts.{held}
 use Rattle.replica.specs.Calls.{Requests, Decides, answered_with, awaited_for, AreAnswers}
 use Rattle.replica.proofs.History.{called_answers, answers_new, decided_performs, requests_add_none}
 use Rattle.replica.proofs.Requested.{requested_for}
@@ -17,7 +18,8 @@ use Rattle.maildrop.specs.declared.command.Command.{Command}
 use Rattle.maildrop.specs.declared.op.Op.{Op}
 use Rattle.maildrop.specs.declared.outcome.Outcome.{Outcome}
 use Rattle.maildrop.proofs.IdOrder.{ids_eq}
-use Rattle.node.specs.Replay.{NodeState, mail_rules, new_node, hears, acts, is_crash, takes, takes_all, replayed, command_for, submits}
+use Rattle.node.specs.Replay.{NodeState, mail_rules, new_node, hears, acts, is_crash, takes, takes_all, replayed, command_for}
+use Rattle.node.specs.Roles.{submits}
 use Rattle.node.specs.Nodes.{lengthened, answer_of, answered}
 use Rattle.node.specs.Submits.{IsSubmitted}
 use Rattle.node.specs.declared.input.Input.{Input}
@@ -46,7 +48,7 @@ module _ {A : Type 0} where
   same_awaited x (Some None) = refl
   same_awaited x (Some (Some a)) = refl
 
-  hears_holds : (o : Opening A) (before : List (Input A)) (n : NodeState A) (from : ℕ) (m : Message (Command A) A) → Holds o before n → Holds o before (hears n from m).node
+  hears_holds : (o : Opening A) (before : List (Input A)) (n : NodeState A) (from : ℕ) (m : Message (Command A) A) → Holds o before n → Holds o before (hears n from m).after
   hears_holds o before n from (Decision s c) h =
       let performs = decided_performs A mail_rules ids_total (first o) s c n.replica h.answers in
       record {
@@ -60,7 +62,7 @@ module _ {A : Type 0} where
   hears_holds o before n from (P2b v) h = record { answers = h.answers; submitted = h.submitted }
   hears_holds o before n from (Ask s) h = h
 
-  submits_holds : (o : Opening A) (before : List (Input A)) (n : NodeState A) (user : List ℕ) (op : Op A) → Holds o before n → Holds o (before ++ Submit user op ∷ []) (submits n (command_for o.me user op before)).node
+  submits_holds : (o : Opening A) (before : List (Input A)) (n : NodeState A) (user : List ℕ) (op : Op A) → Holds o before n → Holds o (before ++ Submit user op ∷ []) (submits n (command_for o.me user op before)).after
   submits_holds o before n user op h =
       record {
         answers = called_answers A mail_rules ids_total (first o) (Requests c) n.replica h.answers;
@@ -80,31 +82,31 @@ module _ {A : Type 0} where
           let same : identity_of c ≡ id = (id_decides (identity_of c) id).0 (sym (ids_eq (identity_of c) id) ∙ q) in
           subst Submitted same (op, record { before = before; after = []; inputs = refl; ticket = refl })
 
-  acts_holds : (o : Opening A) (before : List (Input A)) (n : NodeState A) (i : Input A) → Holds o before n → Holds o (before ++ i ∷ []) (acts o.me before n i).node
+  acts_holds : (o : Opening A) (before : List (Input A)) (n : NodeState A) (i : Input A) → Holds o before n → Holds o (before ++ i ∷ []) (acts o.me before n i).after
   acts_holds o before n (Submit user op) h = submits_holds o before n user op h
   acts_holds o before n (Arrive e) h =
       holds_later o before (Arrive e ∷ []) _ (go (eqb e.to o.me))
     where
-      go : (t : Bool) → Holds o before (cond t (hears n e.from e.message) (record { node = n; sends = [] })).node
+      go : (t : Bool) → Holds o before (cond t (hears n e.from e.message) (record { after = n; sends = [] })).after
       go true = hears_holds o before n e.from e.message h
       go false = h
   acts_holds o before n Tick h = holds_later o before (Tick ∷ []) n h
   acts_holds o before n Campaign h = holds_later o before (Campaign ∷ []) _ (record { answers = h.answers; submitted = h.submitted })
   acts_holds o before n Crash h = holds_later o before (Crash ∷ []) n h
 
-  pub takes_holds : (o : Opening A) (before : List (Input A)) (n : NodeState A) (i : Input A) → Holds o before n → Holds o (before ++ i ∷ []) (takes o.me before n i).node
+  pub takes_holds : (o : Opening A) (before : List (Input A)) (n : NodeState A) (i : Input A) → Holds o before n → Holds o (before ++ i ∷ []) (takes o.me before n i).after
   takes_holds o before n i h =
       go (list_any is_crash before)
     where
-      go : (t : Bool) → Holds o (before ++ i ∷ []) (cond t (record { node = n; sends = [] }) (acts o.me before n i)).node
+      go : (t : Bool) → Holds o (before ++ i ∷ []) (cond t (record { after = n; sends = [] }) (acts o.me before n i)).after
       go true = holds_later o before (i ∷ []) n h
       go false = acts_holds o before n i h
 
   all_hold : (o : Opening A) (before : List (Input A)) (n : NodeState A) (is : List (Input A)) → Holds o before n → Holds o (before ++ is) (takes_all o.me before n is)
   all_hold o before n [] h = holds_later o before [] n h
   all_hold o before n (i ∷ is) h =
-      subst (λ (xs : List (Input A)). Holds o xs (takes_all o.me (before ++ i ∷ []) (takes o.me before n i).node is)) (append_assoc before (i ∷ []) is)
-      (all_hold o (before ++ i ∷ []) (takes o.me before n i).node is (takes_holds o before n i h))
+      subst (λ (xs : List (Input A)). Holds o xs (takes_all o.me (before ++ i ∷ []) (takes o.me before n i).after is)) (append_assoc before (i ∷ []) is)
+      (all_hold o (before ++ i ∷ []) (takes o.me before n i).after is (takes_holds o before n i h))
 
   pub log_holds : (log : NodeLog A) → Holds log.opening log.inputs (replayed log)
   log_holds log =
@@ -127,7 +129,7 @@ module _ {A : Type 0} where
   abbrev Keeps : CommandId → Outcome A → NodeState A → NodeState A → Type 0
   Keeps id a n m = answer_of id n.replica.awaited ≡ Some a → answer_of id m.replica.awaited ≡ Some a
 
-  hears_keeps : (o : Opening A) (before : List (Input A)) (n : NodeState A) (from : ℕ) (m : Message (Command A) A) (id : CommandId) (a : Outcome A) → Holds o before n → Keeps id a n (hears n from m).node
+  hears_keeps : (o : Opening A) (before : List (Input A)) (n : NodeState A) (from : ℕ) (m : Message (Command A) A) (id : CommandId) (a : Outcome A) → Holds o before n → Keeps id a n (hears n from m).after
   hears_keeps o before n from (Decision s c) id a h e =
       let performs = decided_performs A mail_rules ids_total (first o) s c n.replica h.answers in
       ap held (performs.answers id ∙ ap (answered_with _) (held_is (awaited_for mail_rules id n.replica) a e))
@@ -138,35 +140,35 @@ module _ {A : Type 0} where
   hears_keeps o before n from (P2b v) id a h e = e
   hears_keeps o before n from (Ask s) id a h e = e
 
-  acts_keeps : (o : Opening A) (before : List (Input A)) (n : NodeState A) (i : Input A) (id : CommandId) (a : Outcome A) → Holds o before n → Keeps id a n (acts o.me before n i).node
+  acts_keeps : (o : Opening A) (before : List (Input A)) (n : NodeState A) (i : Input A) (id : CommandId) (a : Outcome A) → Holds o before n → Keeps id a n (acts o.me before n i).after
   acts_keeps o before n (Submit user op) id a h e = requests_add_none A mail_rules ids_total (first o) (command_for o.me user op before) n.replica h.answers id ∙ e
   acts_keeps o before n (Arrive x) id a h e =
       go (eqb x.to o.me)
     where
-      go : (t : Bool) → answer_of id (cond t (hears n x.from x.message) (record { node = n; sends = [] })).node.replica.awaited ≡ Some a
+      go : (t : Bool) → answer_of id (cond t (hears n x.from x.message) (record { after = n; sends = [] })).after.replica.awaited ≡ Some a
       go true = hears_keeps o before n x.from x.message id a h e
       go false = e
   acts_keeps o before n Tick id a h e = e
   acts_keeps o before n Campaign id a h e = e
   acts_keeps o before n Crash id a h e = e
 
-  takes_keeps : (o : Opening A) (before : List (Input A)) (n : NodeState A) (i : Input A) (id : CommandId) (a : Outcome A) → Holds o before n → Keeps id a n (takes o.me before n i).node
+  takes_keeps : (o : Opening A) (before : List (Input A)) (n : NodeState A) (i : Input A) (id : CommandId) (a : Outcome A) → Holds o before n → Keeps id a n (takes o.me before n i).after
   takes_keeps o before n i id a h e =
       go (list_any is_crash before)
     where
-      go : (t : Bool) → answer_of id (cond t (record { node = n; sends = [] }) (acts o.me before n i)).node.replica.awaited ≡ Some a
+      go : (t : Bool) → answer_of id (cond t (record { after = n; sends = [] }) (acts o.me before n i)).after.replica.awaited ≡ Some a
       go true = e
       go false = acts_keeps o before n i id a h e
 
   all_keep : (o : Opening A) (before : List (Input A)) (n : NodeState A) (is : List (Input A)) (id : CommandId) (a : Outcome A) → Holds o before n → Keeps id a n (takes_all o.me before n is)
   all_keep o before n [] id a h e = e
-  all_keep o before n (i ∷ is) id a h e = all_keep o (before ++ i ∷ []) (takes o.me before n i).node is id a (takes_holds o before n i h) (takes_keeps o before n i id a h e)
+  all_keep o before n (i ∷ is) id a h e = all_keep o (before ++ i ∷ []) (takes o.me before n i).after is id a (takes_holds o before n i h) (takes_keeps o before n i id a h e)
 
   pub takes_all-append : (me : ℕ) (before : List (Input A)) (n : NodeState A) (is more : List (Input A)) → takes_all me before n (is ++ more) ≡ takes_all me (before ++ is) (takes_all me before n is) more
   takes_all-append me before n [] more = ap (λ (xs : List (Input A)). takes_all me xs n more) (sym (append-nil before))
   takes_all-append me before n (i ∷ is) more =
-      takes_all-append me (before ++ i ∷ []) (takes me before n i).node is more
-      ∙ ap (λ (xs : List (Input A)). takes_all me xs (takes_all me (before ++ i ∷ []) (takes me before n i).node is) more) (append_assoc before (i ∷ []) is)
+      takes_all-append me (before ++ i ∷ []) (takes me before n i).after is more
+      ∙ ap (λ (xs : List (Input A)). takes_all me xs (takes_all me (before ++ i ∷ []) (takes me before n i).after is) more) (append_assoc before (i ∷ []) is)
 
   pub replayed_more : (log : NodeLog A) (more : List (Input A)) → replayed (lengthened log more) ≡ takes_all log.opening.me log.inputs (replayed log) more
   replayed_more log more = takes_all-append log.opening.me [] (new_node log.opening) log.inputs more

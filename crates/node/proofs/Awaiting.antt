@@ -14,11 +14,14 @@ use Rattle.maildrop.specs.declared.command.Command.{Command}
 use Rattle.maildrop.specs.declared.op.Op.{Op}
 use Rattle.maildrop.specs.declared.outcome.Outcome.{Outcome}
 use Rattle.maildrop.proofs.IdOrder.{ids_eq}
-use Rattle.replica.specs.Replicas.{has_identity, held}
+use Rattle.replica.specs.Replicas.{has_identity}
+use Rattle.replica.proofs.Parts.{held}
 use Rattle.replica.specs.Calls.{awaited_for}
 use Rattle.replica.proofs.History.{decided_performs}
 use Rattle.replica.proofs.Requested.{requested_for}
-use Rattle.node.specs.Replay.{NodeState, Move, mail_rules, stays, hears, acts, is_crash, takes, takes_all, replayed, command_for, submits}
+use Rattle.node.specs.Replay.{NodeState, NodeMove, mail_rules, hears, acts, is_crash, takes, takes_all, replayed, command_for}
+use Rattle.node.specs.Roles.{submits}
+use Rattle.ballot.specs.Sends.{stays}
 use Rattle.node.specs.Nodes.{logged, lengthened, answered}
 use Rattle.node.specs.Submits.{IsSubmitted, log_until}
 use Rattle.node.specs.declared.input.Input.{Input}
@@ -36,7 +39,7 @@ module _ {A : Type 0} where
   abbrev IsAwaited : CommandId → NodeState A → Type 0
   IsAwaited id n = is_some (awaited_for mail_rules id n.replica) ≡ true
 
-  hears_await : (o : Opening A) (before : List (Input A)) (n : NodeState A) (from : ℕ) (m : Message (Command A) A) (id : CommandId) → Holds o before n → IsAwaited id n → IsAwaited id (hears n from m).node
+  hears_await : (o : Opening A) (before : List (Input A)) (n : NodeState A) (from : ℕ) (m : Message (Command A) A) (id : CommandId) → Holds o before n → IsAwaited id n → IsAwaited id (hears n from m).after
   hears_await o before n from (Decision s c) id h e =
       let performs = decided_performs A mail_rules ids_total (first o) s c n.replica h.answers in
       ap is_some (performs.answers id) ∙ same_awaited _ (awaited_for mail_rules id n.replica) ∙ e
@@ -47,7 +50,7 @@ module _ {A : Type 0} where
   hears_await o before n from (P2b v) id h e = e
   hears_await o before n from (Ask s) id h e = e
 
-  acts_await : (o : Opening A) (before : List (Input A)) (n : NodeState A) (i : Input A) (id : CommandId) → Holds o before n → IsAwaited id n → IsAwaited id (acts o.me before n i).node
+  acts_await : (o : Opening A) (before : List (Input A)) (n : NodeState A) (i : Input A) (id : CommandId) → Holds o before n → IsAwaited id n → IsAwaited id (acts o.me before n i).after
   acts_await o before n (Submit user op) id h e =
       ap is_some (requested_for A mail_rules ids_total c id n.replica) ∙ go (has_identity mail_rules (identity_of c) n.replica.performed) (is_eq (compare_ids (identity_of c) id))
     where
@@ -61,24 +64,24 @@ module _ {A : Type 0} where
   acts_await o before n (Arrive x) id h e =
       go (eqb x.to o.me)
     where
-      go : (t : Bool) → IsAwaited id (cond t (hears n x.from x.message) (stays n)).node
+      go : (t : Bool) → IsAwaited id (cond t (hears n x.from x.message) (stays n)).after
       go true = hears_await o before n x.from x.message id h e
       go false = e
   acts_await o before n Tick id h e = e
   acts_await o before n Campaign id h e = e
   acts_await o before n Crash id h e = e
 
-  takes_await : (o : Opening A) (before : List (Input A)) (n : NodeState A) (i : Input A) (id : CommandId) → Holds o before n → IsAwaited id n → IsAwaited id (takes o.me before n i).node
+  takes_await : (o : Opening A) (before : List (Input A)) (n : NodeState A) (i : Input A) (id : CommandId) → Holds o before n → IsAwaited id n → IsAwaited id (takes o.me before n i).after
   takes_await o before n i id h e =
       go (list_any is_crash before)
     where
-      go : (t : Bool) → IsAwaited id (cond t (stays n) (acts o.me before n i)).node
+      go : (t : Bool) → IsAwaited id (cond t (stays n) (acts o.me before n i)).after
       go true = e
       go false = acts_await o before n i id h e
 
   all_await : (o : Opening A) (before : List (Input A)) (n : NodeState A) (is : List (Input A)) (id : CommandId) → Holds o before n → IsAwaited id n → IsAwaited id (takes_all o.me before n is)
   all_await o before n [] id h e = e
-  all_await o before n (i ∷ is) id h e = all_await o (before ++ i ∷ []) (takes o.me before n i).node is id (takes_holds o before n i h) (takes_await o before n i id h e)
+  all_await o before n (i ∷ is) id h e = all_await o (before ++ i ∷ []) (takes o.me before n i).after is id (takes_holds o before n i h) (takes_await o before n i id h e)
 
   module _ (log : NodeLog A) (id : CommandId) (op : Op A) (submit : IsSubmitted log id op)
       (unperformed : has_identity mail_rules id (replayed (log_until log submit.before)).replica.performed ≡ false) where
@@ -102,7 +105,7 @@ module _ {A : Type 0} where
     -- its answer is awaited once it is submitted
     awaited_then : list_any is_crash submit.before ≡ false → IsAwaited id (replayed with_it)
     awaited_then up =
-        subst (IsAwaited id) (sym (replayed-push until (Submit id.user op) ∙ ap (λ (m : Move A). m.node) acted))
+        subst (IsAwaited id) (sym (replayed-push until (Submit id.user op) ∙ ap (λ (m : NodeMove A). m.after) acted))
         (ap is_some (requested_for A mail_rules ids_total c id (replayed until).replica) ∙ rw (new, here) refl)
       where
         acted : takes log.opening.me submit.before (replayed until) (Submit id.user op) ≡ submits (replayed until) c

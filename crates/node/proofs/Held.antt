@@ -6,12 +6,14 @@ use Rattle.ballot.specs.declared.message.Message.TheVariants.{Propose, P1a, P1b,
 use Rattle.maildrop.specs.CommandId.{CommandId}
 use Rattle.maildrop.specs.declared.command.Command.{Command}
 use Rattle.maildrop.specs.declared.outcome.Outcome.{Outcome}
-use Rattle.replica.specs.Replicas.{held}
+use Rattle.replica.proofs.Parts.{held}
 use Rattle.replica.specs.Calls.{awaited_for, answered_with}
 use Rattle.replica.specs.Taken.{IsLeft}
 use Rattle.replica.proofs.History.{requests_add_none}
 use Rattle.replica.proofs.Left.{decided_answered}
-use Rattle.node.specs.Replay.{NodeState, Move, mail_rules, stays, submits, hears, command_for, acts, is_crash, takes, replayed}
+use Rattle.node.specs.Replay.{NodeState, NodeMove, mail_rules, hears, command_for, acts, is_crash, takes, replayed}
+use Rattle.node.specs.Roles.{submits}
+use Rattle.ballot.specs.Sends.{stays}
 use Rattle.node.specs.Nodes.{answer_of, answered, left_after, answer_after, IsButTaken, IsCurrent}
 use Rattle.node.specs.declared.input.Input.{Input}
 use Rattle.node.specs.declared.input.Input.TheVariants.{Submit, Arrive, Tick, Campaign, Crash}
@@ -34,8 +36,8 @@ module _ {A : Type 0} where
   comes_after o here (Some (Some a)) (inl e) = rw e refl
   comes_after o here (Some (Some a)) (inr e) = rw e refl
 
-  abbrev Follows : CommandId → NodeState A → NodeState A → Move A → Move A → Type 0
-  Follows id m n m' n' = answer_of id m'.node.replica.awaited ≡ left_after (answer_of id m.replica.awaited) (answer_of id n.replica.awaited) (answer_of id n'.node.replica.awaited)
+  abbrev Follows : CommandId → NodeState A → NodeState A → NodeMove A → NodeMove A → Type 0
+  Follows id m n m' n' = answer_of id m'.after.replica.awaited ≡ left_after (answer_of id m.replica.awaited) (answer_of id n.replica.awaited) (answer_of id n'.after.replica.awaited)
 
   submits_follow : (o : Opening A) (m n : NodeState A) (c : Command A) (id : CommandId) → IsButTaken o m n → Follows id m n (submits m c) (submits n c)
   submits_follow o m n c id h =
@@ -58,7 +60,7 @@ module _ {A : Type 0} where
       ∙ ap (λ (x : Option (Option (Outcome A))). left_after (answer_of id m.replica.awaited) (answer_of id n.replica.awaited) (held x)) (sym both.1.1)
   hears_follow o m n from (Ask s) id h = unchanged m n id
 
-  pick : (t : Bool) (m n : NodeState A) (id : CommandId) (m' n' m'' n'' : Move A) → Follows id m n m' n' → Follows id m n m'' n'' → Follows id m n (if t then m' else m'') (if t then n' else n'')
+  pick : (t : Bool) (m n : NodeState A) (id : CommandId) (m' n' m'' n'' : NodeMove A) → Follows id m n m' n' → Follows id m n m'' n'' → Follows id m n (if t then m' else m'') (if t then n' else n'')
   pick true m n id m' n' m'' n'' p q = p
   pick false m n id m' n' m'' n'' p q = q
 
@@ -74,7 +76,7 @@ module _ {A : Type 0} where
 
   -- the answers of a node after an input are those that were there, and what its log gets by the input
   pub answers_follow : (log : NodeLog A) (i : Input A) (roles : Option (NodeState A)) (given : List (List ℕ × ℕ)) (h : IsCurrent log roles given) (id : CommandId)
-      → answer_of id (takes log.opening.me log.inputs h.node i).node.replica.awaited ≡ answer_after log i id (answer_of id h.node.replica.awaited)
+      → answer_of id (takes log.opening.me log.inputs h.node i).after.replica.awaited ≡ answer_after log i id (answer_of id h.node.replica.awaited)
   answers_follow log i roles given h id =
       takes_follow log.opening log.opening.me log.inputs h.node (replayed log) i id h.replay
       ∙ ap (λ (n : NodeState A). left_after (answer_of id h.node.replica.awaited) (answered log id) (answer_of id n.replica.awaited)) (sym (replayed-push log i))

@@ -40,14 +40,14 @@ module _ {A : Type 0} where
 
   -- one input more
   pub next_current : (log : NodeLog A) (i : Input A) (roles roles' : Option (NodeState A)) (given given' : List (List ℕ × ℕ)) → IsCurrent log roles given
-      → ((n : NodeState A) → roles ≡ Some n → roles' ≡ Some (takes log.opening.me log.inputs n i).node)
+      → ((n : NodeState A) → roles ≡ Some n → roles' ≡ Some (takes log.opening.me log.inputs n i).after)
       → ((name : List ℕ) → tickets_of name given' ≡ counts name i + tickets_of name given)
       → IsCurrent (logged log i) roles' given'
   next_current log i roles roles' given given' h works tickets =
       record {
-        node = (takes log.opening.me log.inputs h.node i).node;
+        node = (takes log.opening.me log.inputs h.node i).after;
         works = works h.node h.works;
-        replay = subst (λ (n : NodeState A). IsButTaken log.opening (takes log.opening.me log.inputs h.node i).node n) (sym (replayed-push log i)) (takes_alike log.opening log.opening.me log.inputs h.node (replayed log) i h.replay).node;
+        replay = subst (λ (n : NodeState A). IsButTaken log.opening (takes log.opening.me log.inputs h.node i).after n) (sym (replayed-push log i)) (takes_alike log.opening log.opening.me log.inputs h.node (replayed log) i h.replay).node;
         tickets = λ name. tickets name ∙ ap (λ n. counts name i + n) (h.tickets name) ∙ sym (submits_of-push name log.inputs i);
       }
 
@@ -117,9 +117,16 @@ module _ {A : Type 0} where
       let current = current_of log roles given stopped known h in
       (rw current.works at says) ∙ waits_as log roles given current
 
+  -- the maildrops of a node that is known are those that its log leads to
+  pub office_known : (log : NodeLog A) (roles : Option (NodeState A)) (given : List (List ℕ × ℕ)) (stopped : Option Stopped) (users : List (User A)) → IsKept log roles given stopped → IfSome roles (λ (n : NodeState A). users ≡ n.replica.machine)
+      → IsKnown stopped → users ≡ (replayed log).replica.machine
+  office_known log roles given stopped users h says known =
+      let current = current_of log roles given stopped known h in
+      (rw current.works at says) ∙ ap (λ (r : MailReplica A). r.machine) current.replay.replica.same
+
   -- what a type keeps after an input
   pub kept_after : (log : NodeLog A) (i : Input A) (roles roles' : Option (NodeState A)) (given given' : List (List ℕ × ℕ)) → IsKept log roles given None
-      → ((n : NodeState A) → roles ≡ Some n → roles' ≡ Some (takes log.opening.me log.inputs n i).node)
+      → ((n : NodeState A) → roles ≡ Some n → roles' ≡ Some (takes log.opening.me log.inputs n i).after)
       → ((name : List ℕ) → tickets_of name given' ≡ counts name i + tickets_of name given)
       → IsKept (logged log i) roles' given' (stops_after i)
   kept_after log i roles roles' given given' h works tickets =

@@ -1,9 +1,8 @@
 -- The tickets that users got last, and how many inputs it takes to use them up.
-use Rattle.std.proofs.Common.{◌≡◌, refl, ap, ◌∙◌, ℕ, ◌+◌, ◌≤◌, List, [], ◌∷◌, ◌++◌, length, Bool, true, false, cond, Option, Some, None, subst, sym, arith, eqb}
+use Rattle.std.proofs.Common.{◌≡◌, refl, ap, ◌∙◌, ℕ, ◌+◌, ◌≤◌, List, [], ◌∷◌, ◌++◌, length, Bool, true, false, cond, Some, arith, eqb}
 use Rattle.std.proofs.lemmas.Bool.{eqb-true, ne_eqb}
 use Rattle.std.proofs.lemmas.Slice.Eq.{bytes_eq-Decides}
 use Rattle.std.specs.Str.{bytes_eq}
-use Rattle.maildrop.specs.Ticket.{Ticket}
 use Rattle.maildrop.specs.declared.op.Op.{Op}
 use Rattle.node.specs.Replay.{counts, submits_of, last_ticket, ticket_of}
 use Rattle.node.specs.Nodes.{logged, user_of, no_ticket_for}

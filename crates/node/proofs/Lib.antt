@@ -15,3 +15,5 @@ pub mod Lasting
 pub mod Fronts
 pub mod Awaiting
 pub mod News
+pub mod Showing
+pub mod LogReplay

@@ -12,13 +12,16 @@ use Rattle.maildrop.specs.CommandId.{CommandId, compare_ids}
 use Rattle.maildrop.specs.Same.{identity_of}
 use Rattle.maildrop.specs.declared.command.Command.{Command}
 use Rattle.maildrop.specs.declared.outcome.Outcome.{Outcome}
-use Rattle.replica.specs.Replicas.{has_identity, held}
+use Rattle.replica.specs.Replicas.{has_identity}
+use Rattle.replica.proofs.Parts.{held}
 use Rattle.replica.specs.Calls.{answered_with, awaited_for, answer_among}
 use Rattle.replica.proofs.Answered.{has_answer}
 use Rattle.replica.specs.Replicas as replica
+use Rattle.replica.specs.Parts.{with_request}
 use Rattle.replica.proofs.History.{decided_performs, proposes_alike, requests_add_none}
 use Rattle.node.specs.Nodes.{lengthened, answer_of, answered}
-use Rattle.node.specs.Replay.{NodeState, mail_rules, stays, hears, acts, is_crash, takes, takes_all, replayed, command_for}
+use Rattle.node.specs.Replay.{NodeState, mail_rules, hears, acts, is_crash, takes, takes_all, replayed, command_for}
+use Rattle.ballot.specs.Sends.{stays}
 use Rattle.node.specs.declared.input.Input.{Input}
 use Rattle.node.specs.declared.input.Input.TheVariants.{Submit, Arrive, Tick, Campaign, Crash}
 use Rattle.node.specs.declared.log.Opening.{Opening}
@@ -82,7 +85,7 @@ module _ {A : Type 0} where
           (sym (list_any-append (λ (x : ℕ × Command A). is_eq (compare_ids (identity_of x.1) id)) a.replica.performed p.more)
           ∙ (sym (ap (has_identity mail_rules id) p.performed) ∙ q.new id e some))
 
-  decision_brings : (o : Opening A) (before : List (Input A)) (n : NodeState A) (from s : ℕ) (c : Command A) → Holds o before n → Brings n (hears n from (Decision s c)).node
+  decision_brings : (o : Opening A) (before : List (Input A)) (n : NodeState A) (from s : ℕ) (c : Command A) → Holds o before n → Brings n (hears n from (Decision s c)).after
   decision_brings o before n from s c h =
       let performs = decided_performs A mail_rules ids_total (first o) s c n.replica h.answers in
       record {
@@ -110,7 +113,7 @@ module _ {A : Type 0} where
       was_new id (Some None) a e none some = h.answers.waiting id e
       was_new id (Some (Some x)) a e none some = absurd (cc none)
 
-  hears_brings : (o : Opening A) (before : List (Input A)) (n : NodeState A) (from : ℕ) (m : Message (Command A) A) → Holds o before n → Brings n (hears n from m).node
+  hears_brings : (o : Opening A) (before : List (Input A)) (n : NodeState A) (from : ℕ) (m : Message (Command A) A) → Holds o before n → Brings n (hears n from m).after
   hears_brings o before n from (Decision s c) h = decision_brings o before n from s c h
   hears_brings o before n from (Propose s c) h = brings_nothing n _ refl
   hears_brings o before n from (P1a b) h = brings_nothing n _ refl
@@ -119,37 +122,37 @@ module _ {A : Type 0} where
   hears_brings o before n from (P2b v) h = brings_nothing n _ refl
   hears_brings o before n from (Ask s) h = brings_nothing n n refl
 
-  acts_brings : (o : Opening A) (before : List (Input A)) (n : NodeState A) (i : Input A) → Holds o before n → Brings n (acts o.me before n i).node
+  acts_brings : (o : Opening A) (before : List (Input A)) (n : NodeState A) (i : Input A) → Holds o before n → Brings n (acts o.me before n i).after
   acts_brings o before n (Submit user op) h =
       let c : Command A = command_for o.me user op before in
       record {
         more = [];
-        performed = (proposes_alike A mail_rules (replica.with_request c (replica.awaiting mail_rules c n.replica))).performed ∙ sym (append-nil n.replica.performed);
+        performed = (proposes_alike A mail_rules (with_request c (replica.awaiting mail_rules c n.replica))).performed ∙ sym (append-nil n.replica.performed);
         answers = λ id some. inl (sym (ap is_some (requests_add_none A mail_rules ids_total (first o) c n.replica h.answers id)) ∙ some);
         new = λ id none some. none_came _ _ (requests_add_none A mail_rules ids_total (first o) c n.replica h.answers id) none some;
       }
   acts_brings o before n (Arrive x) h =
       go (eqb x.to o.me)
     where
-      go : (t : Bool) → Brings n (cond t (hears n x.from x.message) (stays n)).node
+      go : (t : Bool) → Brings n (cond t (hears n x.from x.message) (stays n)).after
       go true = hears_brings o before n x.from x.message h
       go false = brings_nothing n n refl
   acts_brings o before n Tick h = brings_nothing n n refl
   acts_brings o before n Campaign h = brings_nothing n _ refl
   acts_brings o before n Crash h = brings_nothing n n refl
 
-  takes_brings : (o : Opening A) (before : List (Input A)) (n : NodeState A) (i : Input A) → Holds o before n → Brings n (takes o.me before n i).node
+  takes_brings : (o : Opening A) (before : List (Input A)) (n : NodeState A) (i : Input A) → Holds o before n → Brings n (takes o.me before n i).after
   takes_brings o before n i h =
       go (list_any is_crash before)
     where
-      go : (t : Bool) → Brings n (cond t (stays n) (acts o.me before n i)).node
+      go : (t : Bool) → Brings n (cond t (stays n) (acts o.me before n i)).after
       go true = brings_nothing n n refl
       go false = acts_brings o before n i h
 
   all_bring : (o : Opening A) (before : List (Input A)) (n : NodeState A) (is : List (Input A)) → Holds o before n → Brings n (takes_all o.me before n is)
   all_bring o before n [] h = brings_nothing n n refl
   all_bring o before n (i ∷ is) h =
-      let next : NodeState A = (takes o.me before n i).node in
+      let next : NodeState A = (takes o.me before n i).after in
       brings_both n next (takes_all o.me (before ++ i ∷ []) next is) (takes_brings o before n i h) (all_bring o (before ++ i ∷ []) next is (takes_holds o before n i h))
 
   pub longer_brings : (log : NodeLog A) (more : List (Input A)) → Brings (replayed log) (replayed (lengthened log more))

@@ -16,7 +16,7 @@ use Rattle.maildrop.proofs.IdOrder.{ids_eq}
 use Rattle.maildrop.proofs.Isolation.{maildrop_of-own, maildrop_of-other}
 use Rattle.node.specs.Replay.{mail_rules, replayed}
 use Rattle.node.specs.Nodes.{answered}
-use Rattle.node.specs.Outcomes.{own_of, IsOutcomeOf}
+use Rattle.node.specs.Outcomes.{first_maildrop, own_of, IsOutcomeOf}
 use Rattle.node.specs.declared.log.NodeLog.{NodeLog}
 use Rattle.node.specs.declared.log.Opening.{Opening}
 use Rattle.node.proofs.Alike.{first}
@@ -36,6 +36,10 @@ module _ {A : Type 0} where
           h ∙ ap (λ m. maildrop_after_all m (own_of name ps))
           (subst (λ u. maildrop_of u (users_after users p.1) ≡ maildrop_after (maildrop_of u users) p.1) same (maildrop_of-own users p.1))
       go false e h = h ∙ ap (λ m. maildrop_after_all m (own_of name ps)) (maildrop_of-other name users p.1 e)
+
+  -- and what a log leaves of it
+  pub left_maildrop : (log : NodeLog A) (name : List ℕ) → maildrop_of name (replayed log).replica.machine ≡ maildrop_after_all (first_maildrop log.opening name) (own_of name (replayed log).replica.performed)
+  left_maildrop log name = ap (maildrop_of name) (log_holds log).answers.machine ∙ own_maildrop name (first log.opening) (replayed log).replica.performed
 
   -- what is among the answers to commands, one after another
   among : (o : Opening A) (id : CommandId) (before ps : List (ℕ × Command A)) (a : Outcome A) → has_identity mail_rules id before ≡ false →

@@ -4,7 +4,7 @@ use Rattle.std.specs.List.{list_any}
 use Rattle.ballot.specs.declared.message.Envelope.{Envelope}
 use Rattle.maildrop.specs.CommandId.{CommandId}
 use Rattle.maildrop.specs.declared.command.Command.{Command}
-use Rattle.node.specs.Replay.{NodeState, Move, new_node, acts, is_crash, takes, sent_from, sends_of}
+use Rattle.node.specs.Replay.{NodeState, NodeMove, new_node, acts, is_crash, takes, sent_from, sends_of}
 use Rattle.node.specs.Nodes.{logged, stops_after, answer_of, answer_after, awaited_in, ArePassed, IsKept}
 use Rattle.node.specs.declared.input.Input.{Input}
 use Rattle.node.specs.declared.log.NodeLog.{NodeLog}
@@ -25,10 +25,10 @@ module _ {A : Type 0} where
 
   module _ (log : NodeLog A) (i : Input A) (roles roles' : Option (NodeState A)) (given given' : List (List ℕ × ℕ)) where
     abbrev Works : Type 0
-    Works = (n : NodeState A) → roles ≡ Some n → roles' ≡ Some (acts log.opening.me log.inputs n i).node
+    Works = (n : NodeState A) → roles ≡ Some n → roles' ≡ Some (acts log.opening.me log.inputs n i).after
 
-    went : IsKept log roles given None → Works → (n : NodeState A) → roles ≡ Some n → roles' ≡ Some (takes log.opening.me log.inputs n i).node
-    went h works n is = works n is ∙ ap (λ (m : Move A). Some m.node) (sym (takes_acts log.opening.me log.inputs n i h.1))
+    went : IsKept log roles given None → Works → (n : NodeState A) → roles ≡ Some n → roles' ≡ Some (takes log.opening.me log.inputs n i).after
+    went h works n is = works n is ∙ ap (λ (m : NodeMove A). Some m.after) (sym (takes_acts log.opening.me log.inputs n i h.1))
 
     -- the input is taken
     pub step_kept : (log' : NodeLog A) (stopped : Option Stopped) → IsKept log roles given None → Works → ArePassed i given given' → log' ≡ logged log i → stopped ≡ stops_after i → IsKept log' roles' given' stopped
@@ -38,7 +38,7 @@ module _ {A : Type 0} where
         → ((n : NodeState A) → roles ≡ Some n → sends ≡ sent_from log.opening.me (acts log.opening.me log.inputs n i).sends) → sends ≡ sends_of log i
     step_sends sends h says =
         says h.0.node h.0.works
-        ∙ ap (sent_from log.opening.me) (ap (λ (m : Move A). m.sends) (sym (takes_acts log.opening.me log.inputs h.0.node i h.1)) ∙ same_sends log i roles given h.0)
+        ∙ ap (sent_from log.opening.me) (ap (λ (m : NodeMove A). m.sends) (sym (takes_acts log.opening.me log.inputs h.0.node i h.1)) ∙ same_sends log i roles given h.0)
 
     pub step_answers : (stopped : Option Stopped) → IsKept log roles given None → Works → stopped ≡ stops_after i → stops_after i ≡ None → (id : CommandId)
         → answer_of id (awaited_in stopped roles') ≡ answer_after log i id (answer_of id (awaited_in None roles))

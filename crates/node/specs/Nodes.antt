@@ -1,5 +1,5 @@
 -- What contracts see of a node, and what its type keeps.
-use Rattle.std.specs.Prelude.{◌≡◌, ℕ, ◌+◌, nat_le, List, [], ◌∷◌, ◌++◌, map, Bool, false, ◌&&◌, Option, Some, None}
+use Rattle.std.specs.Prelude.{◌≡◌, ℕ, ◌+◌, nat_le, List, [], ◌∷◌, ◌++◌, Bool, false, ◌&&◌, Option, Some, None}
 use Rattle.std.specs.List.{list_any}
 use Rattle.std.specs.Map.{lookup}
 use Rattle.std.specs.BTreeMap.{is_at}
@@ -7,9 +7,8 @@ use Rattle.ballot.specs.Nodes.{in_cluster}
 use Rattle.maildrop.specs.CommandId.{CommandId, compare_ids}
 use Rattle.maildrop.specs.declared.outcome.Outcome.{Outcome}
 use Rattle.replica.specs.Replicas.{answer_for, taken}
-use Rattle.maildrop.specs.Office.{new_user}
 use Rattle.replica.specs.Taken as replica
-use Rattle.node.specs.Replay.{NodeState, mail_rules, replayed, counts, submits_of, is_crash}
+use Rattle.node.specs.Replay.{NodeState, mail_rules, first_users, replayed, counts, submits_of, is_crash}
 use Rattle.node.specs.Tickets.{tickets_of, has_all_tickets}
 use Rattle.node.specs.declared.input.Input.{Input}
 use Rattle.node.specs.declared.input.Input.TheVariants.{Submit, Crash}
@@ -71,7 +70,7 @@ module _ {A : Type 0} where
 
   -- the answer that a node of this log has got for the command, taken or not
   abbrev pub answered : NodeLog A → CommandId → Option (Outcome A)
-  answered log id = answer_of id (replayed log).replica.awaited
+  answered log id = answer_for mail_rules id (replayed log).replica.awaited
 
   -- an answer that is there stays, and one comes where the log gets it: it had none before, and has one after
   abbrev pub left_after : Option (Outcome A) → Option (Outcome A) → Option (Outcome A) → Option (Outcome A)
@@ -91,7 +90,7 @@ module _ {A : Type 0} where
   pub record IsButTaken (opening : Opening A) (m n : NodeState A) : Type 0 where
     pub acceptor : m.acceptor ≡ n.acceptor
     pub leader : m.leader ≡ n.leader
-    pub replica : replica.IsButTaken mail_rules (map (new_user opening.limits) opening.names) m.replica n.replica
+    pub replica : replica.IsButTaken mail_rules (first_users opening) m.replica n.replica
 
   -- each user has got as many tickets as there are operations for the user among the inputs
   abbrev pub AreGiven : List (Input A) → List (List ℕ × ℕ) → Type 0

@@ -2,6 +2,7 @@
 ghost use Rattle.std.specs.Prelude.{◌≡◌, ◌↔◌, ◌≤◌, ℕ, List, [], length, Some, None, is_some, true, false};
 ghost use Rattle.std.specs.List.{list_any};
 ghost use Rattle.maildrop.specs.CommandId.{CommandId};
+ghost use Rattle.maildrop.specs.Office.{maildrop_of, maildrop_after_all};
 ghost use Rattle.maildrop.specs.declared.op.Op.{Op};
 ghost use Rattle.maildrop.specs.declared.outcome.Outcome.{Outcome};
 ghost use Rattle.replica.specs.Replicas.{IsFrontOf, has_identity};
@@ -10,7 +11,7 @@ ghost use Rattle.node.specs.Nodes.{logged, lengthened, answered, user_of, no_tic
 ghost use Rattle.node.specs.Tickets.{LAST_TICKET};
 ghost use Rattle.node.specs.Submits.{IsSubmitted, log_until, next_id, op_of};
 ghost use Rattle.node.specs.Told.{told_decisions};
-ghost use Rattle.node.specs.Outcomes.{IsOutcomeOf};
+ghost use Rattle.node.specs.Outcomes.{IsOutcomeOf, first_maildrop, own_of};
 ghost use Rattle.node.specs.declared.input.Input.{Input};
 ghost use Rattle.node.specs.declared.input.Input.TheVariants.{Submit, Crash};
 ghost use Rattle.node.specs.declared.log.NodeLog.{NodeLog};
@@ -39,6 +40,13 @@ pub fn answers_are_outcomes<A: Allocator>()
         answered log id ≡ Some answer → IsOutcomeOf log.opening (replayed log).replica.performed id answer }
 {}
 
+/// What a log leaves of a user's maildrop is what this maildrop alone is after the user's own commands that were
+/// performed. It began as the log's opening says.
+pub fn logs_leave_lone_maildrops<A: Allocator>()
+    ensures { (log : NodeLog A) (name : List ℕ) →
+        maildrop_of name (replayed log).replica.machine ≡ maildrop_after_all (first_maildrop log.opening name) (own_of name (replayed log).replica.performed) }
+{}
+
 /// Whatever a node took, and in whatever order and however often decisions came: it has performed the whole gapless front
 /// of the decisions that it was told, each identity once.
 pub fn nodes_perform_the_front<A: Allocator>()
@@ -54,14 +62,14 @@ pub fn performed_commands_are_answered<A: Allocator>()
 {}
 
 /// An answer comes only at the input that performs its command: what is answered is performed, and what gets an answer
-/// behind a log wasn't performed in it. So what was performed without an answer has none, whatever inputs follow.
+/// after a log wasn't performed in it. So what was performed without an answer has none, whatever inputs follow.
 pub fn answers_come_when_performed<A: Allocator>()
     ensures performed { (log : NodeLog A) (id : CommandId) → is_some (answered log id) ≡ true → has_identity mail_rules id (replayed log).replica.performed ≡ true }
     ensures new { (log : NodeLog A) (more : List (Input A)) (id : CommandId) →
         answered log id ≡ None → is_some (answered (lengthened log more) id) ≡ true → has_identity mail_rules id (replayed log).replica.performed ≡ false }
 {}
 
-/// A node gives a ticket of a user once, to one operation, which the ticket names from then on. It is a ticket of this
+/// A ticket of a user goes to one operation only, which it names from then on. It is a ticket of this
 /// node, whether or not the operation is answered.
 pub fn tickets_name_one_submit<A: Allocator>()
     ensures new { (log : NodeLog A) (user : List ℕ) (op : Op A) →
@@ -84,7 +92,7 @@ pub fn tickets_last<A: Allocator>()
     ensures used { (log : NodeLog A) (i : Input A) → no_ticket_for log i ≡ true → LAST_TICKET ≤ length log.inputs }
 {}
 
-/// A node begins as its opening says, and a crash is for good: it sends and answers nothing, and no input behind it
+/// A node begins as its opening says, and a crash is for good: it sends and answers nothing, and no input after it
 /// changes or sends anything.
 pub fn crashes_are_for_good<A: Allocator>()
     ensures opening { (opening : Opening A) → replayed (record { opening = opening; inputs = [] }) ≡ new_node opening }

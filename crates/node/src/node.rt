@@ -5,6 +5,7 @@ ghost use Rattle.std.specs.Ordering.{is_eq};
 ghost use Rattle.ballot.specs.declared.slot.TheConstants.{LAST_SLOT};
 ghost use Rattle.maildrop.specs.CommandId.{CommandId, compare_ids};
 ghost use Rattle.maildrop.specs.Name.{are_different};
+ghost use Rattle.maildrop.specs.Office.{kept_of};
 ghost use Rattle.leader.specs.Leaders.{phase_is_active};
 ghost use Rattle.replica.specs.Replicas.{is_waiting};
 ghost use Rattle.node.specs.Replay.{replayed, sends_of, ticket_of, is_crash};
@@ -22,7 +23,7 @@ use crate::stopped::Stopped;
 use crate::tickets::{Given, last_ticket};
 use ballot::{Cluster, Items, Memory, NodeId, Slot};
 use indexmap::IndexMap;
-use maildrop::{CommandId, Limits, Name, Outcome, SharedCommand, Ticket};
+use maildrop::{CommandId, Kept, Limits, Name, Office, Outcome, Shared, SharedCommand, Ticket};
 use std::alloc::{Allocator, Global};
 use std::marker::Model;
 
@@ -58,8 +59,8 @@ fn can_begin(me: NodeId, cluster: Cluster, window: u64) -> bool
 
 impl<A: Allocator + Copy> Node<A> {
     /// Node `me` of the cluster, with an empty maildrop for each name, each with these limits. It proposes for `window`
-    /// slots, from the next one on that it performs. None where `me` isn't a node of the cluster, or the window isn't 1
-    /// to `WIDEST_WINDOW`.
+    /// slots, from the next one on that it performs. None if `me` isn't a node of the cluster, or the window isn't 1 to
+    /// `WIDEST_WINDOW`.
     pub fn new(
         alloc: A,
         me: NodeId,
@@ -71,7 +72,7 @@ impl<A: Allocator + Copy> Node<A> {
         requires { IsTrue (are_different names.now) }
         ensures valid { IfOk result (λ node. is_some node ≡ spec.can_begin me cluster window) }
         ensures refused { spec.can_begin me cluster window ≡ false → result ≡ Ok None }
-        ensures opening { IfOk result (λ node. IfSome node (λ n. n ≡ opened (record { me = me; cluster = cluster; window = window; names = names.now; limits = limits }))) }
+        ensures opening { IfOk result (λ node. IfSome node (λ n. n ≡ opened (record { me = me; cluster = cluster; window = window; names = names.now; limits = limits; kept = []; keys = 0 }))) }
     {
         if !can_begin(me, cluster, window) {
             return Ok(None);
@@ -82,7 +83,23 @@ impl<A: Allocator + Copy> Node<A> {
             window,
             names: Items::from_vec(Vec::from_slice(alloc, names)?),
             limits,
+            kept: Shared::new(alloc, Kept::new(alloc))?,
+            keys: 0,
         };
+        Node::open(alloc, opening)
+    }
+
+    /// A node that begins so: with the maildrops that are kept, each with its limits and its last keys, and with all
+    /// locks open. None if its number isn't that of a node of the cluster, or the window isn't 1 to `WIDEST_WINDOW`.
+    pub fn open(alloc: A, opening: Opening<A>) -> Result<Option<Self>, Memory>
+        requires { IsTrue (are_different opening.names) }
+        ensures valid { IfOk result (λ node. is_some node ≡ spec.can_begin opening.me opening.cluster opening.window) }
+        ensures refused { spec.can_begin opening.me opening.cluster opening.window ≡ false → result ≡ Ok None }
+        ensures opening { IfOk result (λ node. IfSome node (λ n. n ≡ opened opening)) }
+    {
+        if !can_begin(opening.me, opening.cluster, opening.window) {
+            return Ok(None);
+        }
         let roles = Roles::new(alloc, &opening)?;
         Ok(Some(Node {
             log: NodeLog {
@@ -164,7 +181,7 @@ impl<A: Allocator + Copy> Node<A> {
         &self.log
     }
 
-    /// The ticket that the user's last operation got, of those that were submitted here; none where none was. Takes no
+    /// The ticket that the user's last operation got, of those that were submitted here, or none if none was. Takes no
     /// memory.
     pub fn last_ticket(&self, user: Name) -> Option<Ticket>
         ensures { result ≡ replay.last_ticket self.now.log.opening.me user self.now.log.inputs }
@@ -179,6 +196,15 @@ impl<A: Allocator + Copy> Node<A> {
         self.log
     }
 
+    /// The log, and what is kept of the maildrops: each as the node has it, without its limits and with an open lock. What
+    /// is kept is what the log leads to, unless the node has stopped without memory: it is then unknown. Takes no memory.
+    pub fn close(self) -> (NodeLog<A>, Kept<A>)
+        ensures log { result.0 ≡ self.log }
+        ensures kept { IsKnown self.stopped → result.1 ≡ kept_of (replayed self.log).replica.machine }
+    {
+        (self.log, self.roles.into_office().close())
+    }
+
     /// Its number.
     pub fn me(&self) -> NodeId
         ensures { result ≡ self.now.log.opening.me }
@@ -186,7 +212,7 @@ impl<A: Allocator + Copy> Node<A> {
         self.log.opening.me
     }
 
-    /// Why it takes no input any more, if it doesn't. It has crashed where its log has a crash, which is then the last
+    /// Why it takes no input any more, if it doesn't. It has crashed if its log has a crash, which is then the last
     /// input.
     pub fn stopped(&self) -> Option<Stopped>
         ensures value { result ≡ self.now.stopped }
@@ -202,6 +228,14 @@ impl<A: Allocator + Copy> Node<A> {
         ensures { IsKnown self.now.stopped → result.now ≡ (replayed self.now.log).replica.performed }
     {
         self.roles.performed()
+    }
+
+    /// The maildrops of all users after what its replica has performed, to read them. Unknown once it has stopped without
+    /// memory. Takes no memory.
+    pub fn office(&self) -> &Office<A>
+        ensures { IsKnown self.now.stopped → result.now ≡ (replayed self.now.log).replica.machine }
+    {
+        self.roles.office()
     }
 
     /// The first slot that isn't decided here, 1 to 2^63. Unknown once it has stopped without memory.

@@ -1,4 +1,4 @@
-//! What a step of a node gives.
+//! What comes of a step of a node.
 ghost use Rattle.std.specs.Prelude.{◌≡◌, IfOk};
 ghost use Rattle.node.specs.Replay as spec;
 
@@ -9,7 +9,7 @@ use std::alloc::{Allocator, Global};
 /// Messages with their senders and addressees, in the order in which they are sent.
 pub type Envelopes<A = Global> = Items<Envelope<SharedCommand<A>, A>, A>;
 
-/// What a step gives: what the node sends, and after a `Submit` the ticket of its command.
+/// What comes of a step: what the node sends, and after a `Submit` the ticket of its command.
 #[derive(Drop)]
 pub struct Outputs<A: Allocator = Global> {
     /// What the node sends, in its order.

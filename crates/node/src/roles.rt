@@ -3,8 +3,10 @@ ghost use Rattle.std.specs.Prelude.{◌≡◌, ◌≤◌, ◌+◌, ◌==◌, ℕ
 ghost use Rattle.ballot.specs.declared.slot.TheConstants.{LAST_SLOT};
 ghost use Rattle.maildrop.specs.Name.{are_different};
 ghost use Rattle.leader.specs.Leaders.{phase_is_active};
-ghost use Rattle.replica.specs.Replicas.{at_slot, is_waiting};
-ghost use Rattle.node.specs.Replay.{NodeState, submits, arrives, hears, told, ticks, campaigns, new_node};
+ghost use Rattle.replica.specs.Replicas.{is_waiting};
+ghost use Rattle.ballot.specs.Slots.{at_slot};
+ghost use Rattle.node.specs.Replay.{NodeState, hears, new_node};
+ghost use Rattle.node.specs.Roles.{submits, arrives, decision_to, ticks, campaigns};
 ghost use Rattle.node.specs.Nodes.{answer_of, taken_of};
 
 use crate::log::Opening;
@@ -41,7 +43,13 @@ impl<A: Allocator + Copy> Roles<A> {
         requires { IsTrue (are_different opening.now.names) }
         ensures { IfOk result (λ roles. roles ≡ Some (new_node opening.now)) }
     {
-        let office = Office::new(alloc, opening.names.get(), opening.limits)?;
+        let office = Office::open(
+            alloc,
+            opening.names.get(),
+            opening.kept.get(),
+            opening.limits,
+            opening.keys,
+        )?;
         Ok(Roles {
             acceptor: Acceptor::new(alloc),
             leader: Leader::new(alloc, opening.me, opening.cluster),
@@ -55,7 +63,7 @@ impl<A: Allocator + Copy> Roles<A> {
         &mut self,
         command: SharedCommand<A>,
     ) -> Result<Sends<SharedCommand<A>, A>, Memory>
-        ensures node { OnOk result (self.new ≡ option_map (λ n. (submits n command).node) self.old) }
+        ensures node { OnOk result (self.new ≡ option_map (λ n. (submits n command).after) self.old) }
         ensures sends { (n : NodeState A) → self.old ≡ Some n → IfOk result (λ sends. sends ≡ (submits n command).sends) }
     {
         self.replica.request(command)
@@ -67,7 +75,7 @@ impl<A: Allocator + Copy> Roles<A> {
         me: NodeId,
         envelope: Envelope<SharedCommand<A>, A>,
     ) -> Result<Sends<SharedCommand<A>, A>, Memory>
-        ensures node { (n : NodeState A) → self.old ≡ Some n → OnOk result (self.new ≡ Some ((arrives me n envelope).node)) }
+        ensures node { (n : NodeState A) → self.old ≡ Some n → OnOk result (self.new ≡ Some ((arrives me n envelope).after)) }
         ensures sends { (n : NodeState A) → self.old ≡ Some n → IfOk result (λ sends. sends ≡ (arrives me n envelope).sends) }
     {
         if envelope.to == me {
@@ -83,7 +91,7 @@ impl<A: Allocator + Copy> Roles<A> {
         from: NodeId,
         message: Message<SharedCommand<A>, A>,
     ) -> Result<Sends<SharedCommand<A>, A>, Memory>
-        ensures node { OnOk result (self.new ≡ option_map (λ n. (hears n from message).node) self.old) }
+        ensures node { OnOk result (self.new ≡ option_map (λ n. (hears n from message).after) self.old) }
         ensures sends { (n : NodeState A) → self.old ≡ Some n → IfOk result (λ sends. sends ≡ (hears n from message).sends) }
     {
         match message {
@@ -116,9 +124,9 @@ impl<A: Allocator + Copy> Roles<A> {
         Ok(sends)
     }
 
-    /// The decision of the slot goes to the node that asked for it, where it is known.
+    /// The decision of the slot goes to the node that asked for it, if it is known.
     fn tell(&self, to: NodeId, slot: Slot) -> Result<Sends<SharedCommand<A>, A>, Memory>
-        ensures { (n : NodeState A) → self.now ≡ Some n → IfOk result (λ sends. sends ≡ told to slot (at_slot slot n.replica.decisions)) }
+        ensures { (n : NodeState A) → self.now ≡ Some n → IfOk result (λ sends. sends ≡ decision_to to slot (at_slot slot n.replica.decisions)) }
     {
         match self.replica.ask(slot)? {
             Some(command) => self.answer(to, Message::Decision(slot, command)),
@@ -138,7 +146,7 @@ impl<A: Allocator + Copy> Roles<A> {
 
     /// The leader asks for its ballot.
     pub(crate) fn campaign(&mut self) -> Result<Sends<SharedCommand<A>, A>, Memory>
-        ensures node { OnOk result (self.new ≡ option_map (λ n. (campaigns n).node) self.old) }
+        ensures node { OnOk result (self.new ≡ option_map (λ n. (campaigns n).after) self.old) }
         ensures sends { (n : NodeState A) → self.old ≡ Some n → IfOk result (λ sends. sends ≡ (campaigns n).sends) }
     {
         self.leader.campaign()
@@ -164,6 +172,20 @@ impl<A: Allocator + Copy> Roles<A> {
         ensures { IfSome self.now (λ n. result.now ≡ n.replica.performed) }
     {
         self.replica.performed()
+    }
+
+    /// The maildrops of all users.
+    pub(crate) fn office(&self) -> &Office<A>
+        ensures { IfSome self.now (λ n. result.now ≡ n.replica.machine) }
+    {
+        self.replica.machine()
+    }
+
+    /// The maildrops of all users, without the roles.
+    pub(crate) fn into_office(self) -> Office<A>
+        ensures { IfSome self (λ n. result ≡ n.replica.machine) }
+    {
+        self.replica.into_machine()
     }
 
     /// The first slot that isn't decided.

@@ -1,6 +1,7 @@
 //! One step of a node that runs.
 ghost use Rattle.std.specs.Prelude.{◌≡◌, true, false, Some, Err, IfOk, OnOk, IfErr, OnErr};
-ghost use Rattle.node.specs.Replay.{NodeState, acts, submits, command_for, ticket_of};
+ghost use Rattle.node.specs.Replay.{NodeState, acts, command_for, ticket_of};
+ghost use Rattle.node.specs.Roles.{submits};
 ghost use Rattle.node.specs.Replay as spec;
 ghost use Rattle.node.specs.Nodes.{AreGiven, ArePassed, logged, no_ticket_for};
 ghost use Rattle.node.specs.Tickets.{CanStop};
@@ -24,7 +25,7 @@ struct Acted<A: Allocator = Global> {
     ticket: Option<Ticket>,
 }
 
-/// Gives a command for the user its ticket, and has it requested.
+/// Makes a command for the user with its ticket, and has it requested.
 fn submit<A: Allocator + Copy>(
     alloc: A,
     log: &NodeLog<A>,
@@ -34,7 +35,7 @@ fn submit<A: Allocator + Copy>(
     op: &SharedOp<A>,
 ) -> Result<Acted<A>, Stopped>
     requires { AreGiven log.now.inputs given.now.entries }
-    ensures node { (n : NodeState A) → roles.old ≡ Some n → OnOk result (roles.new ≡ Some ((submits n (command_for log.now.opening.me user op.now log.now.inputs)).node)) }
+    ensures node { (n : NodeState A) → roles.old ≡ Some n → OnOk result (roles.new ≡ Some ((submits n (command_for log.now.opening.me user op.now log.now.inputs)).after)) }
     ensures sends { (n : NodeState A) → roles.old ≡ Some n → IfOk result (λ acted. acted.sends ≡ (submits n (command_for log.now.opening.me user op.now log.now.inputs)).sends) }
     ensures ticket { IfOk result (λ acted. acted.ticket ≡ ticket_of log.now (Submit user op.now)) }
     ensures left { OnOk result (no_ticket_for log.now (Submit user op.now) ≡ false) }
@@ -63,7 +64,7 @@ fn act<A: Allocator + Copy>(
     input: &Input<A>,
 ) -> Result<Acted<A>, Stopped>
     requires { AreGiven log.now.inputs given.now.entries }
-    ensures node { (n : NodeState A) → roles.old ≡ Some n → OnOk result (roles.new ≡ Some ((acts log.now.opening.me log.now.inputs n input.now).node)) }
+    ensures node { (n : NodeState A) → roles.old ≡ Some n → OnOk result (roles.new ≡ Some ((acts log.now.opening.me log.now.inputs n input.now).after)) }
     ensures sends { (n : NodeState A) → roles.old ≡ Some n → IfOk result (λ acted. acted.sends ≡ (acts log.now.opening.me log.now.inputs n input.now).sends) }
     ensures ticket { IfOk result (λ acted. acted.ticket ≡ ticket_of log.now input.now) }
     ensures left { OnOk result (no_ticket_for log.now input.now ≡ false) }
@@ -120,7 +121,7 @@ pub(crate) fn take<A: Allocator + Copy>(
 ) -> Result<Outputs<A>, Stopped>
     requires { AreGiven log.old.inputs given.old.entries }
     ensures log { OnOk result (log.new ≡ logged log.old input) }
-    ensures node { (n : NodeState A) → roles.old ≡ Some n → OnOk result (roles.new ≡ Some ((acts log.old.opening.me log.old.inputs n input).node)) }
+    ensures node { (n : NodeState A) → roles.old ≡ Some n → OnOk result (roles.new ≡ Some ((acts log.old.opening.me log.old.inputs n input).after)) }
     ensures sends { (n : NodeState A) → roles.old ≡ Some n → IfOk result (λ outputs. outputs.sends ≡ spec.sent_from log.old.opening.me (acts log.old.opening.me log.old.inputs n input).sends) }
     ensures ticket { IfOk result (λ outputs. outputs.ticket ≡ ticket_of log.old input) }
     ensures given { OnOk result (ArePassed input given.old.entries given.new.entries) }

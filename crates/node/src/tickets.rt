@@ -1,4 +1,4 @@
-//! The tickets that a node gives.
+//! The tickets that users get of a node.
 ghost use Rattle.std.specs.Prelude.{◌≡◌, true, false, ℕ, ◌+◌, List, IsSome, IfSome, ◌↔◌, OnOk, OnErr, if◌then◌else◌};
 ghost use Rattle.std.specs.Str.{bytes_eq};
 ghost use Rattle.node.specs.Tickets.{tickets_of, has_all_tickets, ticket_at};
@@ -52,34 +52,4 @@ pub(crate) fn give<A: Allocator + Copy>(given: &mut Given<A>, user: Name) -> Res
     let count = count_of(given, user);
     given.insert(user, count + 1).map_err(|_| Memory)?;
     Ok(())
-}
-
-#[cfg(test)]
-mod tests {
-    use super::*;
-    use std::test::Fail;
-
-    /// A user, the number of the user's last ticket, and that of the next; 0 where there is none.
-    type Row = (Name, u64, u64);
-
-    #[test]
-    fn counts_end_at_the_last_number(rt: HostRuntime) -> Result<(), Fail> {
-        let me = NodeId::new(2).ok_or("no node")?;
-        let alice = Name::new(b"alice").ok_or("no name")?;
-        let bob = Name::new(b"bob").ok_or("no name")?;
-        let carol = Name::new(b"carol").ok_or("no name")?;
-        let mut given: Given<_> = IndexMap::new(rt.alloc());
-        given.insert(alice, u64::MAX)?;
-        given.insert(carol, u64::MAX - 1)?;
-        let rows: [Row; 3] = [
-            (alice, u64::MAX, 0),
-            (bob, 0, 1),
-            (carol, u64::MAX - 1, u64::MAX),
-        ];
-        for (user, last, next) in rows {
-            assert_eq!(rt; last_ticket(me, &given, user), Ticket::new(me, last));
-            assert_eq!(rt; next_ticket(me, &given, user), Ticket::new(me, next));
-        }
-        Ok(())
-    }
 }

@@ -3,7 +3,8 @@ use Rattle.std.proofs.Common.{◌≡◌, ◌<◌, ◌≤◌, ◌+◌, ◌-◌, a
 use Rattle.std.specs.List.{slice_split, onto_first}
 use Rattle.memchr.specs.Find.{NoneBefore, Nowhere, Passes, is_byte}
 use Rattle.std.proofs.lemmas.List.{take_rest}
-use Rattle.pop3_wire.specs.Commands.{arguments_in, is_nothing, only_argument, two_arguments}
+use Rattle.pop3_wire.specs.Commands.{arguments_in}
+use Rattle.pop3_wire.specs.Arguments.{is_nothing, only_argument, two_arguments}
 
 split_first : (c : ℕ) (xs : List ℕ) (k : ℕ) → k < length xs → ((i : ℕ) → i < k → (get_or xs i 0 == c) ≡ true → ⊥) → (get_or xs k 0 == c) ≡ true → slice_split (is_byte c) xs ≡ take k xs ∷ slice_split (is_byte c) (drop (suc k) xs)
 split_first c [] k lt before here = absurd (omega arith)

@@ -6,7 +6,7 @@ use Rattle.std.proofs.lemmas.Bool.{cases_Bool}
 use Rattle.std.proofs.lemmas.Fmt.{length-decimal-le}
 use Rattle.std.specs.Io.BufRead.{take_through}
 use Rattle.pop3_wire.specs.declared.listed.Listed.{Listed}
-use Rattle.pop3_wire.specs.Reply.{HasShortFirstLine, greeting, maildrop_has, scan_listings, message_text, message_deleted, number_line, scan_line}
+use Rattle.pop3_wire.specs.Reply.{HasShortFirstLine, greeting, maildrop_has, scan_listings, message_text, message_deleted, number_line}
 
 -- up to an LF there is at most what stands before some place, and what is behind it up to an LF
 through-append : (xs ys : List ℕ) → length (take_through 10 (xs ++ ys)) ≤ length xs + length (take_through 10 ys)
@@ -68,5 +68,5 @@ short-scan_listings octets messages small few =
     let line : List ℕ = codes " octets)\r\n" in
     let sizes : length front ≤ 400 =
     omega (arith, twenty octets small, twenty (length messages) few, length_4 (codes "+OK ") (decimal (length messages)) (codes " messages (") (decimal octets)) in
-    subst HasShortFirstLine (sym (append_assoc (front ++ line) (flat_map scan_line messages) (codes ".\r\n")))
-    (short-ended front line (flat_map scan_line messages ++ codes ".\r\n") sizes (omega arith))
+    subst HasShortFirstLine (sym (append_assoc (front ++ line) (flat_map (λ message. number_line message.number message.octets) messages) (codes ".\r\n")))
+    (short-ended front line (flat_map (λ message. number_line message.number message.octets) messages ++ codes ".\r\n") sizes (omega arith))

@@ -1,6 +1,7 @@
 pub mod Cutting
 pub mod Ends
 pub mod Digits
+pub mod ByParts
 pub mod Tops
 pub mod Undotted
 pub mod Streams

@@ -17,7 +17,8 @@ send_pass = codes "+OK send PASS\r\n"
 
 -- what a login tells, and RSET
 abbrev pub maildrop_has : ℕ → ℕ → List ℕ
-maildrop_has messages octets = codes "+OK maildrop has " ++ decimal messages ++ codes " messages (" ++ decimal octets ++ codes " octets)\r\n"
+maildrop_has messages octets =
+    codes "+OK maildrop has " ++ decimal messages ++ codes " messages (" ++ decimal octets ++ codes " octets)\r\n"
 
 abbrev pub invalid_login : List ℕ
 invalid_login = codes "-ERR invalid login\r\n"
@@ -40,6 +41,7 @@ bad_arguments = codes "-ERR bad arguments\r\n"
 abbrev pub no_such_message : List ℕ
 no_such_message = codes "-ERR no such message\r\n"
 
+-- two numbers, with a space between: a line of a listing
 abbrev pub number_line : ℕ → ℕ → List ℕ
 number_line first second = decimal first ++ codes " " ++ decimal second ++ codes "\r\n"
 
@@ -47,27 +49,24 @@ number_line first second = decimal first ++ codes " " ++ decimal second ++ codes
 abbrev pub drop_listing : ℕ → ℕ → List ℕ
 drop_listing messages octets = codes "+OK " ++ number_line messages octets
 
-abbrev pub scan_line : Listed → List ℕ
-scan_line message = number_line message.number message.octets
-
 -- the scan listings of LIST, for messages of so many octets together
 abbrev pub scan_listings : ℕ → List Listed → List ℕ
 scan_listings octets messages =
     codes "+OK " ++ decimal (length messages) ++ codes " messages (" ++ decimal octets ++ codes " octets)\r\n"
-    ++ flat_map scan_line messages ++ codes ".\r\n"
+    ++ flat_map (λ message. number_line message.number message.octets) messages ++ codes ".\r\n"
 
 -- the scan listing of one message
 abbrev pub scan_listing : Listed → List ℕ
-scan_listing message = codes "+OK " ++ scan_line message
+scan_listing message = codes "+OK " ++ number_line message.number message.octets
 
-abbrev pub unique_id_line : Identified → List ℕ
-unique_id_line message = number_line message.number message.uid
-
+-- the unique ids of UIDL
 abbrev pub unique_id_listings : List Identified → List ℕ
-unique_id_listings messages = codes "+OK\r\n" ++ flat_map unique_id_line messages ++ codes ".\r\n"
+unique_id_listings messages =
+    codes "+OK\r\n" ++ flat_map (λ message. number_line message.number message.uid) messages ++ codes ".\r\n"
 
+-- the unique id of one message
 abbrev pub unique_id_listing : Identified → List ℕ
-unique_id_listing message = codes "+OK " ++ unique_id_line message
+unique_id_listing message = codes "+OK " ++ number_line message.number message.uid
 
 -- the whole text, of so many octets
 abbrev pub message_text : ℕ → List (List ℕ) → List ℕ
@@ -93,7 +92,7 @@ signing_off = codes "+OK signing off\r\n"
 abbrev pub not_removed : List ℕ
 not_removed = codes "-ERR some deleted messages not removed\r\n"
 
--- behind its status the reply has a response code (RFC 2449 section 8)
+-- after its status the reply has a response code (RFC 2449 section 8)
 abbrev pub has_response_code : List ℕ → Bool
 has_response_code bytes = starts_with nat_eq bytes (codes "+OK [") || starts_with nat_eq bytes (codes "-ERR [")
 

@@ -14,7 +14,7 @@ unstuffed_line (b ∷ bytes) =
     if b == 46 then (if begins_with_dot bytes then Some bytes else None) else Some (b ∷ bytes)
 
 abbrev pub wire_line : List ℕ → List ℕ
-wire_line line = stuffed_line line ++ codes "\r\n"
+wire_line line = (if begins_with_dot line then 46 ∷ line else line) ++ codes "\r\n"
 
 -- each line, and then a dot alone
 abbrev pub wire_form : List (List ℕ) → List ℕ

@@ -20,6 +20,7 @@ pub use line_reader::{LineReader, reader_cuts_lines};
 pub use listed::{Identified, Listed};
 pub use parsing::parse;
 pub use reply::Reply;
+pub use reply_text::message_line;
 pub use stuffing::stuffed;
 pub use unstuffing::unstuffed;
 pub use verb::{Keyword, LineFault, Verb};

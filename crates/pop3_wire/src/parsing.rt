@@ -3,7 +3,10 @@ ghost use Rattle.std.specs.Prelude.{◌≡◌, ◌≤◌, [], ◌∷◌, length,
 ghost use Rattle.std.specs.List.{list_all, slice_split};
 ghost use Rattle.std.specs.Option.{option_map, option_copied};
 ghost use Rattle.std.specs.Char.{to_ascii_lowercase, is_ascii_digit};
+ghost use Rattle.std.specs.Str.{bytes_eq};
+ghost use Rattle.memchr.specs.Find.{is_byte};
 ghost use Rattle.pop3_wire.specs.Commands as spec;
+ghost use Rattle.pop3_wire.specs.Arguments as parts;
 ghost use Rattle.pop3_wire.specs.Limits.{longest_line, most_digits};
 
 use crate::line_bytes::LineBytes;
@@ -16,7 +19,7 @@ const MOST_DIGITS: usize = 9;
 
 fn is_word(bytes: &[u8], word: &[u8]) -> bool
     requires { map to_ascii_lowercase word.now ≡ word.now }
-    ensures { result ≡ spec.is_word bytes.now word.now }
+    ensures { result ≡ bytes_eq (map to_ascii_lowercase bytes.now) word.now }
 {
     bytes.eq_ignore_ascii_case(word)
 }
@@ -56,7 +59,7 @@ fn keyword_of(bytes: &[u8]) -> Option<Keyword>
 }
 
 fn first_space(line: &[u8]) -> Option<usize>
-    ensures { result ≡ position spec.is_space line.now }
+    ensures { result ≡ position (is_byte 32) line.now }
 {
     line.iter().position(|b| *b == b' ')
 }
@@ -112,11 +115,11 @@ fn number_of(bytes: &[u8]) -> Option<u32>
     Some(number_value(bytes))
 }
 
-/// What stands before the first space and what stands behind it, if there is a space.
+/// What stands before the first space and what comes after it, if there is a space.
 fn cut_at_space(bytes: &[u8]) -> Option<(&[u8], &[u8])>
     ensures { MatchOption result
-        (slice_split spec.is_space bytes.now ≡ bytes.now ∷ [])
-        (λ cut. slice_split spec.is_space bytes.now ≡ cut.0.now ∷ slice_split spec.is_space cut.1.now) }
+        (slice_split (is_byte 32) bytes.now ≡ bytes.now ∷ [])
+        (λ cut. slice_split (is_byte 32) bytes.now ≡ cut.0.now ∷ slice_split (is_byte 32) cut.1.now) }
 {
     match memchr(b' ', bytes) {
         None => None,
@@ -125,13 +128,13 @@ fn cut_at_space(bytes: &[u8]) -> Option<(&[u8], &[u8])>
 }
 
 fn is_nothing(rest: &[u8]) -> bool
-    ensures { result ≡ spec.is_nothing (spec.arguments_in rest.now) }
+    ensures { result ≡ parts.is_nothing (spec.arguments_in rest.now) }
 {
     rest.is_empty()
 }
 
 fn only_argument(rest: &[u8]) -> Option<&[u8]>
-    ensures { option_copied result ≡ spec.only_argument (spec.arguments_in rest.now) }
+    ensures { option_copied result ≡ parts.only_argument (spec.arguments_in rest.now) }
 {
     match rest {
         [] => None,
@@ -144,7 +147,7 @@ fn only_argument(rest: &[u8]) -> Option<&[u8]>
 
 fn two_arguments(rest: &[u8]) -> Option<(&[u8], &[u8])>
     ensures { option_map (λ both. (both.0.now, both.1.now)) result
-        ≡ spec.two_arguments (spec.arguments_in rest.now) }
+        ≡ parts.two_arguments (spec.arguments_in rest.now) }
 {
     match rest {
         [] => None,
@@ -159,7 +162,7 @@ fn two_arguments(rest: &[u8]) -> Option<(&[u8], &[u8])>
 }
 
 fn name_in(rest: &[u8]) -> Option<Name>
-    ensures { result ≡ spec.name_in (spec.arguments_in rest.now) }
+    ensures { result ≡ parts.name_in (spec.arguments_in rest.now) }
 {
     match only_argument(rest) {
         None => None,
@@ -168,7 +171,7 @@ fn name_in(rest: &[u8]) -> Option<Name>
 }
 
 fn number_in(rest: &[u8]) -> Option<u32>
-    ensures { result ≡ spec.number_in (spec.arguments_in rest.now) }
+    ensures { result ≡ parts.number_in (spec.arguments_in rest.now) }
 {
     match only_argument(rest) {
         None => None,
@@ -177,7 +180,7 @@ fn number_in(rest: &[u8]) -> Option<u32>
 }
 
 fn numbers_in(rest: &[u8]) -> Option<(u32, u32)>
-    ensures { result ≡ spec.numbers_in (spec.arguments_in rest.now) }
+    ensures { result ≡ parts.numbers_in (spec.arguments_in rest.now) }
 {
     match two_arguments(rest) {
         None => None,
@@ -189,7 +192,7 @@ fn numbers_in(rest: &[u8]) -> Option<(u32, u32)>
 }
 
 fn apop_of(name: &[u8], digest: &[u8]) -> Option<Verb>
-    ensures { result ≡ spec.apop_of name.now digest.now }
+    ensures { result ≡ parts.apop_of name.now digest.now }
 {
     let name = Name::new(name)?;
     // An argument has the characters of a name.
@@ -201,7 +204,7 @@ fn apop_of(name: &[u8], digest: &[u8]) -> Option<Verb>
 }
 
 fn apop_in(rest: &[u8]) -> Option<Verb>
-    ensures { result ≡ spec.apop_in (spec.arguments_in rest.now) }
+    ensures { result ≡ parts.apop_in (spec.arguments_in rest.now) }
 {
     match two_arguments(rest) {
         None => None,
@@ -210,13 +213,13 @@ fn apop_in(rest: &[u8]) -> Option<Verb>
 }
 
 fn bare(verb: Verb, rest: &[u8]) -> Option<Verb>
-    ensures { result ≡ (if spec.is_nothing (spec.arguments_in rest.now) then Some verb else None) }
+    ensures { result ≡ (if parts.is_nothing (spec.arguments_in rest.now) then Some verb else None) }
 {
     if is_nothing(rest) { Some(verb) } else { None }
 }
 
 fn verb_with(keyword: Keyword, rest: &[u8]) -> Option<Verb>
-    ensures { result ≡ spec.verb_with keyword (spec.arguments_in rest.now) }
+    ensures { result ≡ parts.verb_by_parts keyword (spec.arguments_in rest.now) }
 {
     match keyword {
         Keyword::User => name_in(rest).map(Verb::User),

@@ -1,5 +1,5 @@
 //! The bytes of replies, one function for each occasion that tells something.
-ghost use Rattle.std.specs.Prelude.{◌≡◌, ◌≤◌, ◌++◌, false, length, codes, IfOk, OnOk};
+ghost use Rattle.std.specs.Prelude.{◌≡◌, ◌≤◌, ◌++◌, false, length, codes, decimal, IfOk, OnOk};
 ghost use Rattle.std.specs.List.{flat_map};
 ghost use Rattle.pop3_wire.specs.Limits.{longest_reply_line};
 ghost use Rattle.pop3_wire.specs.Reply as spec;
@@ -91,7 +91,7 @@ pub(crate) fn two_numbers<A: Allocator>(
 }
 
 fn put_scans<A: Allocator>(text: &mut Vec<u8, A>, messages: &[Listed]) -> Result<(), Memory>
-    ensures { OnOk result (text.new.items ≡ text.old.items ++ flat_map spec.scan_line messages.now) }
+    ensures { OnOk result (text.new.items ≡ text.old.items ++ flat_map (λ message. spec.number_line message.number message.octets) messages.now) }
 {
     for message in messages {
         put_numbers(text, message.number, message.octets)?;
@@ -103,7 +103,7 @@ fn put_unique_ids<A: Allocator>(
     text: &mut Vec<u8, A>,
     messages: &[Identified],
 ) -> Result<(), Memory>
-    ensures { OnOk result (text.new.items ≡ text.old.items ++ flat_map spec.unique_id_line messages.now) }
+    ensures { OnOk result (text.new.items ≡ text.old.items ++ flat_map (λ message. spec.number_line message.number message.uid) messages.now) }
 {
     for message in messages {
         put_numbers(text, message.number, message.uid)?;
@@ -145,6 +145,24 @@ pub(crate) fn unique_id_listings<A: Allocator>(
     Ok(text)
 }
 
+/// Adds the first line of the reply to RETR.
+fn put_message_line<A: Allocator>(text: &mut Vec<u8, A>, octets: u64) -> Result<(), Memory>
+    ensures { OnOk result (text.new.items ≡ text.old.items ++ (codes "+OK " ++ decimal octets ++ codes " octets\r\n")) }
+{
+    put(text, b"+OK ")?;
+    put_number(text, octets)?;
+    put(text, b" octets\r\n")
+}
+
+/// The first line of the reply to RETR, for a text of so many octets.
+pub fn message_line<A: Allocator>(alloc: A, octets: u64) -> Result<Vec<u8, A>, Memory>
+    ensures { IfOk result (λ line. line.items ≡ codes "+OK " ++ decimal octets ++ codes " octets\r\n") }
+{
+    let mut line = with_room(alloc, FIRST_LINE)?;
+    put_message_line(&mut line, octets)?;
+    Ok(line)
+}
+
 pub(crate) fn message_text<A: Allocator + Copy>(
     alloc: A,
     octets: u64,
@@ -155,9 +173,7 @@ pub(crate) fn message_text<A: Allocator + Copy>(
     ensures short { IfOk result (λ reply. spec.HasShortFirstLine reply.items) }
 {
     let mut reply = with_room(alloc, wire_room(text).saturating_add(FIRST_LINE))?;
-    put(&mut reply, b"+OK ")?;
-    put_number(&mut reply, octets)?;
-    put(&mut reply, b" octets\r\n")?;
+    put_message_line(&mut reply, octets)?;
     put_wire(&mut reply, text)?;
     Ok(reply)
 }

@@ -11,11 +11,12 @@ use Rattle.ballot.specs.declared.message.Promise.{Promise}
 use Rattle.ballot.specs.declared.message.Vote.{Vote}
 use Rattle.ballot.proofs.Member.{IsEquality, in_left, in_last, joined_old, joined_new, joined_cases}
 use Rattle.ballot.proofs.Order.{same_ballot-true}
-use Rattle.proposer.specs.Quorums.{Pending, Step, Waits, Wins, Yields, Ignores, while_waiting, left_by, answered, is_quorum}
-use Rattle.proposer.specs.Scouts.{ScoutState, new_scout, scout_counts, scout_hears, with_promise, scout_after, scout_step, HasPromises, IsAdoption}
-use Rattle.proposer.specs.Commanders.{CommanderState, new_commander, commander_counts, commander_hears, commander_step, verdict_of, with_vote, commander_after, HasVotes, IsDecision}
+use Rattle.proposer.specs.Quorums.{Pending, Step, Waits, Wins, Yields, Ignores, left_by}
+use Rattle.proposer.specs.Scouts.{ScoutState, new_scout, scout_hears, scout_after, scout_step, HasPromises, IsAdoption}
+use Rattle.proposer.specs.Commanders.{CommanderState, new_commander, commander_hears, commander_step, verdict_of, commander_after, HasVotes, IsDecision}
 use Rattle.proposer.specs.declared.commander.Verdict.TheVariants.{Decided}
 use Rattle.proposer.proofs.Wins.{Counts, is_win, same_height, answered_counts, answered_wins, quorum_majority, wins_if, verdict_win}
+use Rattle.proposer.proofs.Parts.{while_waiting, answered, is_quorum, scout_counts, with_promise, commander_counts, with_vote}
 
 -- what waits after an answer that changes something has counted it
 pub answered_waits : {S R : Type 0} (size : ℕ) (mine : BallotNumber) (heard : List ℕ) (from : ℕ) (fits : Bool) (b : BallotNumber) (counted : Step S R) (s : S) →

@@ -1,3 +1,4 @@
+pub mod Parts
 pub mod Wins
 pub mod Heard
 pub mod Places

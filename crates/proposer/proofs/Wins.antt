@@ -12,9 +12,10 @@ use Rattle.ballot.proofs.Order.{below-false, AtMost-test, most_refl, most_or_bel
 use Rattle.proposer.specs.declared.commander.Verdict.{Verdict}
 use Rattle.proposer.specs.declared.commander.Verdict.TheVariants.{Decided}
 use Rattle.proposer.specs.declared.scout.Progress.{Progress}
-use Rattle.proposer.specs.Quorums.{Pending, Step, Waits, Wins, Yields, Ignores, answered, is_quorum}
-use Rattle.proposer.specs.Scouts.{ScoutState, scout_counts, scout_hears, scout_step, with_promise, progress_of, is_adopted, IsCounted as IsPromised}
-use Rattle.proposer.specs.Commanders.{CommanderState, commander_counts, commander_hears, commander_step, with_vote, verdict_of, IsCounted as IsVoted}
+use Rattle.proposer.specs.Quorums.{Pending, Step, Waits, Wins, Yields, Ignores}
+use Rattle.proposer.specs.Scouts.{ScoutState, scout_hears, scout_step, progress_of, is_adopted, IsCounted as IsPromised}
+use Rattle.proposer.specs.Commanders.{CommanderState, commander_hears, commander_step, verdict_of, IsCounted as IsVoted}
+use Rattle.proposer.proofs.Parts.{answered, is_quorum, scout_counts, with_promise, commander_counts, with_vote}
 
 -- ballots of which neither is below the other
 pub same_height : (a b : BallotNumber) → below a b ≡ false → below b a ≡ false → b ≡ a

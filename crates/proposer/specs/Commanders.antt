@@ -1,12 +1,13 @@
 -- Commanders.
-use Rattle.std.specs.Prelude.{◌≡◌, refl, ℕ, List, [], ◌∷◌, true, false, Some, ◌==◌, ◌&&◌, if◌then◌else◌}
+use Rattle.std.specs.Prelude.{◌≡◌, refl, ℕ, List, [], ◌∷◌, Bool, true, false, Some, ◌==◌, ◌&&◌}
+use Rattle.std.specs.Option.{option_map_or}
 use Rattle.ballot.specs.Ballots.{BallotNumber, same_ballot}
 use Rattle.ballot.specs.Lists.{IsIn}
 use Rattle.ballot.specs.Nodes.{in_cluster, is_among, AreDistinct, IsMajority}
 use Rattle.ballot.specs.declared.message.Vote.{Vote}
 use Rattle.proposer.specs.declared.commander.Verdict.{Verdict}
 use Rattle.proposer.specs.declared.commander.Verdict.TheVariants.{Waiting, Decided, Preempted, Stale}
-use Rattle.proposer.specs.Quorums.{Pending, Step, Waits, Wins, Yields, Ignores, while_waiting, left_by, answered, is_quorum}
+use Rattle.proposer.specs.Quorums.{Pending, Step, Waits, Wins, Yields, Ignores, left_by, counted_if_due}
 
 -- a commander that waits: its ballot and slot, and the acceptors counted, the last first
 pub record CommanderState : Type 0 where
@@ -14,23 +15,21 @@ pub record CommanderState : Type 0 where
   pub slot : ℕ
   pub heard : List ℕ
 
+-- it has counted none
 abbrev pub new_commander : BallotNumber → ℕ → CommanderState
 new_commander b slot = record { ballot = b; slot = slot; heard = [] }
 
-abbrev pub commander_counts : ℕ → CommanderState → Step CommanderState (Unit {0})
-commander_counts size k = if is_quorum size k.heard then Wins tt else Waits k
-
--- the commander that has counted one acceptor more
-abbrev pub with_vote : CommanderState → ℕ → CommanderState
-with_vote k from = record { ballot = k.ballot; slot = k.slot; heard = from ∷ k.heard }
-
+-- a commander that waits hears a vote
 abbrev pub commander_hears : ℕ → CommanderState → ℕ → Vote → Step CommanderState (Unit {0})
 commander_hears size k from v =
-    answered size k.ballot k.heard from (same_ballot v.asked k.ballot && v.slot == k.slot) v.ballot (commander_counts size (with_vote k from))
+    let fits : Bool = same_ballot v.asked k.ballot && v.slot == k.slot in
+    counted_if_due size k.ballot k.heard from fits v.ballot (record k { heard = from ∷ k.heard }) tt
 
+-- a vote that comes after the end changes nothing
 abbrev pub commander_step : Pending CommanderState → ℕ → Vote → Step CommanderState (Unit {0})
-commander_step commander from v = while_waiting commander.state (λ k. commander_hears commander.size k from v)
+commander_step commander from v = option_map_or (λ k. commander_hears commander.size k from v) commander.state Ignores
 
+-- what the commander answers
 abbrev pub verdict_of : Step CommanderState (Unit {0}) → Verdict
 verdict_of (Waits k) = Waiting
 verdict_of (Wins r) = Decided

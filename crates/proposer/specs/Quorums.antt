@@ -1,5 +1,5 @@
 -- Waiting for the answers of more than half of the acceptors.
-use Rattle.std.specs.Prelude.{ℕ, ◌*◌, List, length, Bool, true, false, not, Option, Some, None, ◌&&◌, ◌||◌, nat_lt, if◌then◌else◌}
+use Rattle.std.specs.Prelude.{ℕ, ◌*◌, List, ◌∷◌, length, Bool, true, false, not, Option, Some, None, ◌&&◌, ◌||◌, nat_lt, if◌then◌else◌}
 use Rattle.ballot.specs.Ballots.{BallotNumber, below}
 use Rattle.ballot.specs.Nodes.{in_cluster, is_among}
 
@@ -20,17 +20,11 @@ pub data Step (S R : Type 0) : Type 0 where
   Ignores : Step S R
 
 module _ {S R : Type 0} where
-  -- an answer that comes after the end changes nothing
-  abbrev pub while_waiting : Option S → (S → Step S R) → Step S R
-  while_waiting None step = Ignores
-  while_waiting (Some s) step = step s
-
-  -- what waits then
+  -- what waits after an answer
   abbrev pub left_by : Option S → Step S R → Option S
   left_by old (Waits s) = Some s
-  left_by old (Wins r) = None
-  left_by old (Yields b) = None
   left_by old Ignores = old
+  left_by old _ = None
 
   -- whether the answer is counted
   abbrev pub is_counted : Step S R → Bool
@@ -39,14 +33,11 @@ module _ {S R : Type 0} where
   is_counted _ = false
 
   -- the tests of an answer, in their order: mine is the ballot that waits, heard are the acceptors counted, fits says whether what was asked is
-  -- what the answer is to, and b is the answer's ballot
-  abbrev pub answered : ℕ → BallotNumber → List ℕ → ℕ → Bool → BallotNumber → Step S R → Step S R
-  answered size mine heard from fits b counted =
+  -- what the answer is to, and b is the answer's ballot. Once it is counted, `now` waits, or with more than half of the cluster the result is won
+  abbrev pub counted_if_due : ℕ → BallotNumber → List ℕ → ℕ → Bool → BallotNumber → S → R → Step S R
+  counted_if_due size mine heard from fits b now result =
       if not (in_cluster size from && fits) then Ignores
       else if below mine b then Yields b
       else if below b mine || is_among from heard then Ignores
-      else counted
-
--- whether so many acceptors are more than half
-abbrev pub is_quorum : ℕ → List ℕ → Bool
-is_quorum size heard = nat_lt size (2 * length heard)
+      else if nat_lt size (2 * length (from ∷ heard)) then Wins result
+      else Waits now

@@ -1,5 +1,6 @@
 -- Scouts. Commands are compared by eq.
-use Rattle.std.specs.Prelude.{◌≡◌, refl, ℕ, List, [], ◌∷◌, Bool, true, false, Some, if◌then◌else◌}
+use Rattle.std.specs.Prelude.{◌≡◌, refl, ℕ, List, [], ◌∷◌, Bool, true, false, Some}
+use Rattle.std.specs.Option.{option_map_or}
 use Rattle.ballot.specs.Ballots.{BallotNumber, same_ballot}
 use Rattle.ballot.specs.Lists.{IsIn}
 use Rattle.ballot.specs.Nodes.{in_cluster, is_among, AreDistinct, IsMajority}
@@ -8,7 +9,7 @@ use Rattle.ballot.specs.declared.pvalue.PValue.{PValue}
 use Rattle.ballot.specs.declared.message.Promise.{Promise}
 use Rattle.proposer.specs.declared.scout.Progress.{Progress}
 use Rattle.proposer.specs.declared.scout.Progress.TheVariants.{Waiting, Adopted, Preempted, Stale}
-use Rattle.proposer.specs.Quorums.{Pending, Step, Waits, Wins, Yields, Ignores, while_waiting, left_by, answered, is_quorum}
+use Rattle.proposer.specs.Quorums.{Pending, Step, Waits, Wins, Yields, Ignores, left_by, counted_if_due}
 
 -- a scout that waits: its ballot, the acceptors counted, the last first, and the union of what they have accepted
 pub record ScoutState (C : Type 0) : Type 0 where
@@ -17,24 +18,22 @@ pub record ScoutState (C : Type 0) : Type 0 where
   pub pvalues : List (PValue C)
 
 module _ {C : Type 0} where
+  -- it has counted none
   abbrev pub new_scout : BallotNumber → ScoutState C
   new_scout b = record { ballot = b; heard = []; pvalues = [] }
 
-  abbrev pub scout_counts : ℕ → ScoutState C → Step (ScoutState C) (List (PValue C))
-  scout_counts size s = if is_quorum size s.heard then Wins s.pvalues else Waits s
-
 module _ {C A : Type 0} where
-  -- the scout that has counted one acceptor more
-  abbrev pub with_promise : (C → C → Bool) → ScoutState C → ℕ → Promise C A → ScoutState C
-  with_promise eq s from p = record { ballot = s.ballot; heard = from ∷ s.heard; pvalues = joined eq s.pvalues p.accepted }
-
+  -- a scout that waits hears a promise
   abbrev pub scout_hears : (C → C → Bool) → ℕ → ScoutState C → ℕ → Promise C A → Step (ScoutState C) (List (PValue C))
   scout_hears eq size s from p =
-      answered size s.ballot s.heard from (same_ballot p.asked s.ballot) p.ballot (scout_counts size (with_promise eq s from p))
+      let now : ScoutState C = record s { heard = from ∷ s.heard; pvalues = joined eq s.pvalues p.accepted } in
+      counted_if_due size s.ballot s.heard from (same_ballot p.asked s.ballot) p.ballot now now.pvalues
 
+  -- a promise that comes after the end changes nothing
   abbrev pub scout_step : (C → C → Bool) → Pending (ScoutState C) → ℕ → Promise C A → Step (ScoutState C) (List (PValue C))
-  scout_step eq scout from p = while_waiting scout.state (λ s. scout_hears eq scout.size s from p)
+  scout_step eq scout from p = option_map_or (λ s. scout_hears eq scout.size s from p) scout.state Ignores
 
+  -- what the scout answers
   abbrev pub progress_of : Step (ScoutState C) (List (PValue C)) → Progress C A
   progress_of (Waits s) = Waiting
   progress_of (Wins ps) = Adopted ps

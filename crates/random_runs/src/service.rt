@@ -3,7 +3,7 @@
 use crate::config::{ACCOUNTS, WINDOW, accounts, limits};
 use crate::happening::{Happening, event_of};
 use ballot::{Cluster, NodeId, Slot};
-use maildrop::SharedCommand;
+use maildrop::{Kept, Shared, SharedCommand};
 use std::alloc::Global;
 use std::test::Fail;
 use world::{Config, Event, World};
@@ -25,6 +25,8 @@ impl Service {
         let config = Config {
             accounts,
             limits,
+            kept: Shared::new(alloc, Kept::new(alloc))?,
+            keys: 0,
             cluster,
             window: WINDOW,
         };

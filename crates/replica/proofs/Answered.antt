@@ -8,7 +8,9 @@ use Rattle.std.specs.Ordering.{is_eq}
 use Rattle.std.proofs.lemmas.List.{append-nil}
 use Rattle.std.proofs.lemmas.List.Folds.{list_any-append}
 use Rattle.std.proofs.lemmas.Bool.{true≢false}
-use Rattle.replica.specs.Replicas.{Rules, ReplicaState, at_slot, has_identity, performs, gives_way, performs_next, performs_slots}
+use Rattle.replica.specs.Replicas.{Rules, ReplicaState, has_identity, performs, gives_way, performs_slots}
+use Rattle.ballot.specs.Slots.{at_slot}
+use Rattle.replica.proofs.Parts.{performs_next}
 use Rattle.replica.specs.Calls.{after_all, answer_among, awaited_for, answered_with, AreAnswers, Performs, Ascend}
 use Rattle.replica.proofs.Slots.{either}
 use Rattle.replica.proofs.Identities.{has_same, lookup_set, ascend_set}

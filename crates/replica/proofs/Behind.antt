@@ -2,7 +2,9 @@
 use Rattle.std.proofs.Common.{◌≡◌, ℕ, zero, suc, ◌+◌, ◌-◌, ◌<◌, ◌≤◌, true, List, [], ◌∷◌, ◌++◌, Option, Some, None, is_some, ap, ◌∙◌, sym, arith, ⊎_elim, cond, append_assoc}
 use Rattle.std.proofs.lemmas.List.{append-nil}
 use Rattle.std.proofs.lemmas.Bool.{true≢false, cases_lt}
-use Rattle.replica.specs.Replicas.{Rules, ReplicaState, at_slot, is_decided, first_slots, in_slot, has_identity, once, IsFrontOf}
+use Rattle.replica.specs.Replicas.{Rules, ReplicaState, is_decided, first_slots, has_identity, once, IsFrontOf}
+use Rattle.ballot.specs.Slots.{at_slot}
+use Rattle.replica.proofs.Parts.{in_slot}
 use Rattle.replica.specs.Calls.{IsBehind}
 use Rattle.replica.proofs.Slots.{first_slots-same}
 use Rattle.replica.proofs.Front.{once_push}

@@ -2,7 +2,11 @@
 use Rattle.std.proofs.Common.{◌≡◌, refl, ap, ◌∙◌, sym, ℕ, zero, suc, List, [], ◌∷◌, ◌++◌, Bool, true, false, Option, Some, None, if◌then◌else◌, length, ◌+◌, ◌-◌}
 use Rattle.ballot.specs.declared.outgoing.Outgoing.{Outgoing}
 use Rattle.replica.specs.Taken.{but_awaited}
-use Rattle.replica.specs.Replicas.{Rules, ReplicaState, Move, at_slot, is_decided, is_open, kept, has_identity, performs, gives_way, performs_next, performs_slots, proposes_next, proposes_slots, proposes, awaiting, with_request, requested, with_decision, decided, ticked}
+use Rattle.replica.specs.Replicas.{Rules, ReplicaState, is_decided, is_open, has_identity, performs, gives_way, performs_slots, proposes_next, proposes_slots, proposes, awaiting, requested, learns, replica_ticks}
+use Rattle.ballot.specs.Sends.{Move}
+use Rattle.ballot.specs.Slots.{at_slot}
+use Rattle.replica.specs.Parts.{with_decided, with_request, with_decision}
+use Rattle.replica.proofs.Parts.{performs_next}
 
 module _ {C I R M : Type 0} where
   pick : (b : Bool) (x y x' y' : ReplicaState C I R M) → but_awaited x ≡ but_awaited x' → but_awaited y ≡ but_awaited y' → but_awaited (if b then x else y) ≡ but_awaited (if b then x' else y')
@@ -34,11 +38,11 @@ module _ {C I R M : Type 0} where
         ∙ sym (performs_slots_the_same n (performs_next rules next (but_awaited r)))
 
 module _ {C I R M A : Type 0} where
-  pub record AreAlike (m n : Move C I R M A) : Type 0 where
-    pub replica : but_awaited m.replica ≡ but_awaited n.replica
+  pub record AreAlike (m n : Move (ReplicaState C I R M) C A) : Type 0 where
+    pub replica : but_awaited m.after ≡ but_awaited n.after
     pub sends : m.sends ≡ n.sends
 
-  pick_move : (b : Bool) (x y x' y' : Move C I R M A) → AreAlike x x' → AreAlike y y' → AreAlike (if b then x else y) (if b then x' else y')
+  pick_move : (b : Bool) (x y x' y' : Move (ReplicaState C I R M) C A) → AreAlike x x' → AreAlike y y' → AreAlike (if b then x else y) (if b then x' else y')
   pick_move true x y x' y' p q = p
   pick_move false x y x' y' p q = q
 
@@ -50,15 +54,15 @@ module _ {C I R M A : Type 0} where
   proposes_slots_alike : (n : ℕ) (r : ReplicaState C I R M) → AreAlike (proposes_slots n r) (proposes_slots n (but_awaited r))
   proposes_slots_alike zero r = record { replica = refl; sends = refl }
   proposes_slots_alike (suc n) r =
-      let Step = Move C I R M A in
+      let Step = Move (ReplicaState C I R M) C A in
       let first : Step = proposes_next r.requests r in
       let other : Step = proposes_next r.requests (but_awaited r) in
       let same = proposes_next_alike r.requests r in
-      let here = proposes_slots_alike n first.replica in
-      let there = proposes_slots_alike n other.replica in
+      let here = proposes_slots_alike n first.after in
+      let there = proposes_slots_alike n other.after in
       record {
-        replica = here.replica ∙ ap (λ (x : ReplicaState C I R M). but_awaited (proposes_slots {A = A} n x).replica) same.replica ∙ sym there.replica;
-        sends = ap (λ (xs : List (Outgoing C A)). xs ++ (proposes_slots n first.replica).sends) same.sends
+        replica = here.replica ∙ ap (λ (x : ReplicaState C I R M). but_awaited (proposes_slots {A = A} n x).after) same.replica ∙ sym there.replica;
+        sends = ap (λ (xs : List (Outgoing C A)). xs ++ (proposes_slots n first.after).sends) same.sends
             ∙ ap (λ (xs : List (Outgoing C A)). other.sends ++ xs) (here.sends ∙ ap (λ (x : ReplicaState C I R M). (proposes_slots {A = A} n x).sends) same.replica ∙ sym there.sends);
       }
 
@@ -69,20 +73,20 @@ module _ {C I R M A : Type 0} where
       let there = proposes_slots_alike (turns s) s in
       let between : proposes_slots {A = A} (turns r) (but_awaited r) ≡ proposes_slots (turns s) (but_awaited s) = ap (λ (x : ReplicaState C I R M). proposes_slots {A = A} (turns x) x) same in
       record {
-        replica = here.replica ∙ ap (λ (m : Move C I R M A). but_awaited m.replica) between ∙ sym there.replica;
-        sends = here.sends ∙ ap (λ (m : Move C I R M A). m.sends) between ∙ sym there.sends;
+        replica = here.replica ∙ ap (λ (m : Move (ReplicaState C I R M) C A). but_awaited m.after) between ∙ sym there.replica;
+        sends = here.sends ∙ ap (λ (m : Move (ReplicaState C I R M) C A). m.sends) between ∙ sym there.sends;
       }
 
-  pub ticked_alike : (r s : ReplicaState C I R M) → but_awaited r ≡ but_awaited s → (ticked {A = A} r).sends ≡ (ticked {A = A} s).sends
-  ticked_alike r s same = ap (λ (x : ReplicaState C I R M). (ticked {A = A} x).sends) same
+  pub ticked_alike : (r s : ReplicaState C I R M) → but_awaited r ≡ but_awaited s → (replica_ticks {A = A} r).sends ≡ (replica_ticks {A = A} s).sends
+  ticked_alike r s same = ap (λ (x : ReplicaState C I R M). (replica_ticks {A = A} x).sends) same
 
   module _ (rules : Rules C I R M) where
     pub requested_alike : (c : C) (r s : ReplicaState C I R M) → but_awaited r ≡ but_awaited s → AreAlike (requested rules c r) (requested rules c s)
     requested_alike c r s same = proposes_alike (with_request c (awaiting rules c r)) (with_request c (awaiting rules c s)) (ap (with_request c) same)
 
-    pub decided_alike : (slot : ℕ) (c : C) (r s : ReplicaState C I R M) → but_awaited r ≡ but_awaited s → AreAlike (decided rules slot c r) (decided rules slot c s)
+    pub decided_alike : (slot : ℕ) (c : C) (r s : ReplicaState C I R M) → but_awaited r ≡ but_awaited s → AreAlike (learns rules slot c r) (learns rules slot c s)
     decided_alike slot c r s same =
-        let turns = λ (x : ReplicaState C I R M). length (kept slot c x.decisions) in
+        let turns = λ (x : ReplicaState C I R M). length (with_decided slot c x.decisions) in
         proposes_alike _ _ (
         performs_slots_the_same rules (turns r) (with_decision slot c r)
         ∙ ap (λ (x : ReplicaState C I R M). but_awaited (performs_slots rules (turns x) (with_decision slot c x))) same

@@ -2,7 +2,10 @@
 use Rattle.std.proofs.Common.{◌≡◌, ◌≢◌, ℕ, zero, suc, ◌+◌, ◌-◌, ◌<◌, ◌≤◌, Bool, true, false, List, [], ◌∷◌, ◌++◌, Option, Some, None, refl, ap, ◌∙◌, sym, arith, subst, ⊎_elim, cond, append_assoc}
 use Rattle.std.proofs.lemmas.List.{append-nil}
 use Rattle.std.proofs.lemmas.Bool.{cases_eq}
-use Rattle.replica.specs.Replicas.{Rules, ReplicaState, at_slot, is_decided, kept, first_slots, has_identity, once, performs, gives_way, performs_next, performs_slots, with_decision}
+use Rattle.replica.specs.Replicas.{Rules, ReplicaState, is_decided, first_slots, has_identity, once, performs, gives_way, performs_slots}
+use Rattle.ballot.specs.Slots.{at_slot}
+use Rattle.replica.specs.Parts.{with_decided, with_decision}
+use Rattle.replica.proofs.Parts.{performs_next}
 use Rattle.replica.proofs.Slots.{decided_stays, first_slots-same, from_slot, from_slot_none, from_slot_falls}
 
 -- a front, which may go on
@@ -148,7 +151,7 @@ module _ {C I R M : Type 0} (rules : Rules C I R M) where
       record {
         begins = f.begins;
         gapless = λ t low high. rw (decided_stays s t c r.decisions (f.gapless t low high)) (f.gapless t low high);
-        performed = f.performed ∙ ap (once rules []) (sym (first_slots-same (r.slot_out - 1) (kept s c r.decisions) r.decisions (λ t low high. decided_stays s t c r.decisions (f.gapless t low (omega (arith, f.begins, high))))));
+        performed = f.performed ∙ ap (once rules []) (sym (first_slots-same (r.slot_out - 1) (with_decided s c r.decisions) r.decisions (λ t low high. decided_stays s t c r.decisions (f.gapless t low (omega (arith, f.begins, high))))));
       }
 
   pub next_decisions : (o : Option C) (r : ReplicaState C I R M) → (performs_next rules o r).decisions ≡ r.decisions

@@ -10,7 +10,9 @@ use Rattle.std.proofs.lemmas.List.{append_assoc, length-append}
 use Rattle.std.proofs.lemmas.List.FromFn.{length-enumerate_from}
 use Rattle.std.specs.Prelude.{Result, Ok, Err, OnOk, OnErr, ◌⊎◌}
 use Rattle.ballot.specs.declared.slot.TheConstants.{LAST_SLOT}
-use Rattle.replica.specs.Replicas.{at_slot, is_decided, with_slot, kept, IsAhead, AreSlots}
+use Rattle.replica.specs.Replicas.{is_decided, IsAhead, AreSlots}
+use Rattle.ballot.specs.Slots.{at_slot, with_slot}
+use Rattle.replica.specs.Parts.{with_decided}
 use Rattle.replica.proofs.Slots.{same_slot, other_slot, either, at_slot-append, at_slot-with_other, slots_kept}
 
 pub on_ok_of : {T E P : Type 0} (r : Result T E) → P → OnOk r P
@@ -193,7 +195,7 @@ module _ {X : Type 0} where
     where
       grown : new ≡ with_slot s x old → AreSlots new
       grown same =
-          let new_is : new ≡ kept s x old = same ∙ rw free refl in
+          let new_is : new ≡ with_decided s x old = same ∙ rw free refl in
           subst (AreSlots {X = X}) (sym new_is) (slots_kept s x old low slots)
 
       go : {T E : Type 0} (r : Result T E) → OnOk r (new ≡ with_slot s x old) → OnErr r ((new ≡ with_slot s x old) ⊎ (new ≡ old)) → AreSlots new

@@ -8,7 +8,10 @@ use Rattle.std.proofs.lemmas.List.{append-nil}
 use Rattle.std.proofs.lemmas.List.Folds.{list_any-append}
 use Rattle.std.proofs.lemmas.Bool.{true≢false, cases_lt}
 use Rattle.std.proofs.lemmas.Cmp.{tied_itself}
-use Rattle.replica.specs.Replicas.{Rules, ReplicaState, new_replica, at_slot, kept, first_slots, once, has_identity, performs_slots, proposes, with_decision, with_request, awaiting, requested, decided, without_answer, taken, held, answer_for, IsFrontOf, IsSettled}
+use Rattle.replica.specs.Replicas.{Rules, ReplicaState, new_replica, first_slots, once, has_identity, performs_slots, proposes, awaiting, requested, learns, without_answer, taken, answer_for, IsFrontOf, IsSettled}
+use Rattle.ballot.specs.Slots.{at_slot}
+use Rattle.replica.specs.Parts.{with_decided, with_decision, with_request}
+use Rattle.replica.proofs.Parts.{held}
 use Rattle.replica.specs.Calls.{Call, Requests, Decides, Ticks, Takes, given_by, given, called, all_called, answer_among, awaited_for, answered_with, AreAnswers, Performs, Ascend}
 use Rattle.replica.proofs.Slots.{either, at_slot-append, at_slot-kept, first_slots-same}
 use Rattle.replica.proofs.Identities.{has_same, lookup_inserted, lookup_removed, ascend_inserted, ascend_removed}
@@ -18,15 +21,15 @@ use Rattle.replica.proofs.Settled.{settled_new, decided_settled, requested_settl
 use Rattle.replica.proofs.Answered.{has_answer, performs_turns, performs_to_alike, still_answers, answers_alike, slots_ascend}
 
 module _ {C I R M : Type 0} (A : Type 0) (rules : Rules C I R M) where
-  pub proposes_alike : (r : ReplicaState C I R M) → Alike (proposes {A = A} r).replica r
+  pub proposes_alike : (r : ReplicaState C I R M) → Alike (proposes {A = A} r).after r
   proposes_alike r = slots_alike A ((r.slot_out + r.window) - r.slot_in) r
 
-  pub decided_decisions : (s : ℕ) (c : C) (r : ReplicaState C I R M) → (decided {A = A} rules s c r).replica.decisions ≡ kept s c r.decisions
+  pub decided_decisions : (s : ℕ) (c : C) (r : ReplicaState C I R M) → (learns {A = A} rules s c r).after.decisions ≡ with_decided s c r.decisions
   decided_decisions s c r =
-      let n : ℕ = length (kept s c r.decisions) in
+      let n : ℕ = length (with_decided s c r.decisions) in
       (proposes_alike (performs_slots rules n (with_decision s c r))).decisions ∙ slots_decisions rules n (with_decision s c r)
 
-  pub called_settled : (call : Call C I) (r : ReplicaState C I R M) → IsSettled rules r → IsSettled rules (called {A = A} rules call r).replica
+  pub called_settled : (call : Call C I) (r : ReplicaState C I R M) → IsSettled rules r → IsSettled rules (called {A = A} rules call r).after
   called_settled (Requests c) r h = requested_settled rules A c r h
   called_settled (Decides s c) r h = decided_settled rules A s c r h
   called_settled Ticks r h = h
@@ -41,7 +44,7 @@ module _ {C I R M : Type 0} (A : Type 0) (rules : Rules C I R M) where
       go (Some a) = refl
 
   -- the decisions are at each slot the first that was given
-  pub called_given : (call : Call C I) (r : ReplicaState C I R M) (before : List (ℕ × C)) → ((s : ℕ) → at_slot s r.decisions ≡ at_slot s before) → (s : ℕ) → at_slot s (called {A = A} rules call r).replica.decisions ≡ at_slot s (before ++ given_by call)
+  pub called_given : (call : Call C I) (r : ReplicaState C I R M) (before : List (ℕ × C)) → ((s : ℕ) → at_slot s r.decisions ≡ at_slot s before) → (s : ℕ) → at_slot s (called {A = A} rules call r).after.decisions ≡ at_slot s (before ++ given_by call)
   called_given (Requests c) r before h s = ap (at_slot s) (proposes_alike (with_request c (awaiting rules c r))).decisions ∙ (h s ∙ ap (at_slot s) (sym (append-nil before)))
   called_given (Decides t c) r before h s =
       ap (at_slot s) (decided_decisions t c r)
@@ -51,12 +54,12 @@ module _ {C I R M : Type 0} (A : Type 0) (rules : Rules C I R M) where
 
   pub all_settled : (calls : List (Call C I)) (r : ReplicaState C I R M) → IsSettled rules r → IsSettled rules (all_called A rules calls r)
   all_settled [] r h = h
-  all_settled (call ∷ calls) r h = all_settled calls (called {A = A} rules call r).replica (called_settled call r h)
+  all_settled (call ∷ calls) r h = all_settled calls (called {A = A} rules call r).after (called_settled call r h)
 
   pub all_given : (calls : List (Call C I)) (r : ReplicaState C I R M) (before : List (ℕ × C)) → ((s : ℕ) → at_slot s r.decisions ≡ at_slot s before) → (s : ℕ) → at_slot s (all_called A rules calls r).decisions ≡ at_slot s (before ++ given calls)
   all_given [] r before h s = h s ∙ ap (at_slot s) (sym (append-nil before))
   all_given (call ∷ calls) r before h s =
-      all_given calls (called {A = A} rules call r).replica (before ++ given_by call) (called_given call r before h) s ∙ ap (at_slot s) (append_assoc before (given_by call) (given calls))
+      all_given calls (called {A = A} rules call r).after (before ++ given_by call) (called_given call r before h) s ∙ ap (at_slot s) (append_assoc before (given_by call) (given calls))
 
   pub front_of_given : (me size window : ℕ) (machine : M) (calls : List (Call C I)) → IsFrontOf rules (given calls) (all_called A rules calls (new_replica me size window machine))
   front_of_given me size window machine calls =
@@ -80,21 +83,21 @@ module _ {C I R M : Type 0} (rules : Rules C I R M) where
       (out, p.performed ∙ (ap (λ n. once rules [] (first_slots (n - 1) gs)) out ∙ (ap (once rules []) (first_slots-same (b.slot_out - 1) gs hs (λ s from to. same s)) ∙ sym q.performed)))
 
 module _ {C I R M : Type 0} (A : Type 0) (rules : Rules C I R M) (total : IsTotalOrder rules.compare) where
-  pub decided_performs : (first : M) (s : ℕ) (c : C) (r : ReplicaState C I R M) → AreAnswers rules first r → Performs rules r (decided {A = A} rules s c r).replica
+  pub decided_performs : (first : M) (s : ℕ) (c : C) (r : ReplicaState C I R M) → AreAnswers rules first r → Performs rules r (learns {A = A} rules s c r).after
   decided_performs first s c r h =
-      let n : ℕ = length (kept s c r.decisions) in
+      let n : ℕ = length (with_decided s c r.decisions) in
       let known : ReplicaState C I R M = with_decision s c r in
       let h' : AreAnswers rules first known = record { machine = h.machine; ordered = h.ordered; waiting = h.waiting; answered = h.answered } in
       let last : ReplicaState C I R M = performs_slots rules n known in
-      let p = performs_to_alike rules total known last (proposes {A = A} last).replica (performs_turns rules total first n known h') (proposes_alike A rules last) in
+      let p = performs_to_alike rules total known last (proposes {A = A} last).after (performs_turns rules total first n known h') (proposes_alike A rules last) in
       record { more = p.more; performed = p.performed; machine = p.machine; answers = p.answers }
 
-  pub decided_answers : (first : M) (s : ℕ) (c : C) (r : ReplicaState C I R M) → AreAnswers rules first r → AreAnswers rules first (decided {A = A} rules s c r).replica
+  pub decided_answers : (first : M) (s : ℕ) (c : C) (r : ReplicaState C I R M) → AreAnswers rules first r → AreAnswers rules first (learns {A = A} rules s c r).after
   decided_answers first s c r h =
-      let n : ℕ = length (kept s c r.decisions) in
+      let n : ℕ = length (with_decided s c r.decisions) in
       let last : ReplicaState C I R M = performs_slots rules n (with_decision s c r) in
       let same = proposes_alike A rules last in
-      still_answers rules total first r (decided {A = A} rules s c r).replica h (decided_performs first s c r h) (rw same.awaited (slots_ascend rules total n (with_decision s c r) h.ordered))
+      still_answers rules total first r (learns {A = A} rules s c r).after h (decided_performs first s c r h) (rw same.awaited (slots_ascend rules total n (with_decision s c r) h.ordered))
 
   -- what is awaited after a request
   pub awaiting_for : (c : C) (i : I) (r : ReplicaState C I R M) →
@@ -153,10 +156,10 @@ module _ {C I R M : Type 0} (A : Type 0) (rules : Rules C I R M) (total : IsTota
             answered = λ j b there. ⊎_elim (λ same. h.answered j b (sym same ∙ there)) (λ none. absurd (let no : None ≡ Some (Some b) = sym none ∙ there in cc)) (without_for i j (Some a) r h.ordered);
           }
 
-  pub called_answers : (first : M) (call : Call C I) (r : ReplicaState C I R M) → AreAnswers rules first r → AreAnswers rules first (called {A = A} rules call r).replica
+  pub called_answers : (first : M) (call : Call C I) (r : ReplicaState C I R M) → AreAnswers rules first r → AreAnswers rules first (called {A = A} rules call r).after
   called_answers first (Requests c) r h =
       let asked : ReplicaState C I R M = with_request c (awaiting rules c r) in
-      answers_alike rules total first (proposes {A = A} asked).replica asked (proposes_alike A rules asked) (awaiting_answers first c r h)
+      answers_alike rules total first (proposes {A = A} asked).after asked (proposes_alike A rules asked) (awaiting_answers first c r h)
   called_answers first (Decides s c) r h = decided_answers first s c r h
   called_answers first Ticks r h = h
   called_answers first (Takes i) r h = taken_answers first i r h
@@ -166,13 +169,13 @@ module _ {C I R M : Type 0} (A : Type 0) (rules : Rules C I R M) (total : IsTota
 
   all_answers : (first : M) (calls : List (Call C I)) (r : ReplicaState C I R M) → AreAnswers rules first r → AreAnswers rules first (all_called A rules calls r)
   all_answers first [] r h = h
-  all_answers first (call ∷ calls) r h = all_answers first calls (called {A = A} rules call r).replica (called_answers first call r h)
+  all_answers first (call ∷ calls) r h = all_answers first calls (called {A = A} rules call r).after (called_answers first call r h)
 
   pub always_answers : (me size window : ℕ) (machine : M) (calls : List (Call C I)) → AreAnswers rules machine (all_called A rules calls (new_replica me size window machine))
   always_answers me size window machine calls = all_answers machine calls (new_replica me size window machine) (answers_new me size window machine)
 
   -- a request adds no answer
-  pub requests_add_none : (first : M) (c : C) (r : ReplicaState C I R M) → AreAnswers rules first r → (i : I) → answer_for rules i (requested {A = A} rules c r).replica.awaited ≡ answer_for rules i r.awaited
+  pub requests_add_none : (first : M) (c : C) (r : ReplicaState C I R M) → AreAnswers rules first r → (i : I) → answer_for rules i (requested {A = A} rules c r).after.awaited ≡ answer_for rules i r.awaited
   requests_add_none first c r h i =
       let asked : ReplicaState C I R M = with_request c (awaiting rules c r) in
       ap (answer_for rules i) (proposes_alike A rules asked).awaited
@@ -198,7 +201,7 @@ module _ {C I R M : Type 0} (A : Type 0) (rules : Rules C I R M) (total : IsTota
     pub performed : has_identity rules i r.performed ≡ true
     pub gone : awaited_for rules i r ≡ None
 
-  over_called : (first : M) (i : I) (call : Call C I) (r : ReplicaState C I R M) → AreAnswers rules first r → IsOver i r → IsOver i (called {A = A} rules call r).replica
+  over_called : (first : M) (i : I) (call : Call C I) (r : ReplicaState C I R M) → AreAnswers rules first r → IsOver i r → IsOver i (called {A = A} rules call r).after
   over_called first i (Requests c) r h o =
       let asked : ReplicaState C I R M = with_request c (awaiting rules c r) in
       let same = proposes_alike A rules asked in
@@ -227,7 +230,7 @@ module _ {C I R M : Type 0} (A : Type 0) (rules : Rules C I R M) (total : IsTota
 
   pub over_for_good : (first : M) (i : I) (calls : List (Call C I)) (r : ReplicaState C I R M) → AreAnswers rules first r → IsOver i r → IsOver i (all_called A rules calls r)
   over_for_good first i [] r h o = o
-  over_for_good first i (call ∷ calls) r h o = over_for_good first i calls (called {A = A} rules call r).replica (called_answers first call r h) (over_called first i call r h o)
+  over_for_good first i (call ∷ calls) r h o = over_for_good first i calls (called {A = A} rules call r).after (called_answers first call r h) (over_called first i call r h o)
 
   -- a taken answer is over
   pub over_taken : (first : M) (i : I) (a : R) (r : ReplicaState C I R M) → AreAnswers rules first r → answer_for rules i r.awaited ≡ Some a → IsOver i (taken rules i r)

@@ -5,7 +5,9 @@ use Rattle.std.specs.Map.{lookup}
 use Rattle.std.specs.BTreeMap.{is_at}
 use Rattle.std.specs.Cmp.{IsTotalOrder}
 use Rattle.std.specs.Ordering.{is_eq}
-use Rattle.replica.specs.Replicas.{Rules, ReplicaState, has_identity, awaiting, with_request, requested, decided, taken, without_answer, held, answer_for}
+use Rattle.replica.specs.Replicas.{Rules, ReplicaState, has_identity, awaiting, requested, learns, taken, without_answer, answer_for}
+use Rattle.replica.specs.Parts.{with_request}
+use Rattle.replica.proofs.Parts.{held}
 use Rattle.replica.specs.Calls.{Requests, Takes, awaited_for, answered_with, answer_among, AreAnswers}
 use Rattle.replica.proofs.Identities.{lookup_same, lookup_removed}
 use Rattle.replica.proofs.History.{decided_performs, decided_answers, called_answers, awaiting_for, proposes_alike}
@@ -37,7 +39,7 @@ itself_left rules first r h = record { here = h; there = h; same = refl; left = 
 
 module _ {C I R M : Type 0} (A : Type 0) (rules : Rules C I R M) (total : IsTotalOrder rules.compare) where
   -- a decision brings both the same
-  pub decided_left : (first : M) (slot : ℕ) (c : C) (r s : ReplicaState C I R M) → IsButTaken rules first r s → IsButTaken rules first (decided {A = A} rules slot c r).replica (decided {A = A} rules slot c s).replica
+  pub decided_left : (first : M) (slot : ℕ) (c : C) (r s : ReplicaState C I R M) → IsButTaken rules first r s → IsButTaken rules first (learns {A = A} rules slot c r).after (learns {A = A} rules slot c s).after
   decided_left first slot c r s h =
       let p = decided_performs A rules total first slot c r h.here in
       let q = decided_performs A rules total first slot c s h.there in
@@ -56,7 +58,7 @@ module _ {C I R M : Type 0} (A : Type 0) (rules : Rules C I R M) (total : IsTota
 
   -- one answer comes to both, where it is awaited
   pub decided_answered : (first : M) (slot : ℕ) (c : C) (r s : ReplicaState C I R M) → IsButTaken rules first r s → (i : I) →
-      (o : Option R) × ((awaited_for rules i (decided {A = A} rules slot c r).replica ≡ answered_with o (awaited_for rules i r)) × (awaited_for rules i (decided {A = A} rules slot c s).replica ≡ answered_with o (awaited_for rules i s)))
+      (o : Option R) × ((awaited_for rules i (learns {A = A} rules slot c r).after ≡ answered_with o (awaited_for rules i r)) × (awaited_for rules i (learns {A = A} rules slot c s).after ≡ answered_with o (awaited_for rules i s)))
   decided_answered first slot c r s h i =
       let p = decided_performs A rules total first slot c r h.here in
       let q = decided_performs A rules total first slot c s h.there in
@@ -68,11 +70,11 @@ module _ {C I R M : Type 0} (A : Type 0) (rules : Rules C I R M) (total : IsTota
       ap (λ (m : M). answer_among rules i m p.more) machine ∙ ap (answer_among rules i s.machine) more in
       (answer_among rules i s.machine q.more, (p.answers i ∙ ap (λ (o : Option R). answered_with o (awaited_for rules i r)) answer, q.answers i))
 
-  requested_awaited : (c : C) (i : I) (r : ReplicaState C I R M) → awaited_for rules i (requested {A = A} rules c r).replica ≡ awaited_for rules i (awaiting rules c r)
+  requested_awaited : (c : C) (i : I) (r : ReplicaState C I R M) → awaited_for rules i (requested {A = A} rules c r).after ≡ awaited_for rules i (awaiting rules c r)
   requested_awaited c i r = ap (λ (es : List (I × Option R)). lookup (is_at (rules.compare i)) es) (proposes_alike A rules (with_request c (awaiting rules c r))).awaited
 
   -- and so does a request
-  pub requested_left : (first : M) (c : C) (r s : ReplicaState C I R M) → IsButTaken rules first r s → IsButTaken rules first (requested {A = A} rules c r).replica (requested {A = A} rules c s).replica
+  pub requested_left : (first : M) (c : C) (r s : ReplicaState C I R M) → IsButTaken rules first r s → IsButTaken rules first (requested {A = A} rules c r).after (requested {A = A} rules c s).after
   requested_left first c r s h =
       let performed : r.performed ≡ s.performed = ap (λ (x : ReplicaState C I R M). x.performed) h.same in
       let known : has_identity rules (rules.identity c) r.performed ≡ has_identity rules (rules.identity c) s.performed = ap (has_identity rules (rules.identity c)) performed in

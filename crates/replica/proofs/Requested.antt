@@ -8,7 +8,9 @@ use Rattle.std.specs.Ordering.{is_eq}
 use Rattle.std.proofs.lemmas.List.{append-nil}
 use Rattle.std.proofs.lemmas.List.Folds.{list_any-append}
 use Rattle.std.proofs.lemmas.Bool.{true≢false}
-use Rattle.replica.specs.Replicas.{Rules, ReplicaState, new_replica, has_identity, with_request, awaiting, requested, decided, without_answer, taken, held, answer_for}
+use Rattle.replica.specs.Replicas.{Rules, ReplicaState, new_replica, has_identity, awaiting, requested, learns, without_answer, taken, answer_for}
+use Rattle.replica.specs.Parts.{with_request}
+use Rattle.replica.proofs.Parts.{held}
 use Rattle.replica.specs.Calls.{Call, Requests, Decides, Ticks, Takes, called, all_called, is_request_of, is_requested, answer_among, answered_with, awaited_for, AreAnswers}
 use Rattle.replica.proofs.Identities.{has_same, lookup_same, lookup_removed}
 use Rattle.replica.proofs.Answered.{no_answer}
@@ -46,10 +48,10 @@ module _ {C I R M : Type 0} (A : Type 0) (rules : Rules C I R M) (total : IsTota
 
   -- what is awaited after a request
   pub requested_for : (c : C) (i : I) (r : ReplicaState C I R M) →
-      awaited_for rules i (requested {A = A} rules c r).replica ≡ cond (has_identity rules (rules.identity c) r.performed) (awaited_for rules i r) (cond (is_eq (rules.compare (rules.identity c) i)) (Some None) (awaited_for rules i r))
+      awaited_for rules i (requested {A = A} rules c r).after ≡ cond (has_identity rules (rules.identity c) r.performed) (awaited_for rules i r) (cond (is_eq (rules.compare (rules.identity c) i)) (Some None) (awaited_for rules i r))
   requested_for c i r = ap (λ (es : List (I × Option R)). lookup (is_at (rules.compare i)) es) (proposes_alike A rules (with_request c (awaiting rules c r))).awaited ∙ awaiting_for A rules total c i r
 
-  requested_awaits : (before : List (Call C I)) (c : C) (r : ReplicaState C I R M) → Awaits before r → Awaits (before ++ Requests c ∷ []) (requested {A = A} rules c r).replica
+  requested_awaits : (before : List (Call C I)) (c : C) (r : ReplicaState C I R M) → Awaits before r → Awaits (before ++ Requests c ∷ []) (requested {A = A} rules c r).after
   requested_awaits before c r h =
       let same = proposes_alike A rules (with_request c (awaiting rules c r)) in
       record {
@@ -69,7 +71,7 @@ module _ {C I R M : Type 0} (A : Type 0) (rules : Rules C I R M) (total : IsTota
       only i false true some = or_one (is_requested rules i before)
       only i false false some = or_left (is_requested rules i before) (false || false) (h.only i some)
 
-  decided_awaits : (first : M) (before : List (Call C I)) (s : ℕ) (c : C) (r : ReplicaState C I R M) → AreAnswers rules first r → Awaits before r → Awaits (before ++ Decides s c ∷ []) (decided {A = A} rules s c r).replica
+  decided_awaits : (first : M) (before : List (Call C I)) (s : ℕ) (c : C) (r : ReplicaState C I R M) → AreAnswers rules first r → Awaits before r → Awaits (before ++ Decides s c ∷ []) (learns {A = A} rules s c r).after
   decided_awaits first before s c r k h =
       let p = decided_performs A rules total first s c r k in
       record {
@@ -116,7 +118,7 @@ module _ {C I R M : Type 0} (A : Type 0) (rules : Rules C I R M) (total : IsTota
       same : (i : I) → is_requested rules i (before ++ call ∷ []) ≡ is_requested rules i before
       same i = one_more i before call ∙ (ap (λ (t : Bool). is_requested rules i before || (t || false)) (none i) ∙ or_none (is_requested rules i before))
 
-  called_awaits : (first : M) (before : List (Call C I)) (call : Call C I) (r : ReplicaState C I R M) → AreAnswers rules first r → Awaits before r → Awaits (before ++ call ∷ []) (called {A = A} rules call r).replica
+  called_awaits : (first : M) (before : List (Call C I)) (call : Call C I) (r : ReplicaState C I R M) → AreAnswers rules first r → Awaits before r → Awaits (before ++ call ∷ []) (called {A = A} rules call r).after
   called_awaits first before (Requests c) r k h = requested_awaits before c r h
   called_awaits first before (Decides s c) r k h = decided_awaits first before s c r k h
   called_awaits first before Ticks r k h = awaits_more before Ticks r (λ i. refl) h
@@ -126,7 +128,7 @@ module _ {C I R M : Type 0} (A : Type 0) (rules : Rules C I R M) (total : IsTota
   all_awaits first before [] r k h = subst (λ (cs : List (Call C I)). Awaits cs r) (sym (append-nil before)) h
   all_awaits first before (call ∷ calls) r k h =
       subst (λ (cs : List (Call C I)). Awaits cs (all_called A rules (call ∷ calls) r)) (append_assoc before (call ∷ []) calls)
-      (all_awaits first (before ++ call ∷ []) calls (called {A = A} rules call r).replica (called_answers A rules total first call r k) (called_awaits first before call r k h))
+      (all_awaits first (before ++ call ∷ []) calls (called {A = A} rules call r).after (called_answers A rules total first call r k) (called_awaits first before call r k h))
 
   always_awaits : (me size window : ℕ) (machine : M) (calls : List (Call C I)) → Awaits calls (all_called A rules calls (new_replica me size window machine))
   always_awaits me size window machine calls =

@@ -3,7 +3,10 @@ use Rattle.std.proofs.Common.{◌≡◌, ℕ, ◌+◌, ◌-◌, ◌<◌, ◌≤�
 use Rattle.std.specs.Prelude.{IfSome}
 use Rattle.std.proofs.lemmas.Bool.{cases_lt}
 use Rattle.ballot.specs.declared.slot.TheConstants.{LAST_SLOT}
-use Rattle.replica.specs.Replicas.{Rules, ReplicaState, stays, new_replica, at_slot, is_decided, kept, once, can_propose, performs_slots, proposes, with_decision, with_request, awaiting, requested, decided, without_answer, taken, answer_for, IsFrontOf, IsSettled, AreSlots}
+use Rattle.replica.specs.Replicas.{Rules, ReplicaState, new_replica, is_decided, once, can_propose, performs_slots, proposes, awaiting, requested, learns, without_answer, taken, answer_for, IsFrontOf, IsSettled, AreSlots}
+use Rattle.ballot.specs.Sends.{stays}
+use Rattle.ballot.specs.Slots.{at_slot}
+use Rattle.replica.specs.Parts.{with_decided, with_decision, with_request}
 use Rattle.replica.proofs.Slots.{none_is, kept_same, first_slots-same, from_slot_few}
 use Rattle.replica.proofs.Front.{IsPart, part_slots, part_with, part_alike, ends, idle}
 use Rattle.replica.proofs.Turns.{slots_alike, rests, idle_slots}
@@ -30,24 +33,24 @@ module _ {C I R M : Type 0} (rules : Rules C I R M) where
   shown_near false r here h same slots = out_is_near here (subst (λ (q : ReplicaState C I R M). IsFrontOf rules q.decisions q) (sym same) (h refl).front) slots
 
   -- proposing settles a front that has ended
-  pub proposes_settled : (A : Type 0) (r : ReplicaState C I R M) → IsPart rules r → is_decided r.slot_out r.decisions ≡ false → IsSettled rules (proposes {A = A} r).replica
+  pub proposes_settled : (A : Type 0) (r : ReplicaState C I R M) → IsPart rules r → is_decided r.slot_out r.decisions ≡ false → IsSettled rules (proposes {A = A} r).after
   proposes_settled A r f end =
       let turns : ℕ = (r.slot_out + r.window) - r.slot_in in
       let same = slots_alike A turns r in
-      let part = part_alike rules (proposes {A = A} r).replica r same f in
+      let part = part_alike rules (proposes {A = A} r).after r same f in
       record {
         front = record { begins = part.begins; gapless = part.gapless; ends = rw (same.slot_out, same.decisions) end; performed = part.performed };
         rests = rests A turns r (omega arith);
       }
 
-  pub decided_settled : (A : Type 0) (s : ℕ) (c : C) (r : ReplicaState C I R M) → IsSettled rules r → IsSettled rules (decided {A = A} rules s c r).replica
+  pub decided_settled : (A : Type 0) (s : ℕ) (c : C) (r : ReplicaState C I R M) → IsSettled rules r → IsSettled rules (learns {A = A} rules s c r).after
   decided_settled A s c r h =
-      let n : ℕ = length (kept s c r.decisions) in
+      let n : ℕ = length (with_decided s c r.decisions) in
       proposes_settled A (performs_slots rules n (with_decision s c r))
       (part_slots rules n (with_decision s c r) (part_with rules s c r (part_of r h.front)))
-      (ends rules n (with_decision s c r) (from_slot_few r.slot_out (kept s c r.decisions)))
+      (ends rules n (with_decision s c r) (from_slot_few r.slot_out (with_decided s c r.decisions)))
 
-  pub requested_settled : (A : Type 0) (c : C) (r : ReplicaState C I R M) → IsSettled rules r → IsSettled rules (requested {A = A} rules c r).replica
+  pub requested_settled : (A : Type 0) (c : C) (r : ReplicaState C I R M) → IsSettled rules r → IsSettled rules (requested {A = A} rules c r).after
   requested_settled A c r h =
       proposes_settled A (with_request c (awaiting rules c r))
       (record { begins = h.front.begins; gapless = h.front.gapless; performed = h.front.performed }) h.front.ends
@@ -69,9 +72,9 @@ module _ {C I R M : Type 0} (rules : Rules C I R M) where
           }
 
   -- a decision for a slot that has one changes nothing
-  pub decided_again : (A : Type 0) (s : ℕ) (c : C) (r : ReplicaState C I R M) → IsSettled rules r → is_decided s r.decisions ≡ true → decided {A = A} rules s c r ≡ stays r
+  pub decided_again : (A : Type 0) (s : ℕ) (c : C) (r : ReplicaState C I R M) → IsSettled rules r → is_decided s r.decisions ≡ true → learns {A = A} rules s c r ≡ stays r
   decided_again A s c r h d =
-      let n : ℕ = length (kept s c r.decisions) in
+      let n : ℕ = length (with_decided s c r.decisions) in
       let known : with_decision s c r ≡ r = ap (λ ds. record r { decisions = ds }) (kept_same s c r.decisions d) in
       let same : performs_slots rules n (with_decision s c r) ≡ r = ap (performs_slots rules n) known ∙ idle rules n r (none_is (at_slot r.slot_out r.decisions) h.front.ends) in
       ap (λ (x : ReplicaState C I R M). proposes {A = A} x) same ∙ idle_slots A ((r.slot_out + r.window) - r.slot_in) r h.rests

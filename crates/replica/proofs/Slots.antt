@@ -7,7 +7,9 @@ use Rattle.std.specs.declared.cmp.Ordering.TheVariants.{Less, Equal, Greater}
 use Rattle.std.proofs.lemmas.Bool.{cases_eq, ltb-true, ltb-false, true≢false}
 use Rattle.std.proofs.lemmas.Cmp.{ranked}
 use Rattle.ballot.specs.declared.slot.TheConstants.{LAST_SLOT}
-use Rattle.replica.specs.Replicas.{at_slot, is_decided, with_slot, kept, first_slots, AreSlots}
+use Rattle.replica.specs.Replicas.{is_decided, first_slots, AreSlots}
+use Rattle.ballot.specs.Slots.{at_slot, with_slot}
+use Rattle.replica.specs.Parts.{with_decided}
 
 pub same_slot : (s : ℕ) → nat_cmp s s ≡ Equal
 same_slot s = sym (nat_cmp_is s s Equal refl)
@@ -78,7 +80,7 @@ module _ {X : Type 0} where
       go false h = h
 
   -- what is kept stands at each slot as if it were given last
-  pub at_slot-kept : (s t : ℕ) (x : X) (es : List (ℕ × X)) → at_slot t (kept s x es) ≡ either (at_slot t es) (at_slot t ((s, x) ∷ []))
+  pub at_slot-kept : (s t : ℕ) (x : X) (es : List (ℕ × X)) → at_slot t (with_decided s x es) ≡ either (at_slot t es) (at_slot t ((s, x) ∷ []))
   at_slot-kept s t x es =
       ⊎_elim (λ (e : t ≡ s). at_its (at_slot s es) refl e) (λ (ne : t ≢ s). other (is_decided s es) ne) (cases_eq t s)
     where
@@ -90,11 +92,11 @@ module _ {X : Type 0} where
       other true ne = rw (other_slot s t ne) (sym (either_none (at_slot t es)))
       other false ne = rw (other_slot s t ne) (at_slot-with_other s t x es ne ∙ sym (either_none (at_slot t es)))
 
-  pub kept_same : (s : ℕ) (x : X) (es : List (ℕ × X)) → is_decided s es ≡ true → kept s x es ≡ es
+  pub kept_same : (s : ℕ) (x : X) (es : List (ℕ × X)) → is_decided s es ≡ true → with_decided s x es ≡ es
   kept_same s x es h = rw h refl
 
   -- what is decided stays
-  pub decided_stays : (s t : ℕ) (x : X) (es : List (ℕ × X)) → is_decided t es ≡ true → at_slot t (kept s x es) ≡ at_slot t es
+  pub decided_stays : (s t : ℕ) (x : X) (es : List (ℕ × X)) → is_decided t es ≡ true → at_slot t (with_decided s x es) ≡ at_slot t es
   decided_stays s t x es h =
       at_slot-kept s t x es ∙ go (at_slot t es) h
     where
@@ -103,12 +105,12 @@ module _ {X : Type 0} where
       go (Some y) h = refl
 
   -- slots stay slots
-  pub slots_kept : (s : ℕ) (x : X) (es : List (ℕ × X)) → s ≤ LAST_SLOT → AreSlots es → AreSlots (kept s x es)
+  pub slots_kept : (s : ℕ) (x : X) (es : List (ℕ × X)) → s ≤ LAST_SLOT → AreSlots es → AreSlots (with_decided s x es)
   slots_kept s x es low slots t h =
       ⊎_elim
       (λ (e : t ≡ s). subst (λ n. n ≤ LAST_SLOT) (sym e) low)
       (λ (ne : t ≢ s).
-      let same : at_slot t (kept s x es) ≡ at_slot t es = at_slot-kept s t x es ∙ rw (other_slot s t ne) (either_none (at_slot t es)) in
+      let same : at_slot t (with_decided s x es) ≡ at_slot t es = at_slot-kept s t x es ∙ rw (other_slot s t ne) (either_none (at_slot t es)) in
       slots t (subst (λ (o : Option X). is_some o ≡ true) same h))
       (cases_eq t s)
 

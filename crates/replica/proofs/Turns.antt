@@ -3,9 +3,10 @@ use Rattle.std.proofs.Common.{◌≡◌, ℕ, zero, suc, ◌+◌, ◌-◌, ◌<�
 use Rattle.std.specs.Prelude.{◌&&◌, ◌==◌, nat_lt, nat_le}
 use Rattle.std.proofs.lemmas.Bool.{true≢false, ltb-true, lt-ltb, le-leb}
 use Rattle.ballot.specs.declared.slot.TheConstants.{LAST_SLOT}
-use Rattle.ballot.specs.Sends.{to_all}
+use Rattle.ballot.specs.Sends.{to_all, Move, stays}
 use Rattle.ballot.specs.declared.message.Message.TheVariants.{Propose}
-use Rattle.replica.specs.Replicas.{ReplicaState, Move, stays, is_open, can_propose, is_decided, with_slot, AreSlots, proposes_next, proposes_slots, proposes}
+use Rattle.replica.specs.Replicas.{ReplicaState, is_open, can_propose, is_decided, AreSlots, proposes_next, proposes_slots, proposes}
+use Rattle.ballot.specs.Slots.{with_slot}
 use Rattle.replica.proofs.Front.{Alike, alike_itself, alike_then}
 
 both_true : (t u : Bool) → (t && u) ≡ true → t ≡ true
@@ -33,24 +34,24 @@ module _ {C I R M : Type 0} where
 
 module _ {C I R M : Type 0} (A : Type 0) where
   -- a move, and then n turns
-  abbrev pub then_slots : ℕ → Move C I R M A → Move C I R M A
-  then_slots n m = record { replica = (proposes_slots {A = A} n m.replica).replica; sends = m.sends ++ (proposes_slots n m.replica).sends }
+  abbrev pub then_slots : ℕ → Move (ReplicaState C I R M) C A → Move (ReplicaState C I R M) C A
+  then_slots n m = record { after = (proposes_slots {A = A} n m.after).after; sends = m.sends ++ (proposes_slots n m.after).sends }
 
-  pub next_alike : (cs : List C) (r : ReplicaState C I R M) → Alike (proposes_next {A = A} cs r).replica r
+  pub next_alike : (cs : List C) (r : ReplicaState C I R M) → Alike (proposes_next {A = A} cs r).after r
   next_alike [] r = alike_itself r
   next_alike (c ∷ cs) r =
       go (is_open r) (is_decided r.slot_in r.decisions) refl refl
     where
-      go : (t u : Bool) → is_open r ≡ t → is_decided r.slot_in r.decisions ≡ u → Alike (proposes_next {A = A} (c ∷ cs) r).replica r
+      go : (t u : Bool) → is_open r ≡ t → is_decided r.slot_in r.decisions ≡ u → Alike (proposes_next {A = A} (c ∷ cs) r).after r
       go true true p q = rw (p, q) (record { size = refl; window = refl; slot_out = refl; machine = refl; decisions = refl; performed = refl; awaited = refl })
       go true false p q = rw (p, q) (record { size = refl; window = refl; slot_out = refl; machine = refl; decisions = refl; performed = refl; awaited = refl })
       go false u p q = rw p (alike_itself r)
 
-  pub slots_alike : (n : ℕ) (r : ReplicaState C I R M) → Alike (proposes_slots {A = A} n r).replica r
+  pub slots_alike : (n : ℕ) (r : ReplicaState C I R M) → Alike (proposes_slots {A = A} n r).after r
   slots_alike zero r = alike_itself r
   slots_alike (suc n) r =
-      let next : ReplicaState C I R M = (proposes_next {A = A} r.requests r).replica in
-      alike_then (proposes_slots {A = A} n next).replica next r (slots_alike n next) (next_alike r.requests r)
+      let next : ReplicaState C I R M = (proposes_next {A = A} r.requests r).after in
+      alike_then (proposes_slots {A = A} n next).after next r (slots_alike n next) (next_alike r.requests r)
 
   -- where nothing can be proposed, nothing is
   pub idle_next : (cs : List C) (r : ReplicaState C I R M) → can_propose cs r ≡ false → proposes_next {A = A} cs r ≡ stays r
@@ -67,15 +68,15 @@ module _ {C I R M : Type 0} (A : Type 0) where
   next_passes (c ∷ cs) r h d = rw (h, d) refl
 
   pub next_proposes : (c : C) (rest cs : List C) (r : ReplicaState C I R M) → cs ≡ c ∷ rest → is_open r ≡ true → is_decided r.slot_in r.decisions ≡ false
-      → proposes_next {A = A} cs r ≡ record { replica = record r { slot_in = r.slot_in + 1; requests = rest; proposals = with_slot r.slot_in c r.proposals }; sends = to_all r.size (Propose r.slot_in c) }
+      → proposes_next {A = A} cs r ≡ record { after = record r { slot_in = r.slot_in + 1; requests = rest; proposals = with_slot r.slot_in c r.proposals }; sends = to_all r.size (Propose r.slot_in c) }
   next_proposes c rest cs r e o d = ap (λ xs. proposes_next {A = A} xs r) e ∙ rw (o, d) refl
 
-  next_slot : (cs : List C) (r : ReplicaState C I R M) → can_propose cs r ≡ true → (proposes_next {A = A} cs r).replica.slot_in ≡ r.slot_in + 1
+  next_slot : (cs : List C) (r : ReplicaState C I R M) → can_propose cs r ≡ true → (proposes_next {A = A} cs r).after.slot_in ≡ r.slot_in + 1
   next_slot [] r h = absurd (true≢false (sym h))
   next_slot (c ∷ cs) r h =
       go (is_decided r.slot_in r.decisions) refl
     where
-      go : (u : Bool) → is_decided r.slot_in r.decisions ≡ u → (proposes_next {A = A} (c ∷ cs) r).replica.slot_in ≡ r.slot_in + 1
+      go : (u : Bool) → is_decided r.slot_in r.decisions ≡ u → (proposes_next {A = A} (c ∷ cs) r).after.slot_in ≡ r.slot_in + 1
       go true q = rw (h, q) refl
       go false q = rw (h, q) refl
 
@@ -84,7 +85,7 @@ module _ {C I R M : Type 0} (A : Type 0) where
   turn n i r lt = let one : n - i ≡ suc (n - (i + 1)) = omega (arith, lt) in ap (λ k. proposes_slots {A = A} k r) one
 
   -- with as many turns as the window allows, nothing is left to propose
-  pub rests : (n : ℕ) (r : ReplicaState C I R M) → (r.slot_out + r.window) - r.slot_in ≤ n → can_propose (proposes_slots {A = A} n r).replica.requests (proposes_slots {A = A} n r).replica ≡ false
+  pub rests : (n : ℕ) (r : ReplicaState C I R M) → (r.slot_out + r.window) - r.slot_in ≤ n → can_propose (proposes_slots {A = A} n r).after.requests (proposes_slots {A = A} n r).after ≡ false
   rests zero r few =
       go (can_propose r.requests r) refl
     where
@@ -92,16 +93,16 @@ module _ {C I R M : Type 0} (A : Type 0) where
       go false h = h
       go true h = absurd (let low : r.slot_in < r.slot_out + r.window = open_below r (can_open r.requests r h) in omega (arith, low, few))
   rests (suc n) r few =
-      let next : ReplicaState C I R M = (proposes_next {A = A} r.requests r).replica in
+      let next : ReplicaState C I R M = (proposes_next {A = A} r.requests r).after in
       go next refl (can_propose r.requests r) refl (rests n next)
     where
-      go : (next : ReplicaState C I R M) → next ≡ (proposes_next {A = A} r.requests r).replica → (t : Bool) → can_propose r.requests r ≡ t → ((next.slot_out + next.window) - next.slot_in ≤ n → can_propose (proposes_slots {A = A} n next).replica.requests (proposes_slots {A = A} n next).replica ≡ false) → can_propose (proposes_slots {A = A} (suc n) r).replica.requests (proposes_slots {A = A} (suc n) r).replica ≡ false
-      go next e false h k = subst (λ (m : Move C I R M A). can_propose m.replica.requests m.replica ≡ false) (sym (idle_slots (suc n) r h)) h
+      go : (next : ReplicaState C I R M) → next ≡ (proposes_next {A = A} r.requests r).after → (t : Bool) → can_propose r.requests r ≡ t → ((next.slot_out + next.window) - next.slot_in ≤ n → can_propose (proposes_slots {A = A} n next).after.requests (proposes_slots {A = A} n next).after ≡ false) → can_propose (proposes_slots {A = A} (suc n) r).after.requests (proposes_slots {A = A} (suc n) r).after ≡ false
+      go next e false h k = subst (λ (m : Move (ReplicaState C I R M) C A). can_propose m.after.requests m.after ≡ false) (sym (idle_slots (suc n) r h)) h
       go next e true h k =
           let same = next_alike r.requests r in
           let low : r.slot_in < r.slot_out + r.window = open_below r (can_open r.requests r h) in
           let few' : (next.slot_out + next.window) - next.slot_in ≤ n = rw (e, same.slot_out, same.window, next_slot r.requests r h) (omega (arith, low, few)) in
-          subst (λ (x : ReplicaState C I R M). can_propose (proposes_slots {A = A} n x).replica.requests (proposes_slots {A = A} n x).replica ≡ false) e (k few')
+          subst (λ (x : ReplicaState C I R M). can_propose (proposes_slots {A = A} n x).after.requests (proposes_slots {A = A} n x).after ≡ false) e (k few')
 
   -- decided slots are passed over
   passes : (k n m : ℕ) (r : ReplicaState C I R M) → m ≡ k + n → r.slot_in + k ≡ r.slot_out → (length r.requests == 0) ≡ false → AreSlots r.decisions → ((s : ℕ) → r.slot_in ≤ s → s < r.slot_out → is_decided s r.decisions ≡ true)

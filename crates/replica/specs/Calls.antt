@@ -5,7 +5,8 @@ use Rattle.std.specs.Map.{lookup}
 use Rattle.std.specs.BTreeMap.{is_at}
 use Rattle.std.specs.Ordering.{is_eq}
 use Rattle.std.specs.declared.cmp.Ordering.TheVariants.{Less}
-use Rattle.replica.specs.Replicas.{Rules, ReplicaState, Move, stays, requested, decided, ticked, taken, has_identity}
+use Rattle.replica.specs.Replicas.{Rules, ReplicaState, requested, learns, replica_ticks, taken, has_identity}
+use Rattle.ballot.specs.Sends.{Move, stays}
 
 pub data Call (C I : Type 0) : Type 0 where
   Requests : (command : C) → Call C I
@@ -24,10 +25,10 @@ module _ {C I : Type 0} where
   given (call ∷ calls) = given_by call ++ given calls
 
 module _ {C I R M A : Type 0} (rules : Rules C I R M) where
-  abbrev pub called : Call C I → ReplicaState C I R M → Move C I R M A
+  abbrev pub called : Call C I → ReplicaState C I R M → Move (ReplicaState C I R M) C A
   called (Requests command) r = requested rules command r
-  called (Decides slot command) r = decided rules slot command r
-  called Ticks r = ticked r
+  called (Decides slot command) r = learns rules slot command r
+  called Ticks r = replica_ticks r
   called (Takes identity) r = stays (taken rules identity r)
 
 -- whether one of these calls requests a command of the identity
@@ -43,7 +44,7 @@ module _ {C I R M : Type 0} (rules : Rules C I R M) where
 module _ {C I R M : Type 0} (A : Type 0) (rules : Rules C I R M) where
   abbrev pub all_called : List (Call C I) → ReplicaState C I R M → ReplicaState C I R M
   all_called [] r = r
-  all_called (call ∷ calls) r = all_called calls (called {A = A} rules call r).replica
+  all_called (call ∷ calls) r = all_called calls (called {A = A} rules call r).after
 
 -- `later` has performed what `early` has, and maybe more behind it
 pub record IsBehind {C I R M : Type 0} (early later : ReplicaState C I R M) : Type 0 where

@@ -1,4 +1,5 @@
 pub mod Replicas
+pub mod Parts
 pub mod Calls
 pub mod Taken
 pub mod Examples

@@ -3,9 +3,11 @@ use Rattle.std.specs.Prelude.{◌≡◌, ℕ, zero, suc, ◌+◌, ◌-◌, ◌<�
 use Rattle.std.specs.List.{list_any, flat_map}
 use Rattle.std.specs.Map.{lookup, set_value, remove_entry}
 use Rattle.std.specs.BTreeMap.{insert_entry, is_at}
-use Rattle.std.specs.Ordering.{nat_cmp, is_eq}
+use Rattle.std.specs.Option.{option_map_or, option_flatten}
+use Rattle.std.specs.Ordering.{is_eq}
 use Rattle.std.specs.declared.cmp.Ordering.{Ordering}
-use Rattle.ballot.specs.Sends.{to_all}
+use Rattle.ballot.specs.Sends.{Move, stays, followed_by, to_all}
+use Rattle.ballot.specs.Slots.{at_slot, with_slot, without_slot}
 use Rattle.ballot.specs.declared.memory.Memory.{Memory}
 use Rattle.ballot.specs.declared.message.Message.TheVariants.{Propose, Ask}
 use Rattle.ballot.specs.declared.outgoing.Outgoing.{Outgoing}
@@ -19,7 +21,7 @@ pub record Rules (C I R M : Type 0) : Type 0 where
   pub after : M → C → M
 
 abbrev pub rules_of : {C I R M : Type 0} → (C → I) → (I → I → Ordering) → (M → C → R) → (M → C → M) → Rules C I R M
-rules_of identity compare answer_to after = record { identity = identity; compare = compare; answer_to = answer_to; after = after }
+rules_of identity compare answer after = record { identity = identity; compare = compare; answer_to = answer; after = after }
 
 pub record ReplicaState (C I R M : Type 0) : Type 0 where
   -- its node, the size of the cluster, and how many slots it proposes for ahead of what is performed
@@ -40,46 +42,22 @@ pub record ReplicaState (C I R M : Type 0) : Type 0 where
   -- the identities of commands that were requested here, in their order: each with its answer once it is performed, until that is taken
   pub awaited : List (I × Option R)
 
--- the replica after a call, and what the call sends
-pub record Move (C I R M A : Type 0) : Type 0 where
-  pub replica : ReplicaState C I R M
-  pub sends : List (Outgoing C A)
-
--- a call of a replica, none where it is spent: where it answers, the replica and the sends are those of the move, else it is spent
-pub record IsMoved {C I R M A : Type 0} (move : ReplicaState C I R M → Move C I R M A) (old new : Option (ReplicaState C I R M)) (result : Result (List (Outgoing C A)) Memory) : Type 0 where
-  pub replica : OnOk result (new ≡ option_map (λ r. (move r).replica) old)
+-- a call of a replica, none if it is spent: if it answers, the replica and the sends are those of the move, else it is spent
+pub record IsMoved {C I R M A : Type 0} (move : ReplicaState C I R M → Move (ReplicaState C I R M) C A) (old new : Option (ReplicaState C I R M)) (result : Result (List (Outgoing C A)) Memory) : Type 0 where
+  pub replica : OnOk result (new ≡ option_map (λ r. (move r).after) old)
   pub sends : (r : ReplicaState C I R M) → old ≡ Some r → IfOk result (λ sends. sends ≡ (move r).sends)
   pub spent : old ≡ None → IsErr result
   pub err : OnErr result (new ≡ None)
 
 -- lists of what stands at slots
 module _ {X : Type 0} where
-  -- the first that stands at the slot
-  abbrev pub at_slot : ℕ → List (ℕ × X) → Option X
-  at_slot s es = lookup (is_at (nat_cmp s)) es
-
   abbrev pub is_decided : ℕ → List (ℕ × X) → Bool
   is_decided s es = is_some (at_slot s es)
-
-  -- x at its slot, in slot order
-  abbrev pub with_slot : ℕ → X → List (ℕ × X) → List (ℕ × X)
-  with_slot s x es = insert_entry nat_cmp es s x
-
-  abbrev pub without_slot : ℕ → List (ℕ × X) → List (ℕ × X)
-  without_slot s es = remove_entry (is_at (nat_cmp s)) es
-
-  -- x at its slot, unless something stands there
-  abbrev pub kept : ℕ → X → List (ℕ × X) → List (ℕ × X)
-  kept s x es = if is_decided s es then es else with_slot s x es
-
-  abbrev pub in_slot : ℕ → Option X → List (ℕ × X)
-  in_slot s None = []
-  in_slot s (Some x) = (s, x) ∷ []
 
   -- what stands at the slots 1 to n, in slot order
   abbrev pub first_slots : ℕ → List (ℕ × X) → List (ℕ × X)
   first_slots zero es = []
-  first_slots (suc n) es = first_slots n es ++ in_slot (suc n) (at_slot (suc n) es)
+  first_slots (suc n) es = first_slots n es ++ option_map_or (λ x. (suc n, x) ∷ []) (at_slot (suc n) es) []
 
   -- nothing stands at slot n or before it
   abbrev pub IsAhead : ℕ → List (ℕ × X) → Type 0
@@ -90,9 +68,21 @@ module _ {X : Type 0} where
   AreSlots es = (s : ℕ) → IsSome (at_slot s es) → s ≤ LAST_SLOT
 
 module _ {C I R M : Type 0} where
+  -- before the first slot
   abbrev pub new_replica : ℕ → ℕ → ℕ → M → ReplicaState C I R M
-  new_replica me size window machine =
-      record { me = me; size = size; window = window; slot_in = 1; slot_out = 1; machine = machine; requests = []; proposals = []; decisions = []; performed = []; awaited = [] }
+  new_replica me size window machine = record {
+    me = me;
+    size = size;
+    window = window;
+    slot_in = 1;
+    slot_out = 1;
+    machine = machine;
+    requests = [];
+    proposals = [];
+    decisions = [];
+    performed = [];
+    awaited = [];
+  }
 
   -- whether the next slot to propose for is a slot, and inside the window
   abbrev pub is_open : ReplicaState C I R M → Bool
@@ -103,20 +93,9 @@ module _ {C I R M : Type 0} where
   can_propose [] r = false
   can_propose (c ∷ cs) r = is_open r
 
-  abbrev pub with_request : C → ReplicaState C I R M → ReplicaState C I R M
-  with_request c r = record r { requests = r.requests ++ c ∷ [] }
-
-  abbrev pub with_decision : ℕ → C → ReplicaState C I R M → ReplicaState C I R M
-  with_decision s c r = record r { decisions = kept s c r.decisions }
-
   -- whether no slot is left to propose for
   abbrev pub slots_used : ReplicaState C I R M → Bool
   slots_used r = nat_lt LAST_SLOT r.slot_in
-
--- the answer of what is awaited
-abbrev pub held : {R : Type 0} → Option (Option R) → Option R
-held None = None
-held (Some answer) = answer
 
 module _ {I R : Type 0} where
   -- whether an answer is awaited that isn't there
@@ -147,20 +126,19 @@ module _ {C I R M : Type 0} (rules : Rules C I R M) where
 
   -- the answer that is held for the identity
   abbrev pub answer_for : I → List (I × Option R) → Option R
-  answer_for i awaited = held (lookup (is_at (rules.compare i)) awaited)
+  answer_for i awaited = option_flatten (lookup (is_at (rules.compare i)) awaited)
 
   -- a requested command is awaited, unless its identity was performed
   abbrev pub awaiting : C → ReplicaState C I R M → ReplicaState C I R M
   awaiting c r =
-      record r { awaited = if has_identity (rules.identity c) r.performed then r.awaited else insert_entry rules.compare r.awaited (rules.identity c) None }
+      let more : List (I × Option R) = insert_entry rules.compare r.awaited (rules.identity c) None in
+      record r { awaited = if has_identity (rules.identity c) r.performed then r.awaited else more }
 
   -- a decided command is performed in slot_out, unless its identity was performed; who awaits it has its answer
   abbrev pub performs : C → ReplicaState C I R M → ReplicaState C I R M
   performs c r =
-      if has_identity (rules.identity c) r.performed
-      then record r { slot_out = r.slot_out + 1 }
-      else record r {
-        slot_out = r.slot_out + 1;
+      let passed : ReplicaState C I R M = record r { slot_out = r.slot_out + 1 } in
+      if has_identity (rules.identity c) r.performed then passed else record passed {
         machine = rules.after r.machine c;
         performed = r.performed ++ (r.slot_out, c) ∷ [];
         awaited = set_value (is_at (rules.compare (rules.identity c))) r.awaited (Some (rules.answer_to r.machine c));
@@ -170,68 +148,58 @@ module _ {C I R M : Type 0} (rules : Rules C I R M) where
   abbrev pub gives_way : C → Option C → ReplicaState C I R M → ReplicaState C I R M
   gives_way c None r = r
   gives_way c (Some own) r =
-      record r {
-        proposals = without_slot r.slot_out r.proposals;
-        requests = if is_eq (rules.compare (rules.identity own) (rules.identity c)) then r.requests else own ∷ r.requests;
-      }
+      let same : Bool = is_eq (rules.compare (rules.identity own) (rules.identity c)) in
+      let requests : List C = if same then r.requests else own ∷ r.requests in
+      record r { proposals = without_slot r.slot_out r.proposals; requests = requests }
 
-  -- the next slot is performed, if it is decided
-  abbrev pub performs_next : Option C → ReplicaState C I R M → ReplicaState C I R M
-  performs_next None r = r
-  performs_next (Some c) r = performs c (gives_way c (at_slot r.slot_out r.proposals) r)
-
-  -- n times
+  -- n times: the next slot is performed, if it is decided
   abbrev pub performs_slots : ℕ → ReplicaState C I R M → ReplicaState C I R M
   performs_slots zero r = r
-  performs_slots (suc n) r = performs_slots n (performs_next (at_slot r.slot_out r.decisions) r)
+  performs_slots (suc n) r =
+      let performed : C → ReplicaState C I R M = λ c. performs c (gives_way c (at_slot r.slot_out r.proposals) r) in
+      performs_slots n (option_map_or performed (at_slot r.slot_out r.decisions) r)
 
 module _ {C I R M A : Type 0} where
-  abbrev pub stays : ReplicaState C I R M → Move C I R M A
-  stays r = record { replica = r; sends = [] }
-
   -- the first request is proposed for slot_in, unless that slot is decided; the next slot is the next to propose for
-  abbrev pub proposes_next : List C → ReplicaState C I R M → Move C I R M A
+  abbrev pub proposes_next : List C → ReplicaState C I R M → Move (ReplicaState C I R M) C A
   proposes_next [] r = stays r
   proposes_next (c ∷ cs) r =
-      if is_open r
-      then (if is_decided r.slot_in r.decisions
-      then stays (record r { slot_in = r.slot_in + 1 })
-      else record {
-        replica = record r { slot_in = r.slot_in + 1; requests = cs; proposals = with_slot r.slot_in c r.proposals };
-        sends = to_all r.size (Propose r.slot_in c);
-      })
-      else stays r
+      let passed : ReplicaState C I R M = record r { slot_in = r.slot_in + 1 } in
+      let now : ReplicaState C I R M = record passed { requests = cs; proposals = with_slot r.slot_in c r.proposals } in
+      let move : Move (ReplicaState C I R M) C A = record { after = now; sends = to_all r.size (Propose r.slot_in c) } in
+      if is_open r then (if is_decided r.slot_in r.decisions then stays passed else move) else stays r
 
   -- n times
-  abbrev pub proposes_slots : ℕ → ReplicaState C I R M → Move C I R M A
+  abbrev pub proposes_slots : ℕ → ReplicaState C I R M → Move (ReplicaState C I R M) C A
   proposes_slots zero r = stays r
-  proposes_slots (suc n) r =
-      let first : Move C I R M A = proposes_next r.requests r in
-      let rest : Move C I R M A = proposes_slots n first.replica in
-      record { replica = rest.replica; sends = first.sends ++ rest.sends }
+  proposes_slots (suc n) r = followed_by (proposes_next r.requests r) (proposes_slots n)
 
   -- as far as the window goes
-  abbrev pub proposes : ReplicaState C I R M → Move C I R M A
+  abbrev pub proposes : ReplicaState C I R M → Move (ReplicaState C I R M) C A
   proposes r = proposes_slots ((r.slot_out + r.window) - r.slot_in) r
 
-  -- Tick: each own proposal whose slot isn't decided is sent again, and the next slot to perform is asked for
+  -- an own proposal is sent again, unless its slot is decided
   abbrev pub proposal_again : ReplicaState C I R M → ℕ × C → List (Outgoing C A)
   proposal_again r p = if is_decided p.0 r.decisions then [] else to_all r.size (Propose p.0 p.1)
 
+  -- the next slot to perform is asked for
   abbrev pub asks : ReplicaState C I R M → List (Outgoing C A)
   asks r = if nat_le r.slot_out LAST_SLOT then to_all r.size (Ask r.slot_out) else []
 
-  abbrev pub ticked : ReplicaState C I R M → Move C I R M A
-  ticked r = record { replica = r; sends = flat_map (proposal_again r) r.proposals ++ asks r }
+  -- Tick
+  abbrev pub replica_ticks : ReplicaState C I R M → Move (ReplicaState C I R M) C A
+  replica_ticks r = record { after = r; sends = flat_map (proposal_again r) r.proposals ++ asks r }
 
 module _ {C I R M A : Type 0} (rules : Rules C I R M) where
-  -- a request: its answer is awaited, and it waits for a slot behind the others
-  abbrev pub requested : C → ReplicaState C I R M → Move C I R M A
-  requested c r = proposes (with_request c (awaiting rules c r))
+  -- a request: its answer is awaited, and it waits for a slot after the others
+  abbrev pub requested : C → ReplicaState C I R M → Move (ReplicaState C I R M) C A
+  requested c r = proposes (record (awaiting rules c r) { requests = r.requests ++ c ∷ [] })
 
-  -- a decision: it is kept, what is decided from slot_out on is performed, and requests are proposed
-  abbrev pub decided : ℕ → C → ReplicaState C I R M → Move C I R M A
-  decided s c r = proposes (performs_slots rules (length (kept s c r.decisions)) (with_decision s c r))
+  -- a decision: it is kept, unless its slot has one, what is decided from slot_out on is performed, and requests are proposed
+  abbrev pub learns : ℕ → C → ReplicaState C I R M → Move (ReplicaState C I R M) C A
+  learns s c r =
+      let known : List (ℕ × C) = if is_decided s r.decisions then r.decisions else with_slot s c r.decisions in
+      proposes (performs_slots rules (length known) (record r { decisions = known }))
 
 module _ {C I R M : Type 0} (rules : Rules C I R M) where
   -- an answer is taken

@@ -1,7 +1,8 @@
 //! What is decided.
 ghost use Rattle.std.specs.Prelude.{◌≡◌, [], false, length, OnOk, OnErr, ◌⊎◌};
 ghost use Rattle.std.specs.Option.{option_copied};
-ghost use Rattle.replica.specs.Replicas.{at_slot, is_decided, with_slot};
+ghost use Rattle.replica.specs.Replicas.{is_decided};
+ghost use Rattle.ballot.specs.Slots.{at_slot, with_slot};
 
 use ballot::{Memory, Slot};
 use std::alloc::Allocator;

@@ -1,7 +1,9 @@
 //! Laws of replicas over any calls. Each is a function that does nothing: its contract is the law.
 ghost use Rattle.std.specs.Prelude.{◌≡◌, ◌↔◌, ℕ, List, Some, None, true, false, if◌then◌else◌};
 ghost use Rattle.std.specs.Ordering.{is_eq};
-ghost use Rattle.replica.specs.Replicas.{ReplicaState, rules_of, new_replica, stays, at_slot, is_decided, has_identity, requested, decided, ticked, taken, answer_for, IsFrontOf, IsSettled, is_waiting};
+ghost use Rattle.replica.specs.Replicas.{ReplicaState, rules_of, new_replica, is_decided, has_identity, requested, learns, replica_ticks, taken, answer_for, IsFrontOf, IsSettled, is_waiting};
+ghost use Rattle.ballot.specs.Sends.{stays};
+ghost use Rattle.ballot.specs.Slots.{at_slot};
 ghost use Rattle.replica.specs.Taken.{IsButTaken};
 ghost use Rattle.replica.specs.Calls.{Call, called, all_called, given, is_requested, awaited_for, AreAnswers, Performs, IsBehind};
 
@@ -18,14 +20,14 @@ pub fn replicas_perform_the_front<M: Machine, A: Allocator>()
         (me size window : ℕ) (machine : M) → IsSettled rules (new_replica me size window machine) }
     ensures after_each_call { let rules = rules_of M.Command.identity M.Command.Id.cmp M.answer_to M.after in
         (call : Call M.Command M.Command.Id) (r : ReplicaState M.Command M.Command.Id M.Answer M) →
-        IsSettled rules r → IsSettled rules (called {A = A} rules call r).replica }
+        IsSettled rules r → IsSettled rules (called {A = A} rules call r).after }
 {}
 
 /// A decision for a slot that has one changes nothing and sends nothing.
 pub fn repeated_decisions_do_nothing<M: Machine, A: Allocator>()
     ensures { let rules = rules_of M.Command.identity M.Command.Id.cmp M.answer_to M.after in
         (slot : ℕ) (command : M.Command) (r : ReplicaState M.Command M.Command.Id M.Answer M) →
-        IsSettled rules r → is_decided slot r.decisions ≡ true → decided {A = A} rules slot command r ≡ stays r }
+        IsSettled rules r → is_decided slot r.decisions ≡ true → learns {A = A} rules slot command r ≡ stays r }
 {}
 
 /// A replica that was given at least what another was given has performed what that one has, and maybe more behind
@@ -49,7 +51,7 @@ pub fn fronts_agree<M: Machine>()
 pub fn requests_are_awaited<M: Machine, A: Allocator>()
     ensures request { let rules = rules_of M.Command.identity M.Command.Id.cmp M.answer_to M.after in
         (command : M.Command) (i : M.Command.Id) (r : ReplicaState M.Command M.Command.Id M.Answer M) →
-        awaited_for rules i (requested {A = A} rules command r).replica
+        awaited_for rules i (requested {A = A} rules command r).after
         ≡ if has_identity rules (M.Command.identity command) r.performed
         then awaited_for rules i r
         else (if is_eq (M.Command.Id.cmp (M.Command.identity command) i) then Some None else awaited_for rules i r) }
@@ -72,14 +74,14 @@ pub fn answers_are_of_what_is_performed<M: Machine, A: Allocator>()
         AreAnswers rules machine (all_called A rules calls (new_replica me size window machine)) }
     ensures after_each_call { let rules = rules_of M.Command.identity M.Command.Id.cmp M.answer_to M.after in
         (first : M) (call : Call M.Command M.Command.Id) (r : ReplicaState M.Command M.Command.Id M.Answer M) →
-        AreAnswers rules first r → AreAnswers rules first (called {A = A} rules call r).replica }
+        AreAnswers rules first r → AreAnswers rules first (called {A = A} rules call r).after }
     ensures decision { let rules = rules_of M.Command.identity M.Command.Id.cmp M.answer_to M.after in
         (first : M) (slot : ℕ) (command : M.Command) (r : ReplicaState M.Command M.Command.Id M.Answer M) →
-        AreAnswers rules first r → Performs rules r (decided {A = A} rules slot command r).replica }
+        AreAnswers rules first r → Performs rules r (learns {A = A} rules slot command r).after }
     ensures request { let rules = rules_of M.Command.identity M.Command.Id.cmp M.answer_to M.after in
         (first : M) (command : M.Command) (i : M.Command.Id) (r : ReplicaState M.Command M.Command.Id M.Answer M) →
         AreAnswers rules first r
-        → answer_for rules i (requested {A = A} rules command r).replica.awaited ≡ answer_for rules i r.awaited }
+        → answer_for rules i (requested {A = A} rules command r).after.awaited ≡ answer_for rules i r.awaited }
 {}
 
 /// An answer that was taken is gone for good, and the others stay.
@@ -102,18 +104,18 @@ pub fn taken_answers_change_nothing_else<M: Machine, A: Allocator>()
     ensures request { let rules = rules_of M.Command.identity M.Command.Id.cmp M.answer_to M.after in
         (first : M) (command : M.Command) (r s : ReplicaState M.Command M.Command.Id M.Answer M) →
         IsButTaken rules first r s
-        → IsButTaken rules first (requested {A = A} rules command r).replica (requested {A = A} rules command s).replica
+        → IsButTaken rules first (requested {A = A} rules command r).after (requested {A = A} rules command s).after
         × ((requested {A = A} rules command r).sends ≡ (requested {A = A} rules command s).sends) }
     ensures decision { let rules = rules_of M.Command.identity M.Command.Id.cmp M.answer_to M.after in
         (first : M) (slot : ℕ) (command : M.Command) (r s : ReplicaState M.Command M.Command.Id M.Answer M) →
         IsButTaken rules first r s
-        → IsButTaken rules first (decided {A = A} rules slot command r).replica (decided {A = A} rules slot command s).replica
-        × ((decided {A = A} rules slot command r).sends ≡ (decided {A = A} rules slot command s).sends) }
+        → IsButTaken rules first (learns {A = A} rules slot command r).after (learns {A = A} rules slot command s).after
+        × ((learns {A = A} rules slot command r).sends ≡ (learns {A = A} rules slot command s).sends) }
     ensures tick { let rules = rules_of M.Command.identity M.Command.Id.cmp M.answer_to M.after in
         (first : M) (r s : ReplicaState M.Command M.Command.Id M.Answer M) →
         IsButTaken rules first r s
-        → IsButTaken rules first (ticked {A = A} r).replica (ticked {A = A} s).replica
-        × ((ticked {A = A} r).sends ≡ (ticked {A = A} s).sends) }
+        → IsButTaken rules first (replica_ticks {A = A} r).after (replica_ticks {A = A} s).after
+        × ((replica_ticks {A = A} r).sends ≡ (replica_ticks {A = A} s).sends) }
     ensures taking { let rules = rules_of M.Command.identity M.Command.Id.cmp M.answer_to M.after in
         (first : M) (i : M.Command.Id) (r s : ReplicaState M.Command M.Command.Id M.Answer M) →
         IsButTaken rules first r s → IsButTaken rules first (taken rules i r) s }

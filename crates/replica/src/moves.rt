@@ -1,6 +1,7 @@
 //! The calls of a replica that isn't spent.
 ghost use Rattle.std.specs.Prelude.{◌≡◌, true, OnOk, IfOk, IsOk};
-ghost use Rattle.replica.specs.Replicas.{rules_of, is_decided, with_request, requested, decided, IsSettled};
+ghost use Rattle.replica.specs.Replicas.{rules_of, is_decided, requested, learns, IsSettled};
+ghost use Rattle.replica.specs.Parts.{with_request};
 
 use crate::awaiting::await_answer;
 use crate::performing::{keep, perform_all};
@@ -16,7 +17,7 @@ pub fn request<M: Machine, A: Allocator + Copy>(
     command: M::Command,
 ) -> Result<Sends<M::Command, A>, Memory>
     requires { IsSettled (rules_of M.Command.identity M.Command.Id.cmp M.answer_to M.after) state.old }
-    ensures replica { OnOk result (state.new ≡ (requested {A = A} (rules_of M.Command.identity M.Command.Id.cmp M.answer_to M.after) command state.old).replica) }
+    ensures replica { OnOk result (state.new ≡ (requested {A = A} (rules_of M.Command.identity M.Command.Id.cmp M.answer_to M.after) command state.old).after) }
     ensures sends { IfOk result (λ sends. sends ≡ (requested (rules_of M.Command.identity M.Command.Id.cmp M.answer_to M.after) command state.old).sends) }
 {
     await_answer(state, &command)?;
@@ -43,8 +44,8 @@ pub fn decide<M: Machine, A: Allocator + Copy>(
     command: M::Command,
 ) -> Result<Sends<M::Command, A>, Memory>
     requires { IsSettled (rules_of M.Command.identity M.Command.Id.cmp M.answer_to M.after) state.old }
-    ensures replica { OnOk result (state.new ≡ (decided {A = A} (rules_of M.Command.identity M.Command.Id.cmp M.answer_to M.after) slot command state.old).replica) }
-    ensures sends { IfOk result (λ sends. sends ≡ (decided (rules_of M.Command.identity M.Command.Id.cmp M.answer_to M.after) slot command state.old).sends) }
+    ensures replica { OnOk result (state.new ≡ (learns {A = A} (rules_of M.Command.identity M.Command.Id.cmp M.answer_to M.after) slot command state.old).after) }
+    ensures sends { IfOk result (λ sends. sends ≡ (learns (rules_of M.Command.identity M.Command.Id.cmp M.answer_to M.after) slot command state.old).sends) }
     ensures again { is_decided slot state.old.decisions ≡ true → IsOk result × (state.new ≡ state.old) }
 {
     if has_decision(state, slot) {

@@ -1,6 +1,8 @@
 //! Performing what is decided.
 ghost use Rattle.std.specs.Prelude.{◌≡◌, Some, false, length, OnOk};
-ghost use Rattle.replica.specs.Replicas.{rules_of, at_slot, is_decided, gives_way, performs, performs_slots, with_decision};
+ghost use Rattle.replica.specs.Replicas.{rules_of, is_decided, gives_way, performs, performs_slots};
+ghost use Rattle.ballot.specs.Slots.{at_slot};
+ghost use Rattle.replica.specs.Parts.{with_decision};
 
 use crate::awaiting::answer;
 use crate::state::State;

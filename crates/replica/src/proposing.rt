@@ -4,7 +4,8 @@ ghost use Rattle.std.specs.List.{flat_map};
 ghost use Rattle.ballot.specs.Sends.{to_all};
 ghost use Rattle.ballot.specs.declared.message.Message.TheVariants.{Propose, Ask};
 ghost use Rattle.ballot.specs.declared.slot.TheConstants.{LAST_SLOT};
-ghost use Rattle.replica.specs.Replicas.{is_decided, with_slot, is_open, can_propose, proposes_next, proposes, ticked, proposal_again, asks};
+ghost use Rattle.replica.specs.Replicas.{is_decided, is_open, can_propose, proposes_next, proposes, replica_ticks, proposal_again, asks};
+ghost use Rattle.ballot.specs.Slots.{with_slot};
 
 use crate::state::State;
 use ballot::{Cluster, Items, Machine, Memory, Message, Payload, Sends, Slot};
@@ -41,7 +42,7 @@ fn propose_next<M: Machine, A: Allocator + Copy>(
     state: &mut State<M, A>,
     sends: &mut Sends<M::Command, A>,
 ) -> Result<bool, Memory>
-    ensures replica { OnOk result (state.new ≡ (proposes_next {A = A} state.old.requests state.old).replica) }
+    ensures replica { OnOk result (state.new ≡ (proposes_next {A = A} state.old.requests state.old).after) }
     ensures sends { OnOk result (sends.new ≡ sends.old ++ (proposes_next state.old.requests state.old).sends) }
     ensures proposes { IfOk result (λ one. one ≡ can_propose state.old.requests state.old) }
 {
@@ -91,7 +92,7 @@ pub fn propose_all<M: Machine, A: Allocator + Copy>(
     state: &mut State<M, A>,
 ) -> Result<Sends<M::Command, A>, Memory>
     requires { (s : ℕ) → 1 ≤ s → s < state.old.slot_out → is_decided s state.old.decisions ≡ true }
-    ensures replica { OnOk result (state.new ≡ (proposes {A = A} state.old).replica) }
+    ensures replica { OnOk result (state.new ≡ (proposes {A = A} state.old).after) }
     ensures sends { IfOk result (λ sends. sends ≡ (proposes state.old).sends) }
 {
     pass_over(state);
@@ -102,7 +103,7 @@ pub fn propose_all<M: Machine, A: Allocator + Copy>(
 fn propose_open<M: Machine, A: Allocator + Copy>(
     state: &mut State<M, A>,
 ) -> Result<Sends<M::Command, A>, Memory>
-    ensures replica { OnOk result (state.new ≡ (proposes {A = A} state.old).replica) }
+    ensures replica { OnOk result (state.new ≡ (proposes {A = A} state.old).after) }
     ensures sends { IfOk result (λ sends. sends ≡ (proposes state.old).sends) }
 {
     let mut sends = Items::new(state.alloc);
@@ -135,7 +136,7 @@ fn send_again<M: Machine, A: Allocator + Copy>(
 pub fn tick<M: Machine, A: Allocator + Copy>(
     state: &State<M, A>,
 ) -> Result<Sends<M::Command, A>, Memory>
-    ensures { IfOk result (λ sends. sends ≡ (ticked state.now).sends) }
+    ensures { IfOk result (λ sends. sends ≡ (replica_ticks state.now).sends) }
 {
     let mut sends = send_again(state)?;
     let Some(slot) = Slot::new(state.slot_out) else {

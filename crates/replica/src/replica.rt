@@ -33,7 +33,8 @@ impl<M: Machine, A: Allocator> Model for Replica<M, A> {
 }
 
 impl<M: Machine, A: Allocator + Copy> Replica<M, A> {
-    ghost use Rattle.replica.specs.Replicas.{ReplicaState, IsMoved, IsSettled, rules_of, new_replica, at_slot, is_decided, requested, decided, ticked, taken, answer_for, is_waiting, slots_used};
+    ghost use Rattle.replica.specs.Replicas.{ReplicaState, IsMoved, IsSettled, rules_of, new_replica, is_decided, requested, learns, replica_ticks, taken, answer_for, is_waiting, slots_used};
+    ghost use Rattle.ballot.specs.Slots.{at_slot};
 
     /// A replica of node `me` that has performed nothing. It proposes for at most `window` slots
     /// ahead of what it has performed. Takes no memory.
@@ -78,7 +79,7 @@ impl<M: Machine, A: Allocator + Copy> Replica<M, A> {
         slot: Slot,
         command: M::Command,
     ) -> Result<Sends<M::Command, A>, Memory>
-        ensures moves { IsMoved (λ r. decided (rules_of M.Command.identity M.Command.Id.cmp M.answer_to M.after) slot command r) self.old self.new result }
+        ensures moves { IsMoved (λ r. learns (rules_of M.Command.identity M.Command.Id.cmp M.answer_to M.after) slot command r) self.old self.new result }
         ensures again { (r : ReplicaState M.Command M.Command.Id M.Answer M) → self.old ≡ Some r → is_decided slot r.decisions ≡ true → IsOk result × (self.new ≡ self.old) }
     {
         spend(&mut self.spent)?;
@@ -90,7 +91,7 @@ impl<M: Machine, A: Allocator + Copy> Replica<M, A> {
     /// Sends its undecided proposals again, in slot order, and asks for the decision of the next
     /// slot that it performs.
     pub fn tick(&mut self) -> Result<Sends<M::Command, A>, Memory>
-        ensures { IsMoved (λ r. ticked r) self.old self.new result }
+        ensures { IsMoved (λ r. replica_ticks r) self.old self.new result }
     {
         spend(&mut self.spent)?;
         let sends = proposing::tick(&self.state)?;
@@ -121,6 +122,21 @@ impl<M: Machine, A: Allocator + Copy> Replica<M, A> {
         ensures front { IfSome self.now (λ r. IsSettled (rules_of M.Command.identity M.Command.Id.cmp M.answer_to M.after) r) }
     {
         self.state.performed.get()
+    }
+
+    /// The machine, which has performed these commands. Unknown once the replica is spent.
+    pub fn machine(&self) -> &M
+        ensures { IfSome self.now (λ r. result.now ≡ r.machine) }
+    {
+        &self.state.machine
+    }
+
+    /// The machine, which has performed these commands, without the replica. Unknown once the replica is spent. Takes no
+    /// memory.
+    pub fn into_machine(self) -> M
+        ensures { IfSome self (λ r. result ≡ r.machine) }
+    {
+        self.state.machine
     }
 
     /// The first slot that isn't decided, 1 to 2^63: all below it are performed.

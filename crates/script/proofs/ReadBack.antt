@@ -16,7 +16,8 @@ use Rattle.std.proofs.lemmas.Str.Parse.{IsNumeralModel, numerals_by_fold, tells_
 use Rattle.apop.specs.Accounts.{cut_at_space, is_space}
 use Rattle.maildrop.specs.Key.{IsKey}
 use Rattle.maildrop.specs.Name.{IsName, is_visible}
-use Rattle.pop3_wire.specs.Commands.{number_value, name_of}
+use Rattle.pop3_wire.specs.Commands.{number_value}
+use Rattle.script.specs.Names.{name_of}
 use Rattle.script.specs.Commands.{node_and_user}
 use Rattle.script.specs.Keys.{prefix_of}
 use Rattle.script.specs.Requests.{HasKey, HasKeyPrefix, IsNodeOrAny, IsRequest, count_and_key, count_and_message_key, count_of, key_text, largest_file, node_number, request_cut, request_of, request_text, request_with, stop_text}
@@ -252,5 +253,7 @@ reads_back (request.Put at user count key) is =
     put-reads_back user is.1 count is.2 at (node_high at is.0) (node_or_any-reads_back at is.0) key is.3
 reads_back request.Sessions is = refl
 reads_back request.Stats is = refl
+reads_back request.Locks is = refl
+reads_back request.Users is = refl
 reads_back (request.Kick user) is = kick-reads_back user is
 reads_back (request.Stop now wait) is = stop-reads_back now wait

@@ -4,7 +4,7 @@ use Rattle.std.specs.Option.{option_map}
 use Rattle.std.specs.Str.{bytes_eq}
 use Rattle.apop.specs.Accounts.{cut_at_space, row_of}
 use Rattle.maildrop.specs.Limits.{Limits, most_messages, most_octets, highest_id}
-use Rattle.pop3_wire.specs.Commands.{name_of}
+use Rattle.script.specs.Names.{name_of}
 use Rattle.pop3_wire.specs.declared.line.Line.{Line}
 use Rattle.pop3_wire.specs.declared.line.Line.TheVariants.{Whole, TooLong}
 use Rattle.script.specs.Kinds.{kind_named}

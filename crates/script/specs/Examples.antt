@@ -278,6 +278,18 @@ stats_request = refl
 stats_and_a_space : request_of (codes "stats ") ≡ None
 stats_and_a_space = refl
 
+locks_request : request_of (codes "locks") ≡ Some request.Locks
+locks_request = refl
+
+locks_of_a_user : request_of (codes "locks alice") ≡ None
+locks_of_a_user = refl
+
+users_request : request_of (codes "users") ≡ Some request.Users
+users_request = refl
+
+users_and_a_space : request_of (codes "users ") ≡ None
+users_and_a_space = refl
+
 kick_request : request_of (codes "kick alice") ≡ Some (request.Kick alice)
 kick_request = refl
 
@@ -327,6 +339,12 @@ put_at_any_node_text = refl
 
 kick_text : request_text (request.Kick alice) ≡ codes "kick alice"
 kick_text = refl
+
+locks_text : request_text request.Locks ≡ codes "locks"
+locks_text = refl
+
+users_text : request_text request.Users ≡ codes "users"
+users_text = refl
 
 stop_now_wait_text : request_text (request.Stop true true) ≡ codes "stop now wait"
 stop_now_wait_text = refl
@@ -391,6 +409,18 @@ stats_words = refl
 
 stats_words_one_more : instruction_of (codes "stats" ∷ codes "1" ∷ []) ≡ no_words
 stats_words_one_more = refl
+
+locks_words : instruction_of (codes "locks" ∷ []) ≡ asks request.Locks
+locks_words = refl
+
+locks_words_one_more : instruction_of (codes "locks" ∷ codes "1" ∷ []) ≡ no_words
+locks_words_one_more = refl
+
+users_words : instruction_of (codes "users" ∷ []) ≡ asks request.Users
+users_words = refl
+
+users_words_one_more : instruction_of (codes "users" ∷ codes "alice" ∷ []) ≡ no_words
+users_words_one_more = refl
 
 kick_words : instruction_of (codes "kick" ∷ codes "alice" ∷ []) ≡ asks (request.Kick alice)
 kick_words = refl

@@ -2,7 +2,7 @@
 use Rattle.std.specs.Prelude.{ℕ, true, false, List, [], ◌∷◌, codes, if◌then◌else◌, Option, None, Some, Result, Ok, Err}
 use Rattle.std.specs.Option.{option_map}
 use Rattle.std.specs.Str.{bytes_eq}
-use Rattle.pop3_wire.specs.Commands.{name_of}
+use Rattle.script.specs.Names.{name_of}
 use Rattle.script.specs.Commands.{both_of}
 use Rattle.script.specs.Keys.{prefix_of}
 use Rattle.script.specs.Requests.{single_word}

@@ -1,3 +1,4 @@
+pub mod Names
 pub mod Words
 pub mod Kinds
 pub mod Commands

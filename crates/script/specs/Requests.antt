@@ -5,7 +5,7 @@ use Rattle.std.specs.Str.{bytes_eq}
 use Rattle.apop.specs.Accounts.{cut_at_space}
 use Rattle.maildrop.specs.Key.{IsKey}
 use Rattle.maildrop.specs.Name.{IsName}
-use Rattle.pop3_wire.specs.Commands.{name_of}
+use Rattle.script.specs.Names.{name_of}
 use Rattle.script.specs.Commands.{both_of, node_and_user}
 use Rattle.script.specs.Keys.{IsKeyPrefix, prefix_of}
 use Rattle.script.specs.Words.{last_node, number_between, key_of, node_of, node_or_any}
@@ -78,6 +78,8 @@ single_word line =
     else if bytes_eq line (codes "stop") then Some (request.Stop false false)
     else if bytes_eq line (codes "sessions") then Some request.Sessions
     else if bytes_eq line (codes "stats") then Some request.Stats
+    else if bytes_eq line (codes "locks") then Some request.Locks
+    else if bytes_eq line (codes "users") then Some request.Users
     else None
 
 abbrev pub request_cut : Option (List ℕ × List ℕ) → List ℕ → Option Request
@@ -119,6 +121,8 @@ request_text (request.Crash at) = codes "crash " ++ decimal at
 request_text request.Status = codes "status"
 request_text request.Sessions = codes "sessions"
 request_text request.Stats = codes "stats"
+request_text request.Locks = codes "locks"
+request_text request.Users = codes "users"
 request_text (request.Stop now wait) = stop_text now wait
 
 abbrev pub HasKeyPrefix : Option (List ℕ) → Type 0
@@ -144,4 +148,6 @@ IsRequest (request.Crash at) = (1 ≤ at) × (at ≤ last_node)
 IsRequest request.Status = Unit {0}
 IsRequest request.Sessions = Unit {0}
 IsRequest request.Stats = Unit {0}
+IsRequest request.Locks = Unit {0}
+IsRequest request.Users = Unit {0}
 IsRequest (request.Stop now wait) = Unit {0}

@@ -52,6 +52,10 @@ pub enum Request {
     Sessions,
     /// `stats`: the counts that the service keeps.
     Stats,
+    /// `locks`: which maildrops are locked.
+    Locks,
+    /// `users`: what each maildrop holds.
+    Users,
     /// `stop`, `stop now`, `stop wait` or `stop now wait`: the service ends.
     Stop {
         /// Open sessions are cut.
@@ -195,6 +199,10 @@ pub(crate) fn single_word(line: &[u8]) -> Option<Request>
         Some(Request::Sessions)
     } else if line == b"stats".as_slice() {
         Some(Request::Stats)
+    } else if line == b"locks".as_slice() {
+        Some(Request::Locks)
+    } else if line == b"users".as_slice() {
+        Some(Request::Users)
     } else {
         None
     }

@@ -145,6 +145,8 @@ fn put_text<A: Allocator>(out: &mut Vec<u8, A>, request: &Request) -> Result<(),
         Request::Status => put(out, b"status"),
         Request::Sessions => put(out, b"sessions"),
         Request::Stats => put(out, b"stats"),
+        Request::Locks => put(out, b"locks"),
+        Request::Users => put(out, b"users"),
         Request::Stop { now, wait } => put(out, stop_text(*now, *wait)),
     }
 }

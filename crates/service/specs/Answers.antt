@@ -14,7 +14,7 @@ use Rattle.service.specs.declared.ctl_answer.Ending.TheVariants.{Broken, Refused
 use Rattle.service.specs.declared.fault.Fault.{Fault}
 use Rattle.service.specs.declared.fault.Fault.TheVariants.{Read}
 
--- the answer may have to wait until the nodes have decided
+-- the answer may have to wait until the nodes have decided, however long that takes
 abbrev pub awaits_nodes : Request → Bool
 awaits_nodes (request.Deliver node user count key) = true
 awaits_nodes (request.Put addressed user count key) = true
@@ -24,6 +24,8 @@ awaits_nodes (request.Crash node) = false
 awaits_nodes request.Status = false
 awaits_nodes request.Sessions = false
 awaits_nodes request.Stats = false
+awaits_nodes request.Locks = false
+awaits_nodes request.Users = false
 awaits_nodes (request.Stop now wait) = false
 
 abbrev pub awaits_answer : Instruction → Bool
@@ -62,6 +64,8 @@ ends_request (request.Crash node) line = bytes_eq line (codes "crashed")
 ends_request request.Status line = bytes_eq line (codes "end")
 ends_request request.Sessions line = bytes_eq line (codes "end")
 ends_request request.Stats line = bytes_eq line (codes "end")
+ends_request request.Locks line = bytes_eq line (codes "end")
+ends_request request.Users line = bytes_eq line (codes "end")
 ends_request (request.Stop now wait) line = ends_stop wait line
 
 abbrev pub ends_answer : Instruction → List ℕ → Bool

@@ -52,6 +52,10 @@ with_delivery text node user stored refused =
 abbrev pub with_crash : List ℕ → ℕ → List ℕ
 with_crash text node = text ++ codes "event=crash node=" ++ decimal node ++ codes "\n"
 
+-- a user's lock is broken, since this node is down, whose session held it
+abbrev pub with_break : List ℕ → List ℕ → ℕ → List ℕ
+with_break text user node = text ++ codes "event=break user=" ++ user ++ codes " node=" ++ decimal node ++ codes "\n"
+
 -- an event that has only a name
 abbrev pub with_event : List ℕ → List ℕ → List ℕ
 with_event text name = text ++ codes "event=" ++ name ++ codes "\n"

@@ -21,4 +21,6 @@ pub mod Puts
 pub mod Ctl
 pub mod Deliveries
 pub mod MailboxErrors
+pub mod Maildrops
+pub mod Locks
 pub mod OperatorExamples

@@ -80,9 +80,12 @@ fn ends_request(request: &Request, line: &[u8]) -> bool
     ensures { result ≡ spec.ends_request request.now line.now }
 {
     match request {
-        Request::Deliver { .. } | Request::Status | Request::Sessions | Request::Stats => {
-            line == b"end".as_slice()
-        }
+        Request::Deliver { .. }
+        | Request::Status
+        | Request::Sessions
+        | Request::Stats
+        | Request::Locks
+        | Request::Users => line == b"end".as_slice(),
         Request::Put { .. } => ends_put(line),
         Request::Break { .. } => {
             line == b"done".as_slice() || line == b"no such user".as_slice()

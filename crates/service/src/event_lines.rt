@@ -116,6 +116,15 @@ pub(crate) fn put_crash(text: &mut Vec<u8>, node: u8) -> Result<(), Memory>
     put_number_line(text, b"event=crash node=", node as u64)
 }
 
+/// Adds the line of a user's lock that is broken, since the node is down whose session held it.
+pub(crate) fn put_broken(text: &mut Vec<u8>, user: &Name, node: u8) -> Result<(), Memory>
+    ensures { OnOk result (text.new.items ≡ spec.with_break text.old.items user.now node) }
+{
+    put(text, b"event=break user=")?;
+    put(text, user.get())?;
+    put_number_line(text, b" node=", node as u64)
+}
+
 /// Adds the line of an event that has only a name.
 pub(crate) fn put_event(text: &mut Vec<u8>, name: &[u8]) -> Result<(), Memory>
     ensures { OnOk result (text.new.items ≡ spec.with_event text.old.items name.now) }

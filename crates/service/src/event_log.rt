@@ -1,7 +1,7 @@
 //! The log: a line for each event.
 
 use crate::event_lines::{
-    put_crash, put_delivery, put_event, put_fault, put_refused, put_session, put_time,
+    put_broken, put_crash, put_delivery, put_event, put_fault, put_refused, put_session, put_time,
 };
 use crate::fault::Fault;
 use crate::open_sessions::peer_text;
@@ -145,6 +145,14 @@ impl EventLog {
     pub(crate) fn crash<R: Wait + Clock>(&self, rt: &R, node: NodeId) {
         if let Some(mut line) = self.begin(rt) {
             let put = put_crash(&mut line, node.get());
+            self.end(rt, line, put);
+        }
+    }
+
+    /// A user's lock is broken, since the node is down whose session held it.
+    pub(crate) fn lock_broken<R: Wait + Clock>(&self, rt: &R, user: &Name, node: NodeId) {
+        if let Some(mut line) = self.begin(rt) {
+            let put = put_broken(&mut line, user, node.get());
             self.end(rt, line, put);
         }
     }

@@ -3,7 +3,7 @@
 use crate::served_node::ServedNode;
 use ballot::{Memory, NodeId};
 use cluster::{Deployment, Link, NodeDesk, Status};
-use maildrop::{Name, Op, Outcome, Ticket};
+use maildrop::{Name, Op, Outcome, Ticket, Usage};
 use session::DeskStopped;
 use std::sync::Wait;
 use std::time::{Clock, Duration};
@@ -35,6 +35,14 @@ impl<D: Deployment, R: Wait + Clock + Copy, L: Link> ServedNode for NodeDesk<D, 
 
     fn status(&self) -> Option<Status> {
         NodeDesk::status(self)
+    }
+
+    fn locks(&self) -> Result<Vec<(Name, Ticket)>, Memory> {
+        NodeDesk::locks(self)
+    }
+
+    fn usage(&self) -> Result<Vec<(Name, Usage)>, Memory> {
+        NodeDesk::usage(self)
     }
 
     fn submit(&self, user: Name, op: Op) -> Option<Ticket> {

@@ -7,8 +7,12 @@ use crate::connection::Connection;
 use crate::delivery::{Delivered, Delivery, message_in, texts_in};
 use crate::delivery_budget::DeliveryBudget;
 use crate::fault::Fault;
+use crate::furthest::{furthest_slot, furthest_up};
 use crate::handler::Handler;
-use crate::operator_limits::{BRIEF_LINE_MS, CUT_MS, LINE_MS, LONGEST_PAUSE_MS, LOOK_MS};
+use crate::maildrop_lines::{lock_lines, user_lines};
+use crate::operator_limits::{
+    BRIEF_LINE_MS, BROKEN_LOOK_MS, CUT_MS, LINE_MS, LONGEST_PAUSE_MS, LOOK_MS, MOST_BROKEN_LOOKS,
+};
 use crate::operator_reader::OperatorReader;
 use crate::operator_stream::OperatorStream;
 use crate::pop::node_for;
@@ -125,17 +129,6 @@ fn put_status<N: ServedNode>(nodes: &[N], text: &mut Vec<u8>) -> Result<(), Memo
     put(text, b"end\n")
 }
 
-/// The slot of the node that is furthest.
-fn furthest_slot<N: ServedNode>(nodes: &[N]) -> u64 {
-    let mut furthest = 0;
-    for node in nodes {
-        if let Some(status) = node.status() {
-            furthest = furthest.max(status.slot_out);
-        }
-    }
-    furthest
-}
-
 impl<R: Wait + Clock + Copy, N: ServedNode + Drop> OperatorHandler<R, N> {
     /// Answers operators of these nodes. The files that are delivered at a time have so many bytes together.
     pub(crate) fn new(
@@ -186,7 +179,7 @@ impl<R: Wait + Clock + Copy, N: ServedNode + Drop> OperatorHandler<R, N> {
         let _closed = self.answer_at_once(&request, stream, may_wait);
     }
 
-    /// Answers a request that waits for no node. Others are not answered.
+    /// Answers a request that needs no place: it waits for no node, or for 10 seconds at most. Others are not answered.
     fn answer_at_once(
         &mut self,
         request: &Option<Request>,
@@ -199,7 +192,9 @@ impl<R: Wait + Clock + Copy, N: ServedNode + Drop> OperatorHandler<R, N> {
             Some(Request::Sessions) => self.tell_sessions(stream),
             Some(Request::Stats) => self.tell_stats(stream),
             Some(Request::Kick { user }) => self.kick(user, stream),
-            Some(Request::Crash { node }) => self.crash(*node, stream),
+            Some(Request::Locks) => self.tell_locks(stream),
+            Some(Request::Users) => self.tell_users(stream),
+            Some(Request::Crash { node }) => self.crash(*node, stream, may_wait),
             Some(Request::Stop { now, wait }) => self.stop(*now, *wait, stream, may_wait),
             Some(Request::Deliver { .. } | Request::Put { .. } | Request::Break { .. }) => Ok(()),
         }
@@ -247,6 +242,24 @@ impl<R: Wait + Clock + Copy, N: ServedNode + Drop> OperatorHandler<R, N> {
         tell(stream, lines.as_slice())
     }
 
+    fn tell_locks(&self, stream: &OperatorStream) -> Result<(), Fault> {
+        let Some(node) = furthest_up(&self.nodes) else {
+            return tell(stream, b"down\n");
+        };
+        let locks = node.locks()?;
+        let lines = lock_lines(self.alloc, locks.as_slice())?;
+        tell(stream, lines.as_slice())
+    }
+
+    fn tell_users(&self, stream: &OperatorStream) -> Result<(), Fault> {
+        let Some(node) = furthest_up(&self.nodes) else {
+            return tell(stream, b"down\n");
+        };
+        let users = node.usage()?;
+        let lines = user_lines(self.alloc, users.as_slice())?;
+        tell(stream, lines.as_slice())
+    }
+
     /// Cuts the sessions of a user, and reports how many these are.
     fn kick(&mut self, user: &Name, stream: &OperatorStream) -> Result<(), Fault> {
         let count = self.state.sessions().kick(&self.rt, user);
@@ -255,13 +268,30 @@ impl<R: Wait + Clock + Copy, N: ServedNode + Drop> OperatorHandler<R, N> {
         tell(stream, self.answer.as_slice())
     }
 
-    fn crash(&self, number: NodeId, stream: &OperatorStream) -> Result<(), Fault> {
+    /// Stops a node, and reports it once the locks of its sessions are broken, if that takes no longer than it may.
+    fn crash(&self, number: NodeId, stream: &OperatorStream, may_wait: bool) -> Result<(), Fault> {
         match node_up(&self.nodes, Some(number)) {
             Some(node) if node.crash() => {
                 self.state.log().crash(&self.rt, number);
+                if may_wait {
+                    self.break_locks();
+                }
                 tell(stream, b"crashed\n")
             }
             _ => tell(stream, b"down\n"),
+        }
+    }
+
+    /// Waits until the locks are broken that sessions of nodes hold which are down, but not for long. Afterwards the
+    /// ticker's thread looks for them.
+    fn break_locks(&self) {
+        for _ in 0..MOST_BROKEN_LOOKS {
+            let breaker = self.state.lock_breaker();
+            let is_more = breaker.look(&self.rt, &self.nodes, self.state.log());
+            let pause = Duration::from_millis(BROKEN_LOOK_MS);
+            if !matches!(&is_more, Ok(true)) || self.state.stages().pauses(&self.rt, pause) {
+                return;
+            }
         }
     }
 

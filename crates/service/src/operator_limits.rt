@@ -19,6 +19,12 @@ pub(crate) const LOOK_MS: u64 = 400;
 /// How often the sessions are cut that come although the service stops at once, in milliseconds.
 pub(crate) const CUT_MS: u64 = 100;
 
+/// How many milliseconds lie between two looks whether the locks are broken that sessions of a stopped node hold.
+pub(crate) const BROKEN_LOOK_MS: u64 = 50;
+
+/// How many such looks there are at most before `crash` is answered: for some 10 seconds.
+pub(crate) const MOST_BROKEN_LOOKS: u32 = 200;
+
 /// How many bytes are read at a time.
 pub(crate) const PIECE: usize = 4_096;
 

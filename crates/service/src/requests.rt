@@ -4,7 +4,7 @@ ghost use Rattle.service.specs.Answers as spec;
 
 use script::Request;
 
-/// Whether the answer to a request may have to wait until the nodes have decided.
+/// Whether the answer to a request may have to wait until the nodes have decided, however long that takes.
 pub(crate) fn awaits_nodes(request: &Request) -> bool
     ensures { result ≡ spec.awaits_nodes request.now }
 {
@@ -15,6 +15,8 @@ pub(crate) fn awaits_nodes(request: &Request) -> bool
         | Request::Status
         | Request::Sessions
         | Request::Stats
+        | Request::Locks
+        | Request::Users
         | Request::Stop { .. } => false,
     }
 }

@@ -22,7 +22,8 @@ use crate::threads::{Ports, ServiceThreads, join_all};
 use crate::verdict::{Verdict, verdict_of};
 use apop::{Accounts, AccountsError};
 use ballot::{Items, NodeId};
-use cluster::{Cluster, Deployment, InboxLink, NodeDesk, Setup, StartError};
+use cluster::{Cluster, Deployment, Ended, InboxLink, NodeDesk, Setup, StartError};
+use maildrop::{Kept, Shared};
 use std::alloc::Global;
 use std::fs::File;
 use std::io::{Eprint, Write};
@@ -69,15 +70,19 @@ fn setup_of(alloc: Global, settings: &Settings, accounts: &Accounts) -> Result<S
     ensures cluster { IfOk result (λ setup. setup.cluster ≡ settings.now.cluster) }
     ensures window { IfOk result (λ setup. setup.window ≡ settings.now.window) }
     ensures limits { IfOk result (λ setup. setup.limits ≡ settings.now.limits) }
+    ensures kept { IfOk result (λ setup. setup.kept ≡ []) }
     ensures names { IfOk result (λ setup. setup.names ≡ map name_of accounts.now) }
     ensures different { IfOk result (λ setup. IsTrue (are_different setup.names)) }
 {
     let names = Vec::from_slice(alloc, accounts.names())?;
+    let kept = Shared::new(alloc, Kept::new(alloc))?;
     Ok(Setup {
         cluster: settings.cluster,
         window: settings.window,
         names: Items::from_vec(names),
         limits: settings.limits,
+        kept,
+        keys: 0,
     })
 }
 
@@ -154,7 +159,8 @@ fn verdict_at_end<D: Deployment + Send + Sync + 'static, R: System>(
         operators,
     } = threads;
     end_sessions(&rt, sessions, nodes, ports, state);
-    let logs = cluster.stop();
+    let Ended { logs, kept } = cluster.stop();
+    drop(kept);
     let verdict = match state.take_transcripts(&rt, alloc) {
         Some(kept) => kept.numbered(verdict_of(alloc, &logs, kept.get())),
         None => Verdict::Memory,

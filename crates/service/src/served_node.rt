@@ -2,7 +2,7 @@
 
 use ballot::{Memory, NodeId};
 use cluster::Status;
-use maildrop::{Name, Op, Outcome, Ticket};
+use maildrop::{Name, Op, Outcome, Ticket, Usage};
 use session::DeskStopped;
 use std::time::Duration;
 
@@ -30,6 +30,12 @@ pub trait ServedNode {
 
     /// How the node stands, or nothing once its cluster has ended.
     fn status(&self) -> Option<Status>;
+
+    /// The users whose maildrop is locked at the node, each with the ticket of the Take that holds the lock.
+    fn locks(&self) -> Result<Vec<(Name, Ticket)>, Memory>;
+
+    /// All users, each with what the maildrop has at the node.
+    fn usage(&self) -> Result<Vec<(Name, Usage)>, Memory>;
 
     /// Submits an operation. Returns its ticket, or nothing if the node has stopped. The outcome is kept until it is taken by
     /// `outcome_within` or let go by `forget`.

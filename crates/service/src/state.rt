@@ -4,6 +4,7 @@ ghost use Rattle.pop3_wire.specs.Reply.{invalid_login};
 
 use crate::counters::Counters;
 use crate::event_log::EventLog;
+use crate::lock_breaker::LockBreaker;
 use crate::open_sessions::OpenSessions;
 use crate::stages::Stages;
 use crate::transcripts::{KeptTranscripts, Transcripts};
@@ -34,6 +35,7 @@ pub(crate) struct ServiceState {
     sessions: OpenSessions,
     counters: Counters,
     log: EventLog,
+    lock_breaker: LockBreaker,
 }
 
 /// What a login that is refused is told.
@@ -68,6 +70,7 @@ impl ServiceState {
             sessions: OpenSessions::new(alloc),
             counters: Counters::new(rt),
             log,
+            lock_breaker: LockBreaker::new(alloc),
         })
     }
 
@@ -109,6 +112,11 @@ impl ServiceState {
     /// Where events are written.
     pub(crate) fn log(&self) -> &EventLog {
         &self.log
+    }
+
+    /// What breaks the locks of sessions whose nodes are down.
+    pub(crate) fn lock_breaker(&self) -> &LockBreaker {
+        &self.lock_breaker
     }
 
     /// The answer to an operator who asks what the service has done: a line for each number, and `end`.

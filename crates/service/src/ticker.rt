@@ -11,6 +11,9 @@ use std::thread;
 use std::thread::{JoinHandle, Threads};
 use std::time::{Clock, Duration};
 
+/// How many milliseconds lie between two looks at the locks of sessions whose nodes are down.
+const LOCK_LOOK_MS: u64 = 1_000;
+
 /// How often in a row a tick is put off at most.
 const MOST_PUT_OFF: u32 = 50;
 
@@ -45,24 +48,25 @@ struct Look {
 /// Tells the nodes on a thread of its own that time has passed, again and again, until the sessions have ended.
 pub(crate) fn start<
     R: Threads + Wait + Clock + Copy + Send + 'static,
-    N: ServedNode + Send + Drop + 'static,
+    N: ServedNode + Send + Sync + Drop + 'static,
 >(
     rt: R,
     alloc: Global,
-    nodes: &[N],
+    nodes: &Arc<Vec<N>>,
     state: &Arc<ServiceState>,
     every: Duration,
     threads: &mut Vec<JoinHandle<()>>,
 ) -> Result<(), Fault> {
     threads.reserve(1)?;
     let mut watched = Vec::new(alloc);
-    for node in nodes {
+    for node in nodes.iter() {
         let patience = Patience::new(node.me());
         let node = node.share()?;
         watched.push(Watched { node, patience })?;
     }
+    let nodes = Arc::try_clone(nodes)?;
     let state = Arc::try_clone(state)?;
-    let Ok(thread) = thread::spawn(&rt, move || run(&rt, watched, &state, every)) else {
+    let Ok(thread) = thread::spawn(&rt, move || run(&rt, watched, &nodes, &state, every)) else {
         return Err(Fault::Memory);
     };
     threads.push_reserved(thread);
@@ -75,24 +79,31 @@ pub(crate) fn start<
 /// majority, since nothing is decided there.
 fn run<R: Wait + Clock, N: ServedNode + Drop>(
     rt: &R,
-    mut nodes: Vec<Watched<N>>,
+    mut watched: Vec<Watched<N>>,
+    nodes: &[N],
     state: &ServiceState,
     every: Duration,
 ) {
     let mut put_off = 0;
+    let mut waited = Duration::ZERO;
     for _ in rt.forever() {
         if state.stages().pauses(rt, every) {
             return;
         }
         // A thread that makes a long step holds the lock, and this waits for it.
-        let look = look_at(&nodes);
-        if put_off < MOST_PUT_OFF && has_unheard(&nodes) {
+        let look = look_at(&watched);
+        waited = waited.saturating_add(every);
+        if look.up < nodes.len() && waited >= Duration::from_millis(LOCK_LOOK_MS) {
+            waited = Duration::ZERO;
+            let _more = state.lock_breaker().look(rt, nodes, state.log());
+        }
+        if put_off < MOST_PUT_OFF && has_unheard(&watched) {
             put_off += 1;
             continue;
         }
         put_off = 0;
         if !look.are_at_rest && is_majority(look.up, nodes.len()) {
-            tick_all(&mut nodes);
+            tick_all(&mut watched);
         }
     }
 }

@@ -26,6 +26,9 @@ const EMPTY: &str = "+OK send PASS\r\n+OK maildrop has 0 messages (0 octets)\r\n
 /// What a user is told at the login who has the message of `MAILBOX`.
 const ONE: &str = "+OK send PASS\r\n+OK maildrop has 1 messages (30 octets)\r\n";
 
+/// What a user is told at the login who has the messages of `TWO`.
+const BOTH: &str = "+OK send PASS\r\n+OK maildrop has 2 messages (36 octets)\r\n";
+
 /// What a user is told at the login whose maildrop another session holds.
 const LOCKED: &str = "+OK send PASS\r\n-ERR [IN-USE] maildrop already locked\r\n";
 
@@ -100,11 +103,7 @@ const KEYS: Scene = Scene {
             "op bob 1/1 stored 1\nop bob 1/2 stored 2\nend\n",
         ),
         Comes(3),
-        Says(
-            0,
-            ALICE,
-            "+OK send PASS\r\n+OK maildrop has 2 messages (36 octets)\r\n",
-        ),
+        Says(0, ALICE, BOTH),
         Says(
             0,
             "DELE 1\r\nDELE 2\r\n",
@@ -177,7 +176,7 @@ const LOCKS: Scene = Scene {
     ],
 };
 
-/// A node stops that isn't the leader. Its sessions go on until they need it.
+/// A node stops that isn't the leader. Its sessions go on until they need it, but their users can log in elsewhere.
 const CRASH: Scene = Scene {
     accounts: ACCOUNTS,
     mailbox: MAILBOX,
@@ -214,13 +213,53 @@ const CRASH: Scene = Scene {
         Says(2, QUIT, BYE),
         Ends(2),
         Comes(1),
+        Says(3, ALICE, ONE),
+        Says(3, QUIT, BYE),
+        Ends(3),
+        STOP,
+    ],
+};
+
+/// The leader stops, at which a session has marked a message. Its user logs in at once at another node, which then has the
+/// lock, and all messages are there.
+const FREED: Scene = Scene {
+    accounts: ACCOUNTS,
+    mailbox: TWO,
+    rows: &[
+        Ctl(
+            "deliver 1 alice FILE",
+            0,
+            "op alice 1/1 stored 1\nop alice 1/2 stored 2\nend\n",
+        ),
+        Comes(1),
+        Says(0, ALICE, BOTH),
+        Says(0, "DELE 1\r\n", "+OK message 1 deleted\r\n"),
+        Comes(3),
+        Says(1, BOB, EMPTY),
+        Ctl(
+            "locks",
+            0,
+            "user alice node 1 ticket 3\nuser bob node 3 ticket 1\nend\n",
+        ),
+        Ctl("crash 1", 0, "crashed\n"),
+        // The lock of a session whose node is up stays.
+        Ctl("locks", 0, "user bob node 3 ticket 1\nend\n"),
+        Comes(2),
+        Says(2, ALICE, BOTH),
+        Says(0, QUIT, ""),
+        Ends(0),
+        Comes(3),
         Says(3, ALICE, LOCKED),
         Ends(3),
-        Ctl("break 3 alice", 0, "done\n"),
-        Comes(1),
-        Says(4, ALICE, ONE),
-        Says(4, QUIT, BYE),
-        Ends(4),
+        Says(2, QUIT, BYE),
+        Ends(2),
+        Says(1, QUIT, BYE),
+        Ends(1),
+        Ctl(
+            "users",
+            0,
+            "user alice messages 2 octets 36 next_id 3\nuser bob messages 0 octets 0 next_id 1\nend\n",
+        ),
         STOP,
     ],
 };
@@ -266,6 +305,8 @@ const NOBODY: Scene = Scene {
         Says(2, "", "down\n"),
         Ends(2),
         Ctl("status", 0, "node 1 down\nnode 2 down\nnode 3 down\nend\n"),
+        Ctl("locks", 3, "down\n"),
+        Ctl("users", 3, "down\n"),
         STOP,
     ],
 };
@@ -359,6 +400,7 @@ fn clients_are_served(rt: HostRuntime) -> Result<(), Fail> {
 /// Scenes in which a node stops, or the service while somebody is there.
 const STOPPED: &[(&str, Scene)] = &[
     ("a node stops", CRASH),
+    ("a lock goes with its node", FREED),
     ("the leader stops", LEADER),
     ("all nodes stop", NOBODY),
     ("operators who wait are told of the end", UNDECIDED),

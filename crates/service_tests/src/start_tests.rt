@@ -156,6 +156,10 @@ const WORDS: &[(&str, u8)] = &[
     ("stop/wait", 2),
     ("sessions", 1),
     ("stats", 1),
+    ("locks", 1),
+    ("locks/alice", 2),
+    ("users", 1),
+    ("users/", 2),
     ("kick/alice", 1),
     ("kick", 2),
     // The words of `put` have statuses of their own: 64 for words that are none, and 75 if nobody listens.

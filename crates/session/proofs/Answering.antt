@@ -9,8 +9,8 @@ use Rattle.apop.specs.Stamp.{Stamp}
 use Rattle.apop.specs.Accounts.{Account}
 use Rattle.pop3_wire.specs.declared.line.Line.{Line}
 use Rattle.session.specs.Desks.{Given}
-use Rattle.session.specs.Session.{hears, awaits_answer, is_closed, lock_due, lock_got, by_line, by_answer}
-use Rattle.session.specs.Conversation.{silence, with_request, after_said, after_asked, conversation_from}
+use Rattle.session.specs.Session.{takes_line, awaits_answer, is_closed, lock_due, lock_got, by_line, by_answer}
+use Rattle.session.specs.Conversation.{silence, with_asked, after_said, after_asked, conversation_from}
 use Rattle.session.specs.Serve.{IsWrittenBy}
 use Rattle.session.specs.Transcript.{answer_by, answers_of, requests_of, given_of}
 use Rattle.session.specs.declared.state.State.{State}
@@ -138,7 +138,7 @@ module _ {A : Type 0} where
 
   -- a line that is not kept, since there was no memory
   pub unheard_stop : {D : Type 0} (accounts : List Account) (stamp : Stamp) (gives : D → Given A → D → Type 0) (old new : Place A D) (line : Line)
-      → hears old.state ≡ true → new.lines ≡ old.lines → new.asked ≡ old.asked → new.count ≡ old.count → new.desk ≡ old.desk
+      → takes_line old.state ≡ true → new.lines ≡ old.lines → new.asked ≡ old.asked → new.count ≡ old.count → new.desk ≡ old.desk
       → lock_due new.state ≡ lock_due old.state → 0 < new.room
       → IsStop accounts stamp gives old new (line ∷ []) end.Memory []
   unheard_stop accounts stamp gives old new line hearing lines asked count desk due room = record {
@@ -162,7 +162,7 @@ module _ {A : Type 0} where
 
   -- from the place before a line to the one behind it, where the session has heard it and nothing is kept yet
   pub record IsTurned {D : Type 0} (accounts : List Account) (stamp : Stamp) (old middle : Place A D) (line : Line) (stepped : Step A) : Type 0 where
-    pub hearing : hears old.state ≡ true
+    pub hearing : takes_line old.state ≡ true
     pub step : stepped ≡ (by_line accounts stamp old.state line).step
     pub state : middle.state ≡ (by_line accounts stamp old.state line).state
     pub same_stamp : middle.stamp ≡ stamp
@@ -174,10 +174,10 @@ module _ {A : Type 0} where
 
   asked-talk : (accounts : List Account) (stamp : Stamp) (number number2 : ℕ) → number2 ≡ number → (waiting : State A) (user : List ℕ) (op : Op A) (ticket : Option Ticket) (outcome : Option (Outcome A)) (replies : List (List ℕ)) (last : State A)
       → after_asked quiet waiting (answer_by ticket outcome) ≡ record { replies = replies; asked = []; state = last }
-      → with_request (record { line = number; user = user; op = op }) (after_asked (conversation_from accounts stamp (number + 1) []) waiting (answers_of (entry_of number2 user op ticket outcome ∷ [])))
+      → with_asked (record { line = number; user = user; op = op }) (after_asked (conversation_from accounts stamp (number + 1) []) waiting (answers_of (entry_of number2 user op ticket outcome ∷ [])))
       ≡ record { replies = replies; asked = requests_of (entry_of number2 user op ticket outcome ∷ []); state = last }
   asked-talk accounts stamp number number2 same waiting user op ticket outcome replies last talk =
-      rw (same, append-nil) (ap (with_request (record { line = number; user = user; op = op })) talk)
+      rw (same, append-nil) (ap (with_asked (record { line = number; user = user; op = op })) talk)
 
   pub turned_settled : {D : Type 0} (accounts : List Account) (stamp : Stamp) (old middle : Place A D) (line : Line) (step : Step A) → IsTurned accounts stamp old middle line step → IsSettled step middle.state
   turned_settled accounts stamp old middle line step turned =
@@ -200,7 +200,7 @@ module _ {A : Type 0} where
 
   -- an answer that fits, and what it has the session say
   answered-part : (accounts : List Account) (stamp : Stamp) (number : ℕ) (old : State A) (line : Line) (user : List ℕ) (op : Op A) (ticket : Ticket) (outcome : Outcome A) (saying : Saying A) (turn : Turn A)
-      → hears old ≡ true → (by_line accounts stamp old line).step ≡ Ask user op → by_answer (by_line accounts stamp old line).state ticket outcome ≡ Some turn → turn.step ≡ step_of saying
+      → takes_line old ≡ true → (by_line accounts stamp old line).step ≡ Ask user op → by_answer (by_line accounts stamp old line).state ticket outcome ≡ Some turn → turn.step ≡ step_of saying
       → IsPart accounts stamp number old turn.state (line ∷ []) (entry_of number user op (Some ticket) (Some outcome) ∷ []) (saying.bytes ∷ [])
   answered-part accounts stamp number old line user op ticket outcome saying turn hearing step answered says = elim (cases_Bool saying.closes) [
     | inl closes ↦

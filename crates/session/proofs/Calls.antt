@@ -6,7 +6,7 @@ use Rattle.apop.specs.Stamp.{Stamp}
 use Rattle.apop.specs.Accounts.{Account}
 use Rattle.pop3_wire.specs.declared.line.Line.{Line}
 use Rattle.session.specs.Calls.{Call, HearLine, HearAnswer, Talk, said_by, asked_by, after_hearing, after_turn, after_call, talk_begun, talk_of, resumed, IsTalk, IsConversation}
-use Rattle.session.specs.Session.{hears, awaits_answer, by_line, by_answer}
+use Rattle.session.specs.Session.{takes_line, awaits_answer, by_line, by_answer}
 use Rattle.session.specs.Conversation.{Answer, Request, Conversation, silence, with_front, conversation_from, conversation}
 use Rattle.session.specs.Dialogue.{IsSettled}
 use Rattle.session.specs.declared.state.State.{State}
@@ -22,7 +22,7 @@ module _ {A : Type 0} where
 
   -- a line that is heard
   stepped : (accounts : List Account) (stamp : Stamp) (number : ℕ) (state last : State A) (line : Line) (more : List Line) (others : List (Answer A)) (step : Step A)
-      → hears state ≡ true → (by_line accounts stamp state line).step ≡ step → (by_line accounts stamp state line).state ≡ last → IsSettled step last
+      → takes_line state ≡ true → (by_line accounts stamp state line).step ≡ step → (by_line accounts stamp state line).state ≡ last → IsSettled step last
       → conversation_from accounts stamp number (line ∷ more) state others ≡ with_front (said_by step) (asked_by number step) (resumed accounts stamp (number + 1) last more others)
   stepped accounts stamp number state last line more others (Say bytes) heard step after settled = rw (heard, step, after, heard_awaits last settled) refl
   stepped accounts stamp number state last line more others (SayAndClose bytes) heard step after settled =
@@ -47,7 +47,7 @@ module _ {A : Type 0} where
   awaited Closed answer turn fits = absurd (cc)
   awaited (Spent lock) answer turn fits = absurd (cc)
 
-  heard-talk : (accounts : List Account) (stamp : Stamp) (talk : Talk A) (line : Line) (heard : Bool) → hears talk.state ≡ heard → IsTalk accounts stamp talk → IsTalk accounts stamp (after_hearing accounts stamp talk line)
+  heard-talk : (accounts : List Account) (stamp : Stamp) (talk : Talk A) (line : Line) (heard : Bool) → takes_line talk.state ≡ heard → IsTalk accounts stamp talk → IsTalk accounts stamp (after_hearing accounts stamp talk line)
   heard-talk accounts stamp talk line false heard is = rw heard is
   heard-talk accounts stamp talk line true heard is =
       let turn = by_line accounts stamp talk.state line in
@@ -69,7 +69,7 @@ module _ {A : Type 0} where
 
   -- one line more, or one answer more
   pub call_talk : (accounts : List Account) (stamp : Stamp) (talk : Talk A) (call : Call A) → IsTalk accounts stamp talk → IsTalk accounts stamp (after_call accounts stamp talk call)
-  call_talk accounts stamp talk (HearLine line) is = heard-talk accounts stamp talk line (hears talk.state) refl is
+  call_talk accounts stamp talk (HearLine line) is = heard-talk accounts stamp talk line (takes_line talk.state) refl is
   call_talk accounts stamp talk (HearAnswer answer) is = answered-talk accounts stamp talk answer (by_answer talk.state answer.ticket answer.outcome) refl is
 
   calls-talk : (accounts : List Account) (stamp : Stamp) (calls : List (Call A)) (talk : Talk A) → IsTalk accounts stamp talk → IsTalk accounts stamp (fold (after_call accounts stamp) talk calls)

@@ -1,5 +1,6 @@
 -- More lines and more answers only lengthen the replies. No verb is ever looked at.
 use Rattle.std.proofs.Common.{◌≡◌, ℕ, ◌+◌, Bool, true, false, List, [], ◌∷◌, ◌++◌, Option, Some, None, refl, ap, subst, inl, inr}
+use Rattle.std.specs.Option.{option_map_or}
 use Rattle.std.proofs.lemmas.Bool.{cases_Bool}
 use Rattle.maildrop.specs.Ticket.{Ticket, same_ticket}
 use Rattle.maildrop.specs.Maildrop.{Maildrop}
@@ -10,10 +11,10 @@ use Rattle.apop.specs.Stamp.{Stamp}
 use Rattle.apop.specs.Accounts.{Account}
 use Rattle.pop3_wire.specs.Reply.{greeting}
 use Rattle.pop3_wire.specs.declared.line.Line.{Line}
-use Rattle.session.specs.Alone.{outcome_of, answer_before, answers_for, replies_alone}
+use Rattle.session.specs.Alone.{outcome_of, answers_for, replies_alone}
 use Rattle.session.specs.Prefix.{IsPrefix}
-use Rattle.session.specs.Session.{opening, hears, by_line, by_answer}
-use Rattle.session.specs.Conversation.{Answer, Rest, after_said, after_answer, after_asked, after_line, conversation_from, conversation}
+use Rattle.session.specs.Session.{opening, takes_line, by_line, by_answer}
+use Rattle.session.specs.Conversation.{Answer, Rest, after_said, after_outcome, after_asked, after_heard, conversation_from, conversation}
 use Rattle.session.specs.declared.state.State.{State}
 use Rattle.session.specs.declared.state.Step.{Step}
 use Rattle.session.specs.declared.state.Step.TheVariants.{Say, Ask, SayAndClose}
@@ -32,7 +33,7 @@ module _ {A : Type 0} where
   said-longer rest rest2 others longer state answers (SayAndClose bytes) = prefix_cons bytes _ _ (longer state answers)
   said-longer rest rest2 others longer state answers (Ask user op) = longer state answers
 
-  answer-longer : (rest rest2 : Rest A) (others : List (Answer A)) → Lengthens rest rest2 others → (state : State A) (turn : Option (Turn A)) (answers : List (Answer A)) → IsPrefix (after_answer rest state turn answers).replies (after_answer rest2 state turn (answers ++ others)).replies
+  answer-longer : (rest rest2 : Rest A) (others : List (Answer A)) → Lengthens rest rest2 others → (state : State A) (turn : Option (Turn A)) (answers : List (Answer A)) → IsPrefix (after_outcome rest state turn answers).replies (after_outcome rest2 state turn (answers ++ others)).replies
   answer-longer rest rest2 others longer state None answers = longer state answers
   answer-longer rest rest2 others longer state (Some turn) answers = said-longer rest rest2 others longer turn.state answers turn.step
 
@@ -40,13 +41,13 @@ module _ {A : Type 0} where
   asked-longer rest rest2 others longer state [] = (_, refl)
   asked-longer rest rest2 others longer state (answer ∷ answers) = answer-longer rest rest2 others longer state (by_answer state answer.ticket answer.outcome) answers
 
-  line-longer : (rest rest2 : Rest A) (others : List (Answer A)) → Lengthens rest rest2 others → (number : ℕ) (state : State A) (answers : List (Answer A)) (step : Step A) → IsPrefix (after_line rest number state answers step).replies (after_line rest2 number state (answers ++ others) step).replies
+  line-longer : (rest rest2 : Rest A) (others : List (Answer A)) → Lengthens rest rest2 others → (number : ℕ) (state : State A) (answers : List (Answer A)) (step : Step A) → IsPrefix (after_heard rest number state answers step).replies (after_heard rest2 number state (answers ++ others) step).replies
   line-longer rest rest2 others longer number state answers (Say bytes) = prefix_cons bytes _ _ (longer state answers)
   line-longer rest rest2 others longer number state answers (SayAndClose bytes) = prefix_cons bytes _ _ (longer state answers)
   line-longer rest rest2 others longer number state answers (Ask user op) = asked-longer rest rest2 others longer state answers
 
   heard-longer : (accounts : List Account) (stamp : Stamp) (number : ℕ) (line : Line) (lines more : List Line) (others : List (Answer A)) → Lengthens (conversation_from accounts stamp (number + 1) lines) (conversation_from accounts stamp (number + 1) (lines ++ more)) others
-      → (state : State A) (answers : List (Answer A)) (heard : Bool) → hears state ≡ heard
+      → (state : State A) (answers : List (Answer A)) (heard : Bool) → takes_line state ≡ heard
       → IsPrefix (conversation_from accounts stamp number (line ∷ lines) state answers).replies (conversation_from accounts stamp number (line ∷ (lines ++ more)) state (answers ++ others)).replies
   heard-longer accounts stamp number line lines more others longer state answers true heard =
       let turn = by_line accounts stamp state line in
@@ -56,7 +57,7 @@ module _ {A : Type 0} where
   lines-longer : (accounts : List Account) (stamp : Stamp) (number : ℕ) (lines more : List Line) (others : List (Answer A)) → Lengthens (conversation_from accounts stamp number lines) (conversation_from accounts stamp number (lines ++ more)) others
   lines-longer accounts stamp number [] more others state answers = (_, refl)
   lines-longer accounts stamp number (line ∷ lines) more others state answers =
-      heard-longer accounts stamp number line lines more others (lines-longer accounts stamp (number + 1) lines more others) state answers (hears state) refl
+      heard-longer accounts stamp number line lines more others (lines-longer accounts stamp (number + 1) lines more others) state answers (takes_line state) refl
 
   pub conversation_longer : (accounts : List Account) (stamp : Stamp) (lines more : List Line) (answers others : List (Answer A))
       → IsPrefix (conversation accounts stamp lines answers).replies (conversation accounts stamp (lines ++ more) (answers ++ others)).replies
@@ -69,6 +70,10 @@ module _ {A : Type 0} where
     | inl same ↦ rw same (rw same at found)
     | inr other ↦ rw other (outcome-stays (maildrop_after maildrop c) ticket cs more outcome (rw other at found))
   ]
+
+  -- an answer of this ticket before others, if its outcome was found
+  abbrev answer_before : Ticket → Option (Outcome A) → List (Answer A) → List (Answer A)
+  answer_before ticket found answers = option_map_or (λ outcome. record { ticket = ticket; outcome = outcome } ∷ answers) found []
 
   answer-stays : (ticket : Ticket) (found later : Option (Outcome A)) (answers answers2 : List (Answer A)) → ((outcome : Outcome A) → found ≡ Some outcome → later ≡ Some outcome) → IsPrefix answers answers2 → IsPrefix (answer_before ticket found answers) (answer_before ticket later answers2)
   answer-stays ticket None later answers answers2 stays front = (_, refl)

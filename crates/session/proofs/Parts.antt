@@ -9,7 +9,7 @@ use Rattle.apop.specs.Stamp.{Stamp}
 use Rattle.apop.specs.Accounts.{Account}
 use Rattle.pop3_wire.specs.declared.line.Line.{Line}
 use Rattle.session.specs.Desks.{Given}
-use Rattle.session.specs.Session.{hears, by_line, by_answer}
+use Rattle.session.specs.Session.{takes_line, by_line, by_answer}
 use Rattle.session.specs.Conversation.{Answer, Request, Conversation, with_front, conversation_from}
 use Rattle.session.specs.Transcript.{answers_of, requests_of, AreAnswered, IsHistory}
 use Rattle.session.specs.declared.state.State.{State}
@@ -44,15 +44,15 @@ module _ {A : Type 0} where
   -- what is behind a part that is heard is heard
   pub heard_behind : (accounts : List Account) (stamp : Stamp) (number : ℕ) (first middle : State A) (lines lines2 : List Line) (entries : List (Asked A)) (replies : List (List ℕ)) (answers : List (Answer A))
       → IsPart accounts stamp number first middle lines entries replies
-      → ((n : ℕ) → n < length lines2 → hears (conversation_from accounts stamp (number + length lines) (take n lines2) middle answers).state ≡ true)
-      → (n : ℕ) → n < length (lines ++ lines2) → hears (conversation_from accounts stamp number (take n (lines ++ lines2)) first (answers_of entries ++ answers)).state ≡ true
+      → ((n : ℕ) → n < length lines2 → takes_line (conversation_from accounts stamp (number + length lines) (take n lines2) middle answers).state ≡ true)
+      → (n : ℕ) → n < length (lines ++ lines2) → takes_line (conversation_from accounts stamp number (take n (lines ++ lines2)) first (answers_of entries ++ answers)).state ≡ true
   heard_behind accounts stamp number first middle lines lines2 entries replies answers part behind n few = elim (cases_lt n (length lines)) [
     | inl front ↦ rw (take_front n lines lines2 front) (part.each_heard n answers front)
     | inr rest ↦
         let within : n - length lines < length lines2 = omega (arith, length-append lines lines2, few, rest) in
         let state : (conversation_from accounts stamp number (lines ++ take (n - length lines) lines2) first (answers_of entries ++ answers)).state ≡ (conversation_from accounts stamp (number + length lines) (take (n - length lines) lines2) middle answers).state =
         ap (λ (c : Conversation A). c.state) (part.follows (take (n - length lines) lines2) answers) in
-        rw (take_behind n lines lines2 rest) (ap hears state ∙ behind (n - length lines) within)
+        rw (take_behind n lines lines2 rest) (ap takes_line state ∙ behind (n - length lines) within)
   ]
 
   -- a part behind a part
@@ -74,32 +74,32 @@ module _ {A : Type 0} where
   }
 
   -- a session that hears a line hears it
-  pub one-heard : (accounts : List Account) (stamp : Stamp) (number : ℕ) (state : State A) (line : Line) (answers : List (Answer A)) → hears state ≡ true
-      → (n : ℕ) → n < length (line ∷ []) → hears (conversation_from accounts stamp number (take n (line ∷ [])) state answers).state ≡ true
+  pub one-heard : (accounts : List Account) (stamp : Stamp) (number : ℕ) (state : State A) (line : Line) (answers : List (Answer A)) → takes_line state ≡ true
+      → (n : ℕ) → n < length (line ∷ []) → takes_line (conversation_from accounts stamp number (take n (line ∷ [])) state answers).state ≡ true
   one-heard accounts stamp number state line answers hearing zero few = hearing
   one-heard accounts stamp number state line answers hearing (suc n) few = absurd (omega (arith, few))
 
   -- a line to which the session says something
   pub say_part : (accounts : List Account) (stamp : Stamp) (number : ℕ) (state : State A) (line : Line) (bytes : List ℕ)
-      → hears state ≡ true → (by_line accounts stamp state line).step ≡ Say bytes
+      → takes_line state ≡ true → (by_line accounts stamp state line).step ≡ Say bytes
       → IsPart accounts stamp number state (by_line accounts stamp state line).state (line ∷ []) [] (bytes ∷ [])
   say_part accounts stamp number state line bytes hearing step = record { follows = λ more answers. rw (hearing, step) refl; each_heard = λ n answers few. one-heard accounts stamp number state line _ hearing n few }
 
   -- and closes
   pub close_part : (accounts : List Account) (stamp : Stamp) (number : ℕ) (state : State A) (line : Line) (bytes : List ℕ)
-      → hears state ≡ true → (by_line accounts stamp state line).step ≡ SayAndClose bytes
+      → takes_line state ≡ true → (by_line accounts stamp state line).step ≡ SayAndClose bytes
       → IsPart accounts stamp number state (by_line accounts stamp state line).state (line ∷ []) [] (bytes ∷ [])
   close_part accounts stamp number state line bytes hearing step = record { follows = λ more answers. rw (hearing, step) refl; each_heard = λ n answers few. one-heard accounts stamp number state line _ hearing n few }
 
   -- a line that asks, and the answer to which the session says something
   pub answered_part : (accounts : List Account) (stamp : Stamp) (number : ℕ) (state : State A) (line : Line) (user : List ℕ) (op : Op A) (ticket : Ticket) (outcome : Outcome A) (turn : Turn A) (bytes : List ℕ)
-      → hears state ≡ true → (by_line accounts stamp state line).step ≡ Ask user op
+      → takes_line state ≡ true → (by_line accounts stamp state line).step ≡ Ask user op
       → by_answer (by_line accounts stamp state line).state ticket outcome ≡ Some turn → turn.step ≡ Say bytes
       → IsPart accounts stamp number state turn.state (line ∷ []) (entry_of number user op (Some ticket) (Some outcome) ∷ []) (bytes ∷ [])
   answered_part accounts stamp number state line user op ticket outcome turn bytes hearing step fits says = record { follows = λ more answers. rw (hearing, step, fits, says) refl; each_heard = λ n answers few. one-heard accounts stamp number state line _ hearing n few }
 
   pub answered_close : (accounts : List Account) (stamp : Stamp) (number : ℕ) (state : State A) (line : Line) (user : List ℕ) (op : Op A) (ticket : Ticket) (outcome : Outcome A) (turn : Turn A) (bytes : List ℕ)
-      → hears state ≡ true → (by_line accounts stamp state line).step ≡ Ask user op
+      → takes_line state ≡ true → (by_line accounts stamp state line).step ≡ Ask user op
       → by_answer (by_line accounts stamp state line).state ticket outcome ≡ Some turn → turn.step ≡ SayAndClose bytes
       → IsPart accounts stamp number state turn.state (line ∷ []) (entry_of number user op (Some ticket) (Some outcome) ∷ []) (bytes ∷ [])
   answered_close accounts stamp number state line user op ticket outcome turn bytes hearing step fits says = record { follows = λ more answers. rw (hearing, step, fits, says) refl; each_heard = λ n answers few. one-heard accounts stamp number state line _ hearing n few }

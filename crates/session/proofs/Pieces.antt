@@ -10,7 +10,7 @@ use Rattle.pop3_wire.specs.Reader.{Kept, Open, lines_after}
 use Rattle.pop3_wire.specs.declared.line.Line.{Line}
 use Rattle.session.specs.Prefix.{IsPrefix}
 use Rattle.session.specs.Desks.{Given}
-use Rattle.session.specs.Session.{hears, opening}
+use Rattle.session.specs.Session.{takes_line, opening}
 use Rattle.session.specs.Conversation.{with_reply}
 use Rattle.session.specs.declared.transcript.End.{End}
 use Rattle.session.specs.declared.transcript.End.TheVariants as end
@@ -41,7 +41,7 @@ prefix_of_prefix xs ys zs first second = (first.0 ++ second.0, sym (append_assoc
 
 module _ {A : Type 0} where
   pub front_none : {D : Type 0} (accounts : List Account) (stamp : Stamp) (gives : D → Given A → D → Type 0) (old : Place A D) (kept : Kept) (piece : List ℕ) (contents : Option (List ℕ))
-      → hears old.state ≡ true → old.stamp ≡ stamp → 0 < old.room → IsPieceFront accounts stamp gives old old kept kept piece piece contents contents
+      → takes_line old.state ≡ true → old.stamp ≡ stamp → 0 < old.room → IsPieceFront accounts stamp gives old old kept kept piece piece contents contents
   front_none accounts stamp gives old kept piece contents hearing same room =
       record { lines = []; written = []; run = run_none accounts stamp gives old hearing same room; appended = appends_none contents; cut = λ more. refl }
 

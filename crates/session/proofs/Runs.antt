@@ -9,7 +9,7 @@ use Rattle.apop.specs.Accounts.{Account}
 use Rattle.pop3_wire.specs.declared.line.Line.{Line}
 use Rattle.session.specs.Prefix.{IsPrefix}
 use Rattle.session.specs.Desks.{Given}
-use Rattle.session.specs.Session.{hears, awaits_answer}
+use Rattle.session.specs.Session.{takes_line, awaits_answer}
 use Rattle.session.specs.Conversation.{conversation_from}
 use Rattle.session.specs.Transcript.{answers_of, requests_of, AreAnswered}
 use Rattle.session.specs.declared.state.State.{State}
@@ -139,7 +139,7 @@ module _ {A : Type 0} where
     talk = part_then accounts stamp (length old.lines) old.state middle.state stop.last lines stop.front run.entries stop.entries run.replies stop.replies run.part
         (subst (λ number. conversation_from accounts stamp number stop.front middle.state (answers_of stop.entries) ≡ record { replies = stop.replies; asked = requests_of stop.entries; state = stop.last }) (numbered old.lines middle.lines lines run.heard) stop.talk);
     each_heard = λ n few.
-        let behind = subst (λ number. (n : ℕ) → n < length stop.front → hears (conversation_from accounts stamp number (take n stop.front) middle.state (answers_of stop.entries)).state ≡ true) (numbered old.lines middle.lines lines run.heard) stop.each_heard in
+        let behind = subst (λ number. (n : ℕ) → n < length stop.front → takes_line (conversation_from accounts stamp number (take n stop.front) middle.state (answers_of stop.entries)).state ≡ true) (numbered old.lines middle.lines lines run.heard) stop.each_heard in
         rw (answers_append run.entries stop.entries) (heard_behind accounts stamp (length old.lines) old.state middle.state lines stop.front run.entries run.replies (answers_of stop.entries) run.part behind n few);
     front_of = prefix_behind lines stop.front lines2 stop.front_of;
     heard = grows old.lines middle.lines new.lines lines stop.front run.heard stop.heard;
@@ -187,7 +187,7 @@ module _ {A : Type 0} where
   }
 
   -- nothing has happened yet
-  pub run_none : {D : Type 0} (accounts : List Account) (stamp : Stamp) (gives : D → Given A → D → Type 0) (old : Place A D) → hears old.state ≡ true → old.stamp ≡ stamp → 0 < old.room → IsRun accounts stamp gives old old [] []
+  pub run_none : {D : Type 0} (accounts : List Account) (stamp : Stamp) (gives : D → Given A → D → Type 0) (old : Place A D) → takes_line old.state ≡ true → old.stamp ≡ stamp → 0 < old.room → IsRun accounts stamp gives old old [] []
   run_none accounts stamp gives old hearing same room = record {
     entries = [];
     replies = [];
@@ -212,7 +212,7 @@ module _ {A : Type 0} where
   with_count count place = record place { count = count }
 
   -- where what is said closes the session or doesn't
-  goes_on : (saying : Saying A) (last : State A) → IsSettled (step_of saying) last → saying.closes ≡ false → hears last ≡ true
+  goes_on : (saying : Saying A) (last : State A) → IsSettled (step_of saying) last → saying.closes ≡ false → takes_line last ≡ true
   goes_on saying last settled closes = rw closes at settled
 
   closed : (saying : Saying A) (last : State A) → IsSettled (step_of saying) last → saying.closes ≡ true → last ≡ state.Closed

@@ -13,7 +13,7 @@ use Rattle.pop3_wire.specs.Lines.{lines_of}
 use Rattle.pop3_wire.specs.Reply.{greeting}
 use Rattle.pop3_wire.specs.declared.line.Line.{Line}
 use Rattle.session.specs.Desks.{Given}
-use Rattle.session.specs.Session.{hears, awaits_answer, free_of, lock_due}
+use Rattle.session.specs.Session.{takes_line, awaits_answer, free_of, lock_due}
 use Rattle.session.specs.Conversation.{Conversation, conversation}
 use Rattle.session.specs.Transcript.{answer_by, answers_of, requests_of, AreAnswered, IsHistory}
 use Rattle.session.specs.Gates.{IsPassed, IsGated}
@@ -110,7 +110,7 @@ module _ {A : Type 0} where
 
   settled_at : (ended : End) (last : State A) → IsTurned ended → IsLeftBy ended last → awaits_answer last ≡ false
   settled_at ended last (inl closed) left = let is : last ≡ state.Closed = rw closed at left in rw is refl
-  settled_at ended last (inr failed) left = let hearing : hears last ≡ true = rw failed at left in heard_awaits last hearing
+  settled_at ended last (inr failed) left = let hearing : takes_line last ≡ true = rw failed at left in heard_awaits last hearing
 
   left_as : (ended shown : End) (last : State A) → IsEndedAs ended shown → IsLeftBy ended last → IsLeftBy shown last
   left_as ended shown last (inl same) left = subst (λ e. IsLeftBy e last) (sym same) left

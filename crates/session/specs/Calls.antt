@@ -4,7 +4,7 @@ use Rattle.apop.specs.Stamp.{Stamp}
 use Rattle.apop.specs.Accounts.{Account}
 use Rattle.pop3_wire.specs.Reply as reply
 use Rattle.pop3_wire.specs.declared.line.Line.{Line}
-use Rattle.session.specs.Session.{opening, hears, awaits_answer, by_line, by_answer}
+use Rattle.session.specs.Session.{opening, takes_line, awaits_answer, by_line, by_answer}
 use Rattle.session.specs.Conversation.{Answer, Request, Conversation, with_reply, with_front, after_asked, conversation_from, conversation}
 use Rattle.session.specs.declared.state.State.{State}
 use Rattle.session.specs.declared.state.Step.{Step}
@@ -39,7 +39,7 @@ module _ {A : Type 0} where
   abbrev pub after_hearing : List Account → Stamp → Talk A → Line → Talk A
   after_hearing accounts stamp talk line =
       let turn = by_line accounts stamp talk.state line in
-      if hears talk.state
+      if takes_line talk.state
       then record {
         state = turn.state;
         lines = talk.lines ++ line ∷ [];

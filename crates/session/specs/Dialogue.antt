@@ -10,7 +10,7 @@ use Rattle.pop3_wire.specs.Reader.{Kept, lines_after}
 use Rattle.pop3_wire.specs.declared.line.Line.{Line}
 use Rattle.session.specs.Prefix.{IsPrefix}
 use Rattle.session.specs.Desks.{Given}
-use Rattle.session.specs.Session.{hears, awaits_answer, lock_due, by_answer, free_of}
+use Rattle.session.specs.Session.{takes_line, awaits_answer, lock_due, by_answer, free_of}
 use Rattle.session.specs.Conversation.{Answer, Rest, silence, with_front, after_asked, conversation_from, conversation}
 use Rattle.session.specs.Serve.{IsLeftBy, IsWrittenBy, AreAnsweredAt, IsFreed}
 use Rattle.session.specs.Transcript.{answer_by, answers_of, requests_of, given_of, AreAnswered, IsHistory}
@@ -75,7 +75,7 @@ module _ {A : Type 0} where
   pub record IsPart (accounts : List Account) (stamp : Stamp) (number : ℕ) (first last : State A) (lines : List Line) (entries : List (Asked A)) (replies : List (List ℕ)) : Type 0 where
     pub follows : (more : List Line) (answers : List (Answer A)) → conversation_from accounts stamp number (lines ++ more) first (answers_of entries ++ answers)
         ≡ with_front replies (requests_of entries) (conversation_from accounts stamp (number + length lines) more last answers)
-    pub each_heard : (n : ℕ) (answers : List (Answer A)) → n < length lines → hears (conversation_from accounts stamp number (take n lines) first (answers_of entries ++ answers)).state ≡ true
+    pub each_heard : (n : ℕ) (answers : List (Answer A)) → n < length lines → takes_line (conversation_from accounts stamp number (take n lines) first (answers_of entries ++ answers)).state ≡ true
 
   -- From one place to another these lines were heard, all of them, and this was written. The session goes on, with room
   -- for the entry of a hangup.
@@ -90,7 +90,7 @@ module _ {A : Type 0} where
     pub counted : new.count ≡ old.count + length written
     pub given : IsHistory gives old.desk entries new.desk
     pub answered : AreAnswered entries
-    pub hears : hears new.state ≡ true
+    pub hears : takes_line new.state ≡ true
     pub room : 0 < new.room
 
   -- From one place to another a front of these lines was heard, and this was written. Then the session stops.
@@ -100,7 +100,7 @@ module _ {A : Type 0} where
     pub front : List Line
     pub last : State A
     pub talk : conversation_from accounts stamp (length old.lines) front old.state (answers_of entries) ≡ record { replies = replies; asked = requests_of entries; state = last }
-    pub each_heard : (n : ℕ) → n < length front → hears (conversation_from accounts stamp (length old.lines) (take n front) old.state (answers_of entries)).state ≡ true
+    pub each_heard : (n : ℕ) → n < length front → takes_line (conversation_from accounts stamp (length old.lines) (take n front) old.state (answers_of entries)).state ≡ true
     pub front_of : IsPrefix front lines
     pub heard : new.lines ≡ old.lines ++ front
     pub asked : new.asked ≡ old.asked ++ entries
@@ -114,7 +114,7 @@ module _ {A : Type 0} where
 
   -- where a step leaves the session
   abbrev pub IsSettled : Step A → State A → Type 0
-  IsSettled (Say bytes) state = hears state ≡ true
+  IsSettled (Say bytes) state = takes_line state ≡ true
   IsSettled (SayAndClose bytes) state = state ≡ Closed
   IsSettled (Ask user op) state = awaits_answer state ≡ true
 
@@ -238,7 +238,7 @@ module _ {A : Type 0} where
     pub replies : List (List ℕ)
     pub last : State A
     pub talk : conversation accounts stamp new.lines (answers_of new.asked) ≡ record { replies = replies; asked = requests_of new.asked; state = last }
-    pub each_heard : (n : ℕ) → n < length new.lines → hears (conversation accounts stamp (take n new.lines) (answers_of new.asked)).state ≡ true
+    pub each_heard : (n : ℕ) → n < length new.lines → takes_line (conversation accounts stamp (take n new.lines) (answers_of new.asked)).state ≡ true
     pub heard : IsPrefix new.lines (lines_of read)
     pub heard_all : (ended ≡ end.HungUp) ⊎ (ended ≡ end.ReadFault) → new.lines ≡ lines_of read
     pub counted : new.count ≡ length written

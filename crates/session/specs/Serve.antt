@@ -12,7 +12,7 @@ use Rattle.apop.specs.Accounts.{Account}
 use Rattle.pop3_wire.specs.Lines.{lines_of}
 use Rattle.pop3_wire.specs.Reply as reply
 use Rattle.session.specs.Prefix.{IsPrefix}
-use Rattle.session.specs.Session.{hears, awaits_answer, by_answer, free_of, lock_due}
+use Rattle.session.specs.Session.{takes_line, awaits_answer, by_answer, free_of, lock_due}
 use Rattle.session.specs.Conversation.{Conversation, conversation}
 use Rattle.session.specs.Transcript.{answers_of, requests_of, AreAnswered}
 use Rattle.session.specs.declared.state.State.{State}
@@ -34,8 +34,8 @@ module _ {A : Type 0} where
   -- where each end leaves the session: it awaits an answer where the desk stopped, and nowhere else
   abbrev pub IsLeftBy : End → State A → Type 0
   IsLeftBy end.Closed state = state ≡ Closed
-  IsLeftBy end.HungUp state = hears state ≡ true
-  IsLeftBy end.ReadFault state = hears state ≡ true
+  IsLeftBy end.HungUp state = takes_line state ≡ true
+  IsLeftBy end.ReadFault state = takes_line state ≡ true
   IsLeftBy end.WriteFault state = awaits_answer state ≡ false
   IsLeftBy end.DeskStopped state = awaits_answer state ≡ true
   IsLeftBy end.Memory state = awaits_answer state ≡ false
@@ -71,7 +71,7 @@ module _ {A : Type 0} where
     -- the greeting is the stamp's; where there was no memory for it there is nothing else either
     pub greeted : (transcript.greeting ≡ reply.greeting stamp.nonce stamp.host) ⊎ (transcript ≡ nothing)
     -- the session heard each line: none stands behind a close, or behind an operation that has no answer
-    pub heard : (n : ℕ) → n < length transcript.lines → hears (conversation accounts stamp (take n transcript.lines) (answers_of transcript.asked)).state ≡ true
+    pub heard : (n : ℕ) → n < length transcript.lines → takes_line (conversation accounts stamp (take n transcript.lines) (answers_of transcript.asked)).state ≡ true
     pub left : IsLeftBy transcript.end (told accounts stamp transcript).state
     -- the entries are what the session asks, and then the Free of the lock that it still holds
     pub entries : List (Asked A)

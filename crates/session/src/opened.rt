@@ -1,6 +1,7 @@
 //! The maildrop that a session has opened.
-ghost use Rattle.std.specs.Prelude.{◌≡◌, ℕ, ◌-◌, ◌≤◌, List, Some, None, length, map, slice_set, IsTrue, is_some, IfOk, OnOk, MatchOption};
+ghost use Rattle.std.specs.Prelude.{◌≡◌, true, false, ℕ, ◌-◌, ◌≤◌, List, Some, None, length, map, slice_set, IsTrue, is_some, IfOk, OnOk, MatchOption};
 ghost use Rattle.std.specs.List.{list_any};
+ghost use Rattle.std.specs.Option.{option_map_or};
 ghost use Rattle.maildrop.specs.Limits.{most_messages, most_octets};
 ghost use Rattle.maildrop.specs.Taken.{message_octets};
 ghost use Rattle.session.specs.OpenMessages as spec;
@@ -74,7 +75,7 @@ impl<A: Allocator + Copy> Opened<A> {
     /// Marks the message of a number, unless it is absent or marked already. Answers whether it did.
     pub fn mark(&mut self, number: u32) -> bool
         ensures found { result ≡ is_some (spec.message_at self.old number) }
-        ensures marked { self.new ≡ spec.with_mark_at self.old number (spec.message_at self.old number) }
+        ensures marked { self.new ≡ option_map_or (λ entry. slice_set self.old (number - 1) (record entry { marked = true })) (spec.message_at self.old number) self.old }
     {
         if self.get(number).is_none() {
             return false;
@@ -88,7 +89,7 @@ impl<A: Allocator + Copy> Opened<A> {
 
     /// Takes all marks away.
     pub fn reset(&mut self)
-        ensures { self.new ≡ map spec.without_mark self.old }
+        ensures { self.new ≡ map (λ (entry : OpenMessage A). record entry { marked = false }) self.old }
     {
         remove_marks(&mut self.entries);
         self.messages = self.entries.len() as u64;
@@ -104,14 +105,14 @@ impl<A: Allocator + Copy> Opened<A> {
 
     /// The unmarked messages, as LIST shows them.
     pub fn listed(&self, alloc: A) -> Result<Vec<Listed, A>, Memory>
-        ensures { IfOk result (λ listed. listed.items ≡ spec.listed_from 1 self.now) }
+        ensures { IfOk result (λ listed. listed.items ≡ map (λ (number, entry). record { number = number; octets = entry.octets }) (spec.numbered_unmarked self.now)) }
     {
         listed_of(alloc, &self.entries)
     }
 
     /// The unmarked messages, as UIDL shows them.
     pub fn identified(&self, alloc: A) -> Result<Vec<Identified, A>, Memory>
-        ensures { IfOk result (λ identified. identified.items ≡ spec.identified_from 1 self.now) }
+        ensures { IfOk result (λ identified. identified.items ≡ map (λ (number, entry). record { number = number; uid = entry.message.uid }) (spec.numbered_unmarked self.now)) }
     {
         identified_of(alloc, &self.entries)
     }
@@ -130,7 +131,7 @@ fn listed_of<A: Allocator + Copy>(
     entries: &[OpenMessage<A>],
 ) -> Result<Vec<Listed, A>, Memory>
     requires { length entries.now ≤ most_messages }
-    ensures { IfOk result (λ listed. listed.items ≡ spec.listed_from 1 entries.now) }
+    ensures { IfOk result (λ listed. listed.items ≡ map (λ (number, entry). record { number = number; octets = entry.octets }) (spec.numbered_unmarked entries.now)) }
 {
     let mut listed = Vec::with_capacity(alloc, entries.len())?;
     let mut number = 1u64;
@@ -151,7 +152,7 @@ fn identified_of<A: Allocator + Copy>(
     entries: &[OpenMessage<A>],
 ) -> Result<Vec<Identified, A>, Memory>
     requires { length entries.now ≤ most_messages }
-    ensures { IfOk result (λ identified. identified.items ≡ spec.identified_from 1 entries.now) }
+    ensures { IfOk result (λ identified. identified.items ≡ map (λ (number, entry). record { number = number; uid = entry.message.uid }) (spec.numbered_unmarked entries.now)) }
 {
     let mut identified = Vec::with_capacity(alloc, entries.len())?;
     let mut number = 1u64;
@@ -182,7 +183,7 @@ fn marked_uids_of<A: Allocator + Copy>(
 }
 
 fn remove_marks<A: Allocator + Copy>(entries: &mut Vec<OpenMessage<A>, A>)
-    ensures { entries.new.items ≡ map spec.without_mark entries.old.items }
+    ensures { entries.new.items ≡ map (λ (entry : OpenMessage A). record entry { marked = false }) entries.old.items }
 {
     for entry in entries.iter_mut() {
         entry.marked = false;

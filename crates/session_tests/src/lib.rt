@@ -9,6 +9,8 @@ mod gate_tests;
 #[cfg(test)]
 mod gathering_tests;
 #[cfg(test)]
+mod large_text_tests;
+#[cfg(test)]
 mod one_node;
 #[cfg(test)]
 mod one_node_tests;

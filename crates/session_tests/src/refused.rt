@@ -2,11 +2,12 @@
 
 use crate::desks::{accounts, desk_of_two, lone_stamp};
 use apop::Accounts;
+use ballot::Items;
 use maildrop::{Name, Op, Outcome, Ticket};
 use pop3_wire::{Line, LineBytes};
 use refusing::Refusal;
 use samples::{Heap, Scenario, alice, check, ticket};
-use session::{Session, SessionError, Step};
+use session::{ReplyBytes, Session, SessionError, Step};
 use std::test::Fail;
 
 /// The number of the ticket of a session's Take, which is that of its lock.
@@ -136,10 +137,16 @@ fn check_spent<'h>(
     check(is_given && again.is_none(), "another lock is given back")
 }
 
-fn is_done(done: Done, step: &Step<Heap>) -> bool {
+/// Whether these are the bytes of the reply.
+fn is_reply<'h>(heap: Heap<'h>, bytes: &ReplyBytes<Heap<'h>>, reply: &str) -> bool {
+    let mut list = Items::new(heap);
+    bytes.append_to(&mut list).is_ok() && list.get() == reply.as_bytes()
+}
+
+fn is_done<'h>(heap: Heap<'h>, done: Done, step: &Step<Heap<'h>>) -> bool {
     match (step, done) {
-        (Step::Say(bytes), Done::Says(reply)) => bytes.get() == reply.as_bytes(),
-        (Step::SayAndClose(bytes), Done::SaysAndCloses(reply)) => bytes.get() == reply.as_bytes(),
+        (Step::Say(bytes), Done::Says(reply)) => is_reply(heap, bytes, reply),
+        (Step::SayAndClose(bytes), Done::SaysAndCloses(reply)) => is_reply(heap, bytes, reply),
         (Step::Ask(_, Op::Take), Done::AsksTake) => true,
         (Step::Ask(_, Op::Free { .. }), Done::AsksFree) => true,
         (Step::Ask(_, Op::Commit { uids, .. }), Done::AsksCommit) => {
@@ -159,7 +166,7 @@ impl Course {
         answer: &Result<Step<Heap<'h>>, SessionError>,
     ) -> Result<(), Fail> {
         match answer {
-            Ok(step) => check(is_done(self.done, step), "another step is taken"),
+            Ok(step) => check(is_done(heap, self.done, step), "another step is taken"),
             Err(error) => {
                 let is_refused = heap.has_refused() && *error == SessionError::Memory;
                 check(is_refused, "another error")?;

@@ -6,19 +6,19 @@ use Rattle.node.specs.Replay.{sends_of}
 use Rattle.node.specs.declared.input.Input.{Input}
 use Rattle.node.specs.declared.input.Input.TheVariants.{Submit, Arrive, Tick, Campaign, Crash}
 use Rattle.node.specs.declared.log.NodeLog.{NodeLog}
-use Rattle.world.specs.Clients.{Client, client_of}
-use Rattle.world.specs.Interrupted.{IsInterrupted, IsItsCrashed, IsAddresseeCrashed}
-use Rattle.world.specs.Messages.{Network, NodeEvent, Submits, Arrives, Ticks, Campaigns, Crashes, log_of, is_up, newly_sent, taken_by, takes, with_arrival, arrives, happens, happen}
-use Rattle.world.specs.Refusals.{step_refusal}
-use Rattle.world.specs.Worlds.{World, stepped}
-use Rattle.world.specs.declared.refused.Refused.{Refused}
-use Rattle.world.specs.Services as service
-use Rattle.world.specs.Services.{Service, Happening, Occurs, Lost}
-use Rattle.world.specs.declared.config.Config.{Config}
-use Rattle.world.specs.declared.event.Event.{Event}
-use Rattle.world.specs.declared.event.Event.TheVariants as event
-use Rattle.world.specs.declared.sent.Sent.{Sent}
-use Rattle.world.proofs.ServiceRuns.{happens_follows}
+use Rattle.runs.specs.Clients.{Client, client_of}
+use Rattle.runs.specs.Interrupted.{IsInterrupted, IsItsCrashed, IsAddresseeCrashed}
+use Rattle.runs.specs.Messages.{Network, NodeEvent, Submits, Arrives, Ticks, Campaigns, Crashes, log_of, is_up, newly_sent, taken_by, given_input, with_arrival, message_arrives, after_node_event, after_node_events}
+use Rattle.runs.specs.Refusals.{step_refusal}
+use Rattle.runs.specs.Worlds.{World, stepped}
+use Rattle.runs.specs.declared.refused.Refused.{Refused}
+use Rattle.runs.specs.Services as service
+use Rattle.runs.specs.Services.{Service, Happening, Occurs, Lost}
+use Rattle.runs.specs.declared.config.Config.{Config}
+use Rattle.runs.specs.declared.event.Event.{Event}
+use Rattle.runs.specs.declared.event.Event.TheVariants as event
+use Rattle.runs.specs.declared.sent.Sent.{Sent}
+use Rattle.runs.proofs.ServiceRuns.{happens_follows}
 
 module _ {A : Type 0} where
   -- the message is still there, and has arrived as often at least
@@ -73,7 +73,7 @@ module _ {A : Type 0} where
   arrived : (which : ℕ) (ss : List (Sent A)) → Grows ss (with_arrival which ss)
   arrived which ss = record { longer = let n = as_long which ss in omega (arith, n); each = one_arrival which ss }
 
-  takes_grow : (w : Network A) (n : ℕ) (i : Input A) → Grows w.sent (takes w n i).sent
+  takes_grow : (w : Network A) (n : ℕ) (i : Input A) → Grows w.sent (given_input w n i).sent
   takes_grow w n i =
       go (log_of n w.logs)
     where
@@ -86,7 +86,7 @@ module _ {A : Type 0} where
           one true = more w.sent (newly_sent (sends_of log i))
           one false = unmoved w.sent
 
-  arrives_grow : (w : Network A) (k : ℕ) (o : Option (Sent A)) → Grows w.sent (arrives w k o).sent
+  arrives_grow : (w : Network A) (k : ℕ) (o : Option (Sent A)) → Grows w.sent (message_arrives w k o).sent
   arrives_grow w k None = unmoved w.sent
   arrives_grow w k (Some s) =
       go (is_up (log_of s.envelope.to w.logs))
@@ -94,20 +94,20 @@ module _ {A : Type 0} where
       counted : Network A
       counted = record { logs = w.logs; sent = with_arrival k w.sent }
 
-      go : (t : Bool) → Grows w.sent (cond t (takes counted s.envelope.to (Arrive s.envelope)) w).sent
-      go true = on w.sent counted.sent (takes counted s.envelope.to (Arrive s.envelope)).sent (arrived k w.sent) (takes_grow counted s.envelope.to (Arrive s.envelope))
+      go : (t : Bool) → Grows w.sent (cond t (given_input counted s.envelope.to (Arrive s.envelope)) w).sent
+      go true = on w.sent counted.sent (given_input counted s.envelope.to (Arrive s.envelope)).sent (arrived k w.sent) (takes_grow counted s.envelope.to (Arrive s.envelope))
       go false = unmoved w.sent
 
-  happens_grow : (w : Network A) (e : NodeEvent A) → Grows w.sent (happens w e).sent
+  happens_grow : (w : Network A) (e : NodeEvent A) → Grows w.sent (after_node_event w e).sent
   happens_grow w (Submits n name op) = takes_grow w n (Submit name op)
   happens_grow w (Arrives k) = arrives_grow w k (slice_get w.sent k)
   happens_grow w (Ticks n) = takes_grow w n Tick
   happens_grow w (Campaigns n) = takes_grow w n Campaign
   happens_grow w (Crashes n) = takes_grow w n Crash
 
-  happen_grow : (w : Network A) (es : List (NodeEvent A)) → Grows w.sent (happen w es).sent
+  happen_grow : (w : Network A) (es : List (NodeEvent A)) → Grows w.sent (after_node_events w es).sent
   happen_grow w [] = unmoved w.sent
-  happen_grow w (e ∷ es) = on w.sent (happens w e).sent (happen (happens w e) es).sent (happens_grow w e) (happen_grow (happens w e) es)
+  happen_grow w (e ∷ es) = on w.sent (after_node_event w e).sent (after_node_events (after_node_event w e) es).sent (happens_grow w e) (happen_grow (after_node_event w e) es)
 
   happening_grows : (cfg : Config A) (w : Service A) (h : Happening A) → Grows w.network.sent (service.happens cfg w h).network.sent
   happening_grows cfg w h =

@@ -11,7 +11,7 @@ use Rattle.script.specs.declared.message_kind.MessageKind.TheVariants.{Propose, 
 use Rattle.simulator.specs.Undelivered.{is_next, is_of, rank, same_route, same_kind, HaveArrived, AreMarks}
 use Rattle.simulator.specs.declared.deliveries.Mark.{Mark}
 use Rattle.simulator.specs.declared.undelivered.Route.{Route}
-use Rattle.world.specs.declared.sent.Sent.{Sent}
+use Rattle.runs.specs.declared.sent.Sent.{Sent}
 use Rattle.world.proofs.Searching.{there}
 use Rattle.simulator.proofs.Arrivals.{Grows}
 use Rattle.simulator.proofs.Places.{set_or, last_or, told, untold, earlier, found_at}

@@ -9,11 +9,11 @@ use Rattle.script.specs.declared.command.Command.TheVariants as command
 use Rattle.script.specs.declared.refusal.Refusal.TheVariants.{Down}
 use Rattle.simulator.specs.Plays.{Play, Told, IsWritten, Tells, AreOutcomesTold, IsOrderTold, IsDone, IsDoneToTheEnd, Performs, SettlesBy, Settles, followed, text_before, given, collected, collected_by, all_collected}
 use Rattle.simulator.specs.Reports.{order_lines}
-use Rattle.world.specs.Messages.{log_of, is_up}
-use Rattle.world.specs.Services.{Service}
-use Rattle.world.specs.Worlds.{next_answer, next_oldest, may_arrive, performed_by}
-use Rattle.world.specs.declared.event.Event.{Event}
-use Rattle.world.specs.declared.event.Event.TheVariants as event
+use Rattle.runs.specs.Messages.{log_of, is_up}
+use Rattle.runs.specs.Services.{Service}
+use Rattle.runs.specs.Worlds.{next_answer, next_oldest, may_arrive, performed_by}
+use Rattle.runs.specs.declared.event.Event.{Event}
+use Rattle.runs.specs.declared.event.Event.TheVariants as event
 
 not_true : (t : Bool) → (t ≡ true → ⊥) → t ≡ false
 not_true true never = absurd (never refl)

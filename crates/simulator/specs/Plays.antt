@@ -19,14 +19,14 @@ use Rattle.simulator.specs.Subjects.{subject_of}
 use Rattle.simulator.specs.declared.subject.Subject.{Subject}
 use Rattle.simulator.specs.declared.subject.Subject.TheVariants as subject
 use Rattle.simulator.specs.declared.undelivered.Route.{Route}
-use Rattle.world.specs.Clients.{Client, client_of}
-use Rattle.world.specs.Messages.{log_of, is_up}
-use Rattle.world.specs.Refusals.{step_refusal}
-use Rattle.world.specs.Worlds.{World, new_world, stepped, outcome_left, without_outcome, performed_by, next_answer, next_oldest, next_newest}
-use Rattle.world.specs.declared.config.Config.{Config}
-use Rattle.world.specs.declared.event.Event.{Event}
-use Rattle.world.specs.declared.event.Event.TheVariants as event
-use Rattle.world.specs.declared.refused.Refused.{Refused}
+use Rattle.runs.specs.Clients.{Client, client_of}
+use Rattle.runs.specs.Messages.{log_of, is_up}
+use Rattle.runs.specs.Refusals.{step_refusal}
+use Rattle.runs.specs.Worlds.{World, new_world, stepped, outcome_left, without_outcome, performed_by, next_answer, next_oldest, next_newest}
+use Rattle.runs.specs.declared.config.Config.{Config}
+use Rattle.runs.specs.declared.event.Event.{Event}
+use Rattle.runs.specs.declared.event.Event.TheVariants as event
+use Rattle.runs.specs.declared.refused.Refused.{Refused}
 
 -- of each session that was told something, how many bytes of its replies are written
 abbrev pub Shown : Type 0
@@ -183,7 +183,7 @@ module _ {A : Type 0} where
 
   -- the service that a script sets, before anything happens
   abbrev pub config_of : Settings → Config A
-  config_of s = record { accounts = s.accounts; limits = s.limits; cluster = s.cluster; window = s.window }
+  config_of s = record { accounts = s.accounts; limits = s.limits; kept = []; keys = 0; cluster = s.cluster; window = s.window }
 
   abbrev pub new_play : Settings → Play A
   new_play s = record { world = new_world (config_of s); shown = []; first = 0 }

@@ -2,8 +2,8 @@
 use Rattle.std.specs.Prelude.{ℕ, List, []}
 use Rattle.script.specs.Output.{refusal_line}
 use Rattle.script.specs.declared.refusal.Refusal.TheVariants as told
-use Rattle.world.specs.declared.refused.Refused.{Refused}
-use Rattle.world.specs.declared.refused.Refused.TheVariants as refused
+use Rattle.runs.specs.declared.refused.Refused.{Refused}
+use Rattle.runs.specs.declared.refused.Refused.TheVariants as refused
 
 -- the line of a refusal. Behind want of memory a script doesn't go on, so nothing is told
 abbrev pub refused_line : Refused → List ℕ

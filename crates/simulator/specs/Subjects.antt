@@ -1,8 +1,8 @@
 -- What an event is about.
 use Rattle.simulator.specs.declared.subject.Subject.{Subject}
 use Rattle.simulator.specs.declared.subject.Subject.TheVariants as subject
-use Rattle.world.specs.declared.event.Event.{Event}
-use Rattle.world.specs.declared.event.Event.TheVariants as event
+use Rattle.runs.specs.declared.event.Event.{Event}
+use Rattle.runs.specs.declared.event.Event.TheVariants as event
 
 module _ {A : Type 0} where
   -- the session that an event is about, or the operation that it submits, or the nodes alone

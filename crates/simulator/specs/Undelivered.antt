@@ -5,7 +5,7 @@ use Rattle.script.specs.declared.message_kind.MessageKind.{MessageKind}
 use Rattle.script.specs.declared.message_kind.MessageKind.TheVariants.{Propose, P1a, P1b, P2a, P2b, Decision, Ask}
 use Rattle.simulator.specs.declared.deliveries.Mark.{Mark}
 use Rattle.simulator.specs.declared.undelivered.Route.{Route}
-use Rattle.world.specs.declared.sent.Sent.{Sent}
+use Rattle.runs.specs.declared.sent.Sent.{Sent}
 
 -- the place of a kind in the order of kinds
 abbrev pub rank : MessageKind → ℕ

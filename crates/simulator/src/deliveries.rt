@@ -2,7 +2,7 @@
 ghost use Rattle.std.specs.Prelude.{◌≡◌, ◌<◌, List, length, position, IfSome};
 ghost use Rattle.std.specs.declared.alloc.Global.{Global};
 ghost use Rattle.simulator.specs.Undelivered.{AreMarks, HaveArrived, is_of};
-ghost use Rattle.world.specs.declared.sent.Sent.{Sent};
+ghost use Rattle.runs.specs.declared.sent.Sent.{Sent};
 
 use crate::undelivered::Route;
 

@@ -1,7 +1,7 @@
 //! A service that a script drives.
 ghost use Rattle.std.specs.Prelude.{◌≡◌, OnOk, IfOk};
 ghost use Rattle.simulator.specs.Plays as spec;
-ghost use Rattle.world.specs.Clients.{client_of};
+ghost use Rattle.runs.specs.Clients.{client_of};
 
 use crate::events::event_of;
 use crate::operations::Operations;
@@ -13,7 +13,7 @@ use crate::subject::{Subject, subject_of};
 use crate::undelivered::Route;
 use apop::Accounts;
 use ballot::{Memory, NodeId};
-use maildrop::CommandId;
+use maildrop::{CommandId, Kept, Shared};
 use script::{Command, Refusal, Settings};
 use std::alloc::Global;
 use std::marker::Model;
@@ -49,6 +49,8 @@ impl Play {
         let config = Config {
             accounts,
             limits: settings.limits(),
+            kept: Shared::new(alloc, Kept::new(alloc))?,
+            keys: 0,
             cluster: settings.cluster(),
             window: settings.window().get(),
         };

@@ -1,9 +1,9 @@
 //! The service that a script drives.
 ghost use Rattle.std.specs.Prelude.{◌≡◌, ◌≤◌, position, OnOk, IfOk, IfErr, None, Some, Err};
 ghost use Rattle.simulator.specs.Undelivered.{is_next};
-ghost use Rattle.world.specs.Refusals.{step_refusal};
-ghost use Rattle.world.specs.Worlds as spec;
-ghost use Rattle.world.specs.declared.refused.Refused.{Refused};
+ghost use Rattle.runs.specs.Refusals.{step_refusal};
+ghost use Rattle.runs.specs.Worlds as spec;
+ghost use Rattle.runs.specs.declared.refused.Refused.{Refused};
 
 use crate::deliveries::{Mark, keep, place_of};
 use crate::undelivered::Route;
@@ -23,7 +23,7 @@ pub(crate) struct Service {
 
 impl Model for Service {
     ghost use Rattle.std.specs.declared.alloc.Global.{Global};
-    ghost use Rattle.world.specs.Worlds.{World};
+    ghost use Rattle.runs.specs.Worlds.{World};
     ghost use Rattle.simulator.specs.Undelivered.{AreMarks};
 
     ghost Value = { World Global };

@@ -5,8 +5,8 @@ use Rattle.std.specs.Prelude.{slice_get}
 use Rattle.ballot.specs.declared.message.Envelope.{Envelope}
 use Rattle.maildrop.specs.declared.command.Command.{Command}
 use Rattle.world.specs.Hosts.{can_count}
-use Rattle.world.specs.Messages.{newly_sent, with_arrival}
-use Rattle.world.specs.declared.sent.Sent.{Sent}
+use Rattle.runs.specs.Messages.{newly_sent, with_arrival}
+use Rattle.runs.specs.declared.sent.Sent.{Sent}
 
 module _ {A : Type 0} where
   abbrev pub once_more : Sent A → Sent A

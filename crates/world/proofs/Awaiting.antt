@@ -23,21 +23,21 @@ use Rattle.node.specs.declared.input.Input.TheVariants as input
 use Rattle.node.specs.declared.log.Opening.{Opening}
 use Rattle.node.specs.declared.log.NodeLog.{NodeLog}
 use Rattle.node.proofs.Replaying.{submits_of-push}
-use Rattle.world.specs.Clients.{Standing, Hears, Waits, Shut, Stranded, Over, Client, new_client, standing_as, stranded, told, with_line, asking, client_of, with_client}
+use Rattle.runs.specs.Clients.{Standing, Hears, Waits, Failed, Disconnected, Over, Client, new_client, standing_as, disconnected, told, with_line, asking, client_of, with_client}
 use Rattle.world.specs.Kept.{IsGiven, IsAwaitedBy}
-use Rattle.world.specs.Messages.{Network, NodeEvent, Submits, log_of, is_up, happen, network_of}
-use Rattle.world.specs.Messages as network
-use Rattle.world.specs.Services.{Service, Happening, Occurs, Lost, opening_of, new_service, at_nodes, keeps, submits, next_id, if_up, if_served, connects, after_line, hears_line, after_answer, by_turn, takes_answer, collects, gives_back, hangs_up, loses_answer, is_lost, crashes, occurs, happens, run_of}
-use Rattle.world.specs.Refusals.{refusal_of, client_refusal, collect_refusal, busy_without}
-use Rattle.world.specs.declared.config.Config.{Config}
-use Rattle.world.specs.declared.event.Event.{Event}
-use Rattle.world.specs.declared.event.Event.TheVariants as event
-use Rattle.world.specs.declared.refused.Refused.TheVariants.{Down, Busy}
-use Rattle.world.proofs.Later.{at_inserted}
-use Rattle.world.proofs.Logs.{some_same}
-use Rattle.world.proofs.NodeRuns.{every_run}
-use Rattle.world.proofs.ServiceRuns.{AreOfRun, next_of_run, happens_follows}
-use Rattle.world.proofs.Serving.{Logs, happens_logs, submitted_log, at_without}
+use Rattle.runs.specs.Messages.{Network, NodeEvent, Submits, log_of, is_up, after_node_events}
+use Rattle.runs.specs.Messages as network
+use Rattle.runs.specs.Services.{Service, Happening, Occurs, Lost, opening_of, new_service, at_nodes, keeps, submits_for, next_id, if_up, if_served, connects, after_line, hears_line, after_answer, by_turn, takes_answer, collects, gives_back, hangs_up, loses_answer, is_lost, crashes, occurs, happens, run_of}
+use Rattle.runs.specs.Refusals.{refusal_of, client_refusal, collect_refusal, busy_without}
+use Rattle.runs.specs.declared.config.Config.{Config}
+use Rattle.runs.specs.declared.event.Event.{Event}
+use Rattle.runs.specs.declared.event.Event.TheVariants as event
+use Rattle.runs.specs.declared.refused.Refused.TheVariants.{Down, Busy}
+use Rattle.runs.proofs.Later.{at_inserted}
+use Rattle.runs.proofs.Logs.{some_same}
+use Rattle.runs.proofs.NodeRuns.{every_run}
+use Rattle.runs.proofs.ServiceRuns.{AreOfRun, next_of_run, happens_follows}
+use Rattle.runs.proofs.Serving.{Logs, happens_logs, submitted_log, at_without}
 
 module _ {A : Type 0} where
   -- Tickets are given for good
@@ -46,7 +46,7 @@ module _ {A : Type 0} where
   more_submits name [] more = omega arith
   more_submits name (i ∷ is) more = let rest = more_submits name is more in omega (arith, rest)
 
-  pub happen_logs : (w : Network A) (events : List (NodeEvent A)) (n : ℕ) (log : NodeLog A) → log_of n w.logs ≡ Some log → Logs (happen w events) n log
+  pub happen_logs : (w : Network A) (events : List (NodeEvent A)) (n : ℕ) (log : NodeLog A) → log_of n w.logs ≡ Some log → Logs (after_node_events w events) n log
   happen_logs w [] n log at = ([], at ∙ ap (λ is. Some (record { opening = log.opening; inputs = is })) (sym (nothing_more log.inputs)))
     where
       nothing_more : (is : List (Input A)) → is ++ [] ≡ is
@@ -54,7 +54,7 @@ module _ {A : Type 0} where
       nothing_more (i ∷ is) = ap (λ js. i ∷ js) (nothing_more is)
   happen_logs w (e ∷ events) n log at =
       let one = happens_logs w e n log at in
-      let rest = happen_logs (network.happens w e) events n (record { opening = log.opening; inputs = log.inputs ++ one.0 }) one.1 in (
+      let rest = happen_logs (network.after_node_event w e) events n (record { opening = log.opening; inputs = log.inputs ++ one.0 }) one.1 in (
         one.0 ++ rest.0,
         rest.1 ∙ ap (λ is. Some (record { opening = log.opening; inputs = is })) (joined log.inputs one.0 rest.0),
       )
@@ -144,7 +144,7 @@ module _ {A : Type 0} where
   hears_quiet : (state : State A) → IsQuiet (Hears state)
   hears_quiet state other id e = absurd (cc)
 
-  shut_quiet : (lock : Option (List ℕ × Ticket)) → IsQuiet (Shut lock)
+  shut_quiet : (lock : Option (List ℕ × Ticket)) → IsQuiet (Failed lock)
   shut_quiet lock other id e = absurd (cc)
 
   over_quiet : IsQuiet Over
@@ -203,20 +203,20 @@ module _ {A : Type 0} where
     connects_awaits session d (Some c) quiet = nothing_new w w session refl
 
     module _ (session : ℕ) (c : Client A) (log : NodeLog A) (its : client_of session w.clients ≡ Some c) (at : log_of c.node w.network.logs ≡ Some log) (up : is_up (Some log) ≡ true) where
-      asks_awaits : (d : Client A) (user : List ℕ) (op : Op A) (state : State A) → d.node ≡ c.node → d.standing ≡ Waits state (next_id log user) → Awaits w session (submits w session d user op)
+      asks_awaits : (d : Client A) (user : List ℕ) (op : Op A) (state : State A) → d.node ≡ c.node → d.standing ≡ Waits state (next_id log user) → Awaits w session (submits_for w session d user op)
       asks_awaits d user op state same stands s id a =
           ⊎_elim
           (λ (x : (s ≡ session) × ((state : State A) × (d.standing ≡ Waits state id))).
           let one : next_id log user ≡ id = waits_same state x.1.0 (next_id log user) id (sym stands ∙ x.1.1) in
           let its_log : log_of d.node w.network.logs ≡ Some log = ap (λ n. log_of n w.network.logs) same ∙ at in
-          inr (x.0, subst (IsNew w (submits w session d user op)) one (record { before = not_given w numbered c.node log user at; after = given_kept (now_given w numbered d.node log user op its_log up) })))
+          inr (x.0, subst (IsNew w (submits_for w session d user op)) one (record { before = not_given w numbered c.node log user at; after = given_kept (now_given w numbered d.node log user op its_log up) })))
           (λ (x : IsAwaitedBy w s id). inl x)
-          (put_awaits w (submits w session d user op) session d refl s id a)
+          (put_awaits w (submits_for w session d user op) session d refl s id a)
         where
           waits_same : (state other : State A) (id id2 : CommandId) → Waits state id ≡ Waits other id2 → id ≡ id2
           waits_same state other id id2 e = cc
 
-          given_kept : {id : CommandId} → IsGiven (at_nodes w (Submits d.node user op)) id → IsGiven (submits w session d user op) id
+          given_kept : {id : CommandId} → IsGiven (at_nodes w (Submits d.node user op)) id → IsGiven (submits_for w session d user op) id
           given_kept g = record { log = g.log; at = g.at; within = g.within }
 
       step_awaits : (line : Line) (state : State A) (step : Step A) → Awaits w session (after_line w session (with_line c line) log state step)
@@ -227,8 +227,8 @@ module _ {A : Type 0} where
       line_awaits : (line : Line) (standing : Standing A) → Awaits w session (hears_line cfg w session line c log standing)
       line_awaits line (Hears state) = step_awaits line (by_line cfg.accounts c.stamp state line).state (by_line cfg.accounts c.stamp state line).step
       line_awaits line (Waits state id) = nothing_new w w session refl
-      line_awaits line (Shut lock) = nothing_new w w session refl
-      line_awaits line Stranded = nothing_new w w session refl
+      line_awaits line (Failed lock) = nothing_new w w session refl
+      line_awaits line Disconnected = nothing_new w w session refl
       line_awaits line Over = nothing_new w w session refl
 
       gives_awaits : (free : Option (List ℕ × Op A)) → Awaits w session (gives_back w session (standing_as c Over) free)
@@ -237,9 +237,9 @@ module _ {A : Type 0} where
 
       hangup_awaits : (standing : Standing A) → Awaits w session (hangs_up w session c log standing)
       hangup_awaits (Hears state) = gives_awaits (free_of (lock_due state))
-      hangup_awaits (Shut lock) = gives_awaits (free_of lock)
+      hangup_awaits (Failed lock) = gives_awaits (free_of lock)
       hangup_awaits (Waits state id) = nothing_new w w session refl
-      hangup_awaits Stranded = nothing_new w w session refl
+      hangup_awaits Disconnected = nothing_new w w session refl
       hangup_awaits Over = nothing_new w w session refl
 
       answer_awaits : (state : State A) (ticket : Ticket) (o : Option (Outcome A)) → Awaits w session (takes_answer w session c state ticket o)
@@ -249,19 +249,19 @@ module _ {A : Type 0} where
       collect_awaits : (standing : Standing A) → Awaits w session (collects w session c log standing)
       collect_awaits (Waits state id) = answer_awaits state id.ticket (answered log id)
       collect_awaits (Hears state) = nothing_new w w session refl
-      collect_awaits (Shut lock) = nothing_new w w session refl
-      collect_awaits Stranded = nothing_new w w session refl
+      collect_awaits (Failed lock) = nothing_new w w session refl
+      collect_awaits Disconnected = nothing_new w w session refl
       collect_awaits Over = nothing_new w w session refl
 
       loses_awaits : (state : State A) (ticket : Ticket) (o : Option (Outcome A)) → Awaits w session (loses_answer w session c state ticket o)
       loses_awaits state ticket None = nothing_new w w session refl
-      loses_awaits state ticket (Some outcome) = quiet_awaits w _ session (standing_as c (Shut (lock_got state ticket outcome))) refl (shut_quiet (lock_got state ticket outcome))
+      loses_awaits state ticket (Some outcome) = quiet_awaits w _ session (standing_as c (Failed (lock_got state ticket outcome))) refl (shut_quiet (lock_got state ticket outcome))
 
       lost_awaits : (standing : Standing A) → Awaits w session (is_lost w session c log standing)
-      lost_awaits (Hears state) = quiet_awaits w _ session (standing_as c (Shut (lock_due state))) refl (shut_quiet (lock_due state))
+      lost_awaits (Hears state) = quiet_awaits w _ session (standing_as c (Failed (lock_due state))) refl (shut_quiet (lock_due state))
       lost_awaits (Waits state id) = loses_awaits state id.ticket (answered log id)
-      lost_awaits (Shut lock) = nothing_new w w session refl
-      lost_awaits Stranded = nothing_new w w session refl
+      lost_awaits (Failed lock) = nothing_new w w session refl
+      lost_awaits Disconnected = nothing_new w w session refl
       lost_awaits Over = nothing_new w w session refl
 
     crash_awaits : (node : ℕ) (log : NodeLog A) → Awaits w 0 (crashes w node log)
@@ -269,14 +269,14 @@ module _ {A : Type 0} where
         let found = at_without node s a.client w.clients a.its in
         inl (record { client = found.0; state = a.state; its = found.1; waits = go found.0 (eqb found.0.node node) (ap (λ (c : Client A). c.standing) found.2 ∙ a.waits) })
       where
-        stranded_quiet : (standing : Standing A) → IsQuiet (stranded standing)
+        stranded_quiet : (standing : Standing A) → IsQuiet (disconnected standing)
         stranded_quiet (Hears state) other id e = absurd (cc)
         stranded_quiet (Waits state its) other id e = absurd (cc)
-        stranded_quiet (Shut lock) other id e = absurd (cc)
-        stranded_quiet Stranded other id e = absurd (cc)
+        stranded_quiet (Failed lock) other id e = absurd (cc)
+        stranded_quiet Disconnected other id e = absurd (cc)
         stranded_quiet Over other id e = absurd (cc)
 
-        go : (c : Client A) (t : Bool) → (cond t (standing_as c (stranded c.standing)) c).standing ≡ Waits a.state id → c.standing ≡ Waits a.state id
+        go : (c : Client A) (t : Bool) → (cond t (standing_as c (disconnected c.standing)) c).standing ≡ Waits a.state id → c.standing ≡ Waits a.state id
         go c true e = absurd (stranded_quiet c.standing a.state id e)
         go c false e = e
 
@@ -324,8 +324,8 @@ module _ {A : Type 0} where
       go : (t : Bool) → cond t (Some Busy) (Some Down) ≡ None → IsReady o (Hears state)
       go true q = absurd (cc)
       go false q = absurd (cc)
-  ready o (Shut lock) e = absurd (cc)
-  ready o Stranded e = absurd (cc)
+  ready o (Failed lock) e = absurd (cc)
+  ready o Disconnected e = absurd (cc)
   ready o Over e = absurd (cc)
 
   -- where a client is put in that awaits nothing, its session awaits nothing
@@ -370,7 +370,7 @@ module _ {A : Type 0} where
     lost_quiet moved =
         let c = serving.client in
         let r = serving.ready in
-        put_quiet w later session (standing_as c (Shut (lock_got r.state r.id.ticket r.outcome)))
+        put_quiet w later session (standing_as c (Failed (lock_got r.state r.id.ticket r.outcome)))
         (moved ∙ does (λ x log. is_lost w session x log x.standing) ∙ ap (is_lost w session c r.log) r.waits ∙ ap (loses_answer w session c r.state r.id.ticket) r.there)
         (shut_quiet (lock_got r.state r.id.ticket r.outcome))
 

@@ -9,10 +9,10 @@ use Rattle.node.specs.declared.input.Input.{Input}
 use Rattle.node.specs.declared.input.Input.TheVariants.{Arrive, Crash}
 use Rattle.node.specs.declared.log.NodeLog.{NodeLog}
 use Rattle.world.specs.Hosts.{IsArrivalCut}
-use Rattle.world.specs.Messages.{Network, log_of, is_up, newly_sent, taken_by, takes, with_arrival, arrives}
+use Rattle.runs.specs.Messages.{Network, log_of, is_up, newly_sent, taken_by, given_input, with_arrival, message_arrives}
 use Rattle.world.specs.Scheduling.{reach, HasArrived, HaveArrived, IsFewest, AreFewest, can_arrive, IsQuiet}
-use Rattle.world.specs.declared.sent.Sent.{Sent}
-use Rattle.world.proofs.Logs.{log_other}
+use Rattle.runs.specs.declared.sent.Sent.{Sent}
+use Rattle.runs.proofs.Logs.{log_other}
 
 set_or : (xs : List ℕ) (place k x y : ℕ) → slice_get (set xs place x) k ≡ Some y → ((k ≡ place) × (x ≡ y)) ⊎ (slice_get xs k ≡ Some y)
 set_or [] place k x y e = inr e
@@ -110,7 +110,7 @@ module _ {A : Type 0} where
   later logs logs2 down (s ∷ ss) ts zero fewest h = λ up. h (down s.envelope.to up)
   later logs logs2 down (s ∷ ss) ts (suc k) fewest h = later logs logs2 down ss ts k fewest h
 
-  pub takes_rises : (w : Network A) (n : ℕ) (i : Input A) → Rises w (takes w n i)
+  pub takes_rises : (w : Network A) (n : ℕ) (i : Input A) → Rises w (given_input w n i)
   takes_rises w n i =
       go (log_of n w.logs) refl
     where
@@ -140,12 +140,12 @@ module _ {A : Type 0} where
   counted_more logs (suc which) (s ∷ ss) zero fewest h = h
   counted_more logs (suc which) (s ∷ ss) (suc k) fewest h = counted_more logs which ss k fewest h
 
-  pub arrives_rises : (w : Network A) (which : ℕ) (o : Option (Sent A)) → Rises w (arrives w which o)
+  pub arrives_rises : (w : Network A) (which : ℕ) (o : Option (Sent A)) → Rises w (message_arrives w which o)
   arrives_rises w which None = record { each = λ k x h. h }
   arrives_rises w which (Some s) =
       go (is_up (log_of s.envelope.to w.logs))
     where
-      go : (t : Bool) → Rises w (cond t (takes (record { logs = w.logs; sent = with_arrival which w.sent }) s.envelope.to (Arrive s.envelope)) w)
+      go : (t : Bool) → Rises w (cond t (given_input (record { logs = w.logs; sent = with_arrival which w.sent }) s.envelope.to (Arrive s.envelope)) w)
       go true = record {
         each = λ k x h. (takes_rises (record { logs = w.logs; sent = with_arrival which w.sent }) s.envelope.to (Arrive s.envelope)).each k x
             (counted_more w.logs which w.sent k x h);
@@ -178,11 +178,11 @@ module _ {A : Type 0} where
   quiet_past w copies from to past = record { each = λ k s low high at. let within = slice_get_within w.sent k s at in absurd (let no : k < k = omega arith in omega arith) }
 
   -- whatever an input brought
-  pub taken_rises : {X E : Type 0} (r : Result X E) (w v : Network A) (n : ℕ) (i : Input A) → OnOk r (v ≡ takes w n i) → OnErr r (v ≡ takes w n Crash) → Rises w v
+  pub taken_rises : {X E : Type 0} (r : Result X E) (w v : Network A) (n : ℕ) (i : Input A) → OnOk r (v ≡ given_input w n i) → OnErr r (v ≡ given_input w n Crash) → Rises w v
   taken_rises (Ok x) w v n i ok err = subst (Rises w) (sym ok) (takes_rises w n i)
   taken_rises (Err e) w v n i ok err = subst (Rises w) (sym err) (takes_rises w n Crash)
 
-  pub arrived_rises : {X E : Type 0} (r : Result X E) (w v : Network A) (which : ℕ) (o : Option (Sent A)) → OnOk r (v ≡ arrives w which o) → OnErr r (IsArrivalCut w v o) → Rises w v
+  pub arrived_rises : {X E : Type 0} (r : Result X E) (w v : Network A) (which : ℕ) (o : Option (Sent A)) → OnOk r (v ≡ message_arrives w which o) → OnErr r (IsArrivalCut w v o) → Rises w v
   arrived_rises (Ok x) w v which o ok err = subst (Rises w) (sym ok) (arrives_rises w which o)
   arrived_rises (Err e) w v which o ok err = cut_rises w v o err
 

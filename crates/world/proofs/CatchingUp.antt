@@ -14,24 +14,24 @@ use Rattle.node.specs.declared.log.NodeLog.{NodeLog}
 use Rattle.node.specs.declared.log.Opening.{Opening}
 use Rattle.node.proofs.Answering.{answered_here}
 use Rattle.node.proofs.News.{longer_brings}
-use Rattle.world.specs.Clients.{Client, client_of}
+use Rattle.runs.specs.Clients.{Client, client_of}
 use Rattle.world.specs.Connections.{AreFit, AreUntaken, awaited_by, service_of}
 use Rattle.world.specs.Hosts.{Host, Hosts, HasAnswerAt, logs_of, network_of}
-use Rattle.world.specs.Interrupted.{IsAddresseeCrashed, IsInterrupted, IsItsCrashed}
+use Rattle.runs.specs.Interrupted.{IsAddresseeCrashed, IsInterrupted, IsItsCrashed}
 use Rattle.world.specs.Kept.{IsKept, collected_by, new_hosts}
-use Rattle.world.specs.Messages.{Network, is_up, log_of}
-use Rattle.world.specs.Refusals.{refusal_of}
-use Rattle.world.specs.Services.{Service, Happening, Occurs, Lost, happens, occurs}
+use Rattle.runs.specs.Messages.{Network, is_up, log_of}
+use Rattle.runs.specs.Refusals.{refusal_of}
+use Rattle.runs.specs.Services.{Service, Happening, Occurs, Lost, happens, occurs}
 use Rattle.world.specs.Waiting.{Waiting, MayHave, IsBehind, IsUnheard, IsUpToDate, KeepsOthersOf, is_of}
-use Rattle.world.specs.declared.config.Config.{Config}
+use Rattle.runs.specs.declared.config.Config.{Config}
 use Rattle.world.specs.declared.connection.Connection.{Connection}
-use Rattle.world.specs.declared.event.Event.{Event}
-use Rattle.world.specs.declared.event.Event.TheVariants as event
-use Rattle.world.specs.declared.sent.Sent.{Sent}
+use Rattle.runs.specs.declared.event.Event.{Event}
+use Rattle.runs.specs.declared.event.Event.TheVariants as event
+use Rattle.runs.specs.declared.sent.Sent.{Sent}
 use Rattle.world.proofs.Awaiting.{AreNumbered, happen_logs}
 use Rattle.world.proofs.Keeping.{begun_logs, kept_after, kept_cut, kept_untaken}
-use Rattle.world.proofs.Logs.{new_log, some_same}
-use Rattle.world.proofs.ServiceRuns.{Follows, happens_follows}
+use Rattle.runs.proofs.Logs.{new_log, some_same}
+use Rattle.runs.proofs.ServiceRuns.{Follows, happens_follows}
 use Rattle.world.proofs.WholeRuns.{happen_count}
 
 drop_front : {X : Type 0} (xs ys : List X) → drop (length xs) (xs ++ ys) ≡ ys

@@ -8,8 +8,8 @@ use Rattle.maildrop.specs.declared.op.Op.{Op}
 use Rattle.node.specs.declared.input.Input.TheVariants.{Submit}
 use Rattle.node.specs.declared.log.NodeLog.{NodeLog}
 use Rattle.world.specs.Hosts.{ticket_at}
-use Rattle.world.specs.Messages.{is_up}
-use Rattle.world.specs.Services.{next_id}
+use Rattle.runs.specs.Messages.{is_up}
+use Rattle.runs.specs.Services.{next_id}
 
 -- a new command goes last
 pub insert_last : {X : Type 0} (es : List (CommandId × X)) (id : CommandId) (x : X) → lookup (same_id id) es ≡ None → insert_entry same_id es id x ≡ es ++ (id, x) ∷ []

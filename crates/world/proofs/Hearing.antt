@@ -9,11 +9,11 @@ use Rattle.node.specs.Replay.{mail_rules, replayed}
 use Rattle.node.specs.declared.log.NodeLog.{NodeLog}
 use Rattle.replica.specs.Replicas.{has_identity}
 use Rattle.world.specs.Hosts.{Hosts, network_of}
-use Rattle.world.specs.Messages.{is_up}
-use Rattle.world.specs.Worlds.{performed_in}
+use Rattle.runs.specs.Messages.{is_up}
+use Rattle.runs.specs.Worlds.{performed_in}
 use Rattle.world.specs.Waiting.{Waiting, MayHave, IsWatched, IsBehind, IsHeard, IsUnheard, IsUpToDate, nowhere}
 use Rattle.world.specs.declared.connection.Connection.{Connection}
-use Rattle.world.proofs.Logs.{some_same}
+use Rattle.runs.proofs.Logs.{some_same}
 use Rattle.world.proofs.Noting.{one_place}
 
 -- what a list has where it was set, and elsewhere

@@ -13,9 +13,9 @@ use Rattle.node.specs.declared.input.Input.{Input}
 use Rattle.node.specs.declared.input.Input.TheVariants.{Crash}
 use Rattle.node.specs.declared.log.NodeLog.{NodeLog}
 use Rattle.world.specs.Hosts.{Host, Hosts, HasAnswer, HasAnswerAt, host_at, logs_of, log_after, network_of, sent_after, can_count, counted}
-use Rattle.world.specs.Messages.{Network, log_of, is_up, newly_sent, taken_by, takes, with_arrival, last_ticket_of}
-use Rattle.world.specs.Worlds.{last_ticket_in, performed_in}
-use Rattle.world.specs.declared.sent.Sent.{Sent}
+use Rattle.runs.specs.Messages.{Network, log_of, is_up, newly_sent, taken_by, given_input, with_arrival, last_ticket_of}
+use Rattle.runs.specs.Worlds.{last_ticket_in, performed_in}
+use Rattle.runs.specs.declared.sent.Sent.{Sent}
 use Rattle.world.proofs.Hosting.{crash_sent}
 
 -- what a look-up finds
@@ -84,7 +84,7 @@ module _ {A : Type 0} where
   -- what a node takes
   pub host_takes : (w : Hosts A) (n place : ℕ) (h later : Host A) (sent : List (Sent A)) (i : Input A) → place + 1 ≡ n → slice_get w.hosts place ≡ Some h
       → later.log ≡ log_after h.log i → sent ≡ sent_after h.log i w.sent
-      → network_of (record { hosts = set w.hosts place later; sent = sent }) ≡ takes (network_of w) n i
+      → network_of (record { hosts = set w.hosts place later; sent = sent }) ≡ given_input (network_of w) n i
   host_takes w n place h later sent i e found log its =
       together (logs_set w.hosts place later ∙ ap (set (logs_of w.hosts) place) log) its
       ∙ go (is_up (Some h.log)) refl
@@ -104,11 +104,11 @@ module _ {A : Type 0} where
 
   pub host_crashes : (w : Hosts A) (n place : ℕ) (h later : Host A) (sent : List (Sent A)) → place + 1 ≡ n → slice_get w.hosts place ≡ Some h
       → later.log ≡ log_after h.log Crash → sent ≡ w.sent
-      → network_of (record { hosts = set w.hosts place later; sent = sent }) ≡ takes (network_of w) n Crash
+      → network_of (record { hosts = set w.hosts place later; sent = sent }) ≡ given_input (network_of w) n Crash
   host_crashes w n place h later sent e found log its = host_takes w n place h later sent Crash e found log (its ∙ sym (crash_sent h.log w.sent))
 
   -- a node that isn't there takes nothing
-  pub no_host_takes : (w : Hosts A) (n place : ℕ) (i : Input A) → place + 1 ≡ n → slice_get w.hosts place ≡ None → network_of w ≡ takes (network_of w) n i
+  pub no_host_takes : (w : Hosts A) (n place : ℕ) (i : Input A) → place + 1 ≡ n → slice_get w.hosts place ≡ None → network_of w ≡ given_input (network_of w) n i
   no_host_takes w n place i e none = ap (taken_by (network_of w) n i) (sym (no_log w.hosts place n e none))
 
   -- the answers at the other nodes
@@ -138,7 +138,7 @@ module _ {A : Type 0} where
   same_logs w place h later found same =
       ap (λ ls. the_network ls w.sent) (logs_set w.hosts place later ∙ ap (set (logs_of w.hosts) place) same ∙ set_same (logs_of w.hosts) place h.log (logged_at w.hosts place h found))
 
-  takes_sent : (w : Network A) (n : ℕ) (i : Input A) → (more : List (Sent A)) × ((takes w n i).sent ≡ w.sent ++ more)
+  takes_sent : (w : Network A) (n : ℕ) (i : Input A) → (more : List (Sent A)) × ((given_input w n i).sent ≡ w.sent ++ more)
   takes_sent w n i =
       go (log_of n w.logs)
     where
@@ -156,7 +156,7 @@ module _ {A : Type 0} where
   got_front (x ∷ ss) ts (suc k) s e = got_front ss ts k s e
 
   -- a message that was sent is still there, and counts as far
-  pub still_counts : (w : Network A) (n : ℕ) (i : Input A) (which : ℕ) (later : List (Sent A)) → ((s : Sent A) × (slice_get w.sent which ≡ Some s) × (can_count s ≡ true)) → later ≡ (takes w n i).sent
+  pub still_counts : (w : Network A) (n : ℕ) (i : Input A) (which : ℕ) (later : List (Sent A)) → ((s : Sent A) × (slice_get w.sent which ≡ Some s) × (can_count s ≡ true)) → later ≡ (given_input w n i).sent
       → (s : Sent A) → slice_get later which ≡ Some s → can_count s ≡ true
   still_counts w n i which later found is s at =
       let more = takes_sent w n i in
@@ -166,7 +166,7 @@ module _ {A : Type 0} where
       some_same : (a b : Sent A) → Some a ≡ Some b → a ≡ b
       some_same a b e = cc
 
-  pub takes_counted : (w : Network A) (n : ℕ) (i : Input A) (which : ℕ) → ((s : Sent A) × (slice_get w.sent which ≡ Some s) × (can_count s ≡ true)) → counted which (takes w n i) ≡ takes (counted which w) n i
+  pub takes_counted : (w : Network A) (n : ℕ) (i : Input A) (which : ℕ) → ((s : Sent A) × (slice_get w.sent which ≡ Some s) × (can_count s ≡ true)) → counted which (given_input w n i) ≡ given_input (counted which w) n i
   takes_counted w n i which found =
       go (log_of n w.logs)
     where

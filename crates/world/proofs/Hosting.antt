@@ -7,7 +7,8 @@ use Rattle.std.proofs.lemmas.List.Folds.{list_any-append}
 use Rattle.maildrop.specs.CommandId.{CommandId}
 use Rattle.maildrop.specs.declared.outcome.Outcome.{Outcome}
 use Rattle.node.specs.Nodes.{NodeValue, answer_of, answered, answer_after, left_after, logged, stops_after, IsKnown}
-use Rattle.node.specs.Replay.{NodeState, Move, is_crash, replayed, sends_of, stays, takes}
+use Rattle.node.specs.Replay.{NodeState, NodeMove, is_crash, replayed, sends_of, takes}
+use Rattle.ballot.specs.Sends.{stays}
 use Rattle.node.specs.Tickets.{CanStop}
 use Rattle.node.specs.declared.input.Input.{Input}
 use Rattle.node.specs.declared.input.Input.TheVariants.{Submit, Arrive, Tick, Campaign, Crash}
@@ -17,8 +18,8 @@ use Rattle.node.specs.declared.stopped.Stopped.TheVariants.{Crashed, Memory, Tic
 use Rattle.node.proofs.Kept.{crash-push}
 use Rattle.node.proofs.Replaying.{replayed-push}
 use Rattle.world.specs.Hosts.{Host, known_log, crashed_instead, host_of, IsLoggedSo, HasAnswer, without_last, log_after, sent_after}
-use Rattle.world.specs.Messages.{is_up, newly_sent}
-use Rattle.world.specs.declared.sent.Sent.{Sent}
+use Rattle.runs.specs.Messages.{is_up, newly_sent}
+use Rattle.runs.specs.declared.sent.Sent.{Sent}
 use Rattle.world.proofs.AnswersStay.{all_left}
 
 without_last-push : {X : Type 0} (xs : List X) (x : X) → without_last (xs ++ x ∷ []) ≡ xs
@@ -130,11 +131,11 @@ module _ {A : Type 0} where
       go Crash e a = absurd (cc (later_up, ap (λ (l : NodeLog A). is_up (Some l)) (its ∙ ap (logged host.log) e), crashed_down host.log))
 
   -- a crash sends nothing, and what was performed stays
-  crash_idle : (me : ℕ) (before : List (Input A)) (n : NodeState A) → ((takes me before n Crash).node ≡ n) × ((takes me before n Crash).sends ≡ [])
+  crash_idle : (me : ℕ) (before : List (Input A)) (n : NodeState A) → ((takes me before n Crash).after ≡ n) × ((takes me before n Crash).sends ≡ [])
   crash_idle me before n =
       go (list_any is_crash before)
     where
-      go : (t : Bool) → ((cond {A = Move A} t (stays n) (stays n)).node ≡ n) × ((cond {A = Move A} t (stays n) (stays n)).sends ≡ [])
+      go : (t : Bool) → ((cond {A = NodeMove A} t (stays n) (stays n)).after ≡ n) × ((cond {A = NodeMove A} t (stays n) (stays n)).sends ≡ [])
       go true = (refl, refl)
       go false = (refl, refl)
 

@@ -1,11 +1,6 @@
 -- What the type of a world keeps, after a step and after an outcome is taken.
-use Rattle.std.proofs.Common.{◌≡◌, ◌≢◌, ℕ, zero, suc, ◌+◌, ◌≤◌, ◌<◌, List, [], ◌∷◌, ◌++◌, Bool, true, false, Option, Some, None, refl, sym, ap, ◌∙◌, subst, inl, inr, ⊎_elim, arith, cond, eqb, length, map, true≢false}
-use Rattle.std.specs.Prelude.{◌⊎◌, is_some, not, option_map, slice_get, slice_index_or}
-use Rattle.std.specs.List.{list_all}
-use Rattle.std.specs.Str.{bytes_eq}
-use Rattle.std.proofs.lemmas.Slice.Eq.{bytes_eq-Decides}
-use Rattle.apop.specs.Accounts.{Account, name_of, HaveDifferentNames}
-use Rattle.maildrop.specs.Name.{are_different}
+use Rattle.std.proofs.Common.{◌≡◌, ◌≢◌, ℕ, zero, suc, ◌+◌, ◌≤◌, ◌<◌, List, [], ◌∷◌, ◌++◌, Bool, true, false, Option, Some, None, refl, sym, ap, ◌∙◌, subst, inl, inr, ⊎_elim, arith, cond, eqb, true≢false}
+use Rattle.std.specs.Prelude.{◌⊎◌, is_some, option_map, slice_get}
 use Rattle.std.specs.Option.{option_or}
 use Rattle.ballot.specs.Nodes.{in_cluster}
 use Rattle.std.proofs.lemmas.Bool.{eqb-true, lt-ltb, le-leb}
@@ -21,32 +16,34 @@ use Rattle.maildrop.proofs.IdOrder.{ids_eq}
 use Rattle.session.specs.declared.state.State.{State}
 use Rattle.node.specs.declared.log.NodeLog.{NodeLog}
 use Rattle.node.specs.declared.log.Opening.{Opening}
-use Rattle.world.specs.Clients.{Client, Waits, client_of, standing_as, stranded}
+use Rattle.runs.specs.Clients.{Client, Waits, client_of, standing_as, disconnected}
 use Rattle.world.specs.Connections.{client_in, clients_in, shown, standing_in, awaited_by, connection_of, service_of, AreFit, AreUntaken}
 use Rattle.world.specs.Hosts.{Host, Hosts, HasAnswer, HasAnswerAt, host_at, logs_of, network_of}
 use Rattle.world.specs.Kept.{IsKept, IsGiven, IsAwaitedBy, IsUntaken, awaited_in, collected_by, new_host, new_hosts, world_of}
-use Rattle.world.specs.Messages.{Network, Submits, log_of, is_up, new_logs}
-use Rattle.world.specs.Interrupted.{IsCrashed, IsItsCrashed, IsAddresseeCrashed, IsInterrupted}
-use Rattle.world.specs.Projection.{IsProjected}
-use Rattle.world.specs.Refusals.{refusal_of, unless_down, answer_there, busy_without, collect_refusal}
-use Rattle.world.specs.Services.{Service, Happening, Occurs, Lost, new_service, opening_of, at_nodes, next_id, occurs, happens, run_of}
-use Rattle.world.specs.Worlds.{World, IsReached, new_world, answer_at, operation_of, operation_at, outcome_at, outcome_left, unless_taken, with_taken, without_outcome_at}
-use Rattle.world.specs.declared.config.Config.{Config}
+use Rattle.runs.specs.Messages.{Network, Submits, log_of, is_up, new_logs}
+use Rattle.runs.specs.Interrupted.{IsCrashed, IsItsCrashed, IsAddresseeCrashed, IsInterrupted}
+use Rattle.runs.specs.Projection.{IsProjected}
+use Rattle.runs.specs.Refusals.{refusal_of, unless_down, answer_there, busy_without, collect_refusal}
+use Rattle.runs.specs.Services.{Service, Happening, Occurs, Lost, new_service, opening_of, at_nodes, next_id, occurs, happens, run_of}
+use Rattle.runs.specs.Worlds.{World, IsReached, new_world, answer_at, operation_of, operation_at, outcome_at, outcome_left, unless_taken, with_taken, without_outcome_at}
+use Rattle.runs.specs.declared.config.Config.{Config}
 use Rattle.world.specs.declared.connection.Connection.{Connection}
 use Rattle.world.specs.declared.connection.Standing.{Standing}
 use Rattle.world.specs.declared.connection.Standing.TheVariants as stands
-use Rattle.world.specs.declared.event.Event.{Event}
-use Rattle.world.specs.declared.event.Event.TheVariants as event
-use Rattle.world.specs.declared.refused.Refused.{Refused}
-use Rattle.world.specs.declared.refused.Refused.TheVariants.{Down}
-use Rattle.world.specs.declared.sent.Sent.{Sent}
+use Rattle.runs.specs.declared.event.Event.{Event}
+use Rattle.runs.specs.declared.event.Event.TheVariants as event
+use Rattle.runs.specs.declared.refused.Refused.{Refused}
+use Rattle.runs.specs.declared.refused.Refused.TheVariants.{Down}
+use Rattle.runs.specs.declared.sent.Sent.{Sent}
 use Rattle.world.proofs.Awaiting.{AreNumbered, are_numbered, given_later, not_given, now_given, same_clients, collected_quiet, lost_quiet, IsNew, IsDistinct, session_in, happens_awaits, every_distinct}
 use Rattle.world.proofs.HostList.{log_at}
 use Rattle.world.proofs.Hosting.{down_has}
-use Rattle.world.proofs.Logs.{some_same}
+use Rattle.runs.proofs.Logs.{some_same}
 use Rattle.world.proofs.Refusing.{collect_stranded, refused_found}
 use Rattle.world.proofs.Reached.{new_reached, next_reached, reached_projected}
-use Rattle.world.proofs.Serving.{every_service}
+use Rattle.runs.proofs.Decisions.{reached_nodes}
+use Rattle.runs.proofs.ServiceRuns.{AreOfRun}
+use Rattle.runs.proofs.Serving.{every_service}
 use Rattle.world.proofs.Shown.{client_shown, shown_up}
 
 -- Identities
@@ -147,24 +144,6 @@ pub first_none : (a b : Option Refused) → option_or a b ≡ None → a ≡ Non
 first_none None b e = refl
 first_none (Some r) b e = absurd (cc)
 
--- names that no two accounts have
-other_names : (name : List ℕ) (accounts : List Account) → ((k : ℕ) (d : Account) → k < length accounts → name ≢ (slice_index_or accounts k d).name) → list_all (λ other. not (bytes_eq name other)) (map name_of accounts) ≡ true
-other_names name [] h = refl
-other_names name (a ∷ accounts) h =
-    let inside : 0 < length (a ∷ accounts) = omega arith in
-    let no : bytes_eq name a.name ≡ false = go (bytes_eq name a.name) refl (h 0 a inside) in
-    rw (no) (other_names name accounts (λ k d less. let next : suc k < length (a ∷ accounts) = omega (arith, less) in h (suc k) d next))
-  where
-    go : (t : Bool) → bytes_eq name a.name ≡ t → name ≢ a.name → t ≡ false
-    go true q apart = absurd (apart ((bytes_eq-Decides name a.name).0 q))
-    go false q apart = refl
-
-pub different_names : (accounts : List Account) → HaveDifferentNames accounts → are_different (map name_of accounts) ≡ true
-different_names [] h = refl
-different_names (a ∷ accounts) h =
-    rw (other_names a.name accounts (λ k d less. let next : suc k < length (a ∷ accounts) = omega (arith, less) in let first : 0 < suc k = omega arith in h 0 (suc k) d first next))
-    (different_names accounts (λ i j d less inside. let next : suc j < length (a ∷ accounts) = omega (arith, inside) in let before : suc i < suc j = omega (arith, less) in h (suc i) (suc j) d before next))
-
 -- the next number is a node's
 pub in_it : (size place me : ℕ) → me ≡ place + 1 → place < size → in_cluster size me ≡ true
 in_it size place me e less =
@@ -197,8 +176,8 @@ module _ {A : Type 0} where
       stands_so : (s : Standing) → awaited_by s ≡ Some id → standing_in s c.session.state ≡ Waits c.session.state id
       stands_so (stands.Waits its) e = ap (Waits c.session.state) (some_same its id e)
       stands_so stands.Hears e = absurd (cc)
-      stands_so (stands.Shut lock) e = absurd (cc)
-      stands_so stands.Stranded e = absurd (cc)
+      stands_so (stands.Failed lock) e = absurd (cc)
+      stands_so stands.Disconnected e = absurd (cc)
       stands_so stands.Over e = absurd (cc)
 
   -- at a node that is down nothing is there
@@ -247,8 +226,8 @@ module _ {A : Type 0} where
               by true f = refl
               by false f = absurd (cc)
           ready_up o stands.Hears state q p = absurd (cc)
-          ready_up o (stands.Shut lock) state q p = absurd (cc)
-          ready_up o stands.Stranded state q p = absurd (cc)
+          ready_up o (stands.Failed lock) state q p = absurd (cc)
+          ready_up o stands.Disconnected state q p = absurd (cc)
           ready_up o stands.Over state q p = absurd (cc)
 
   module _ (cfg : Config A) (hosts hosts2 : Hosts A) (es es2 : List (ℕ × Connection A)) (ops : List (CommandId × Bool)) (kept : IsKept cfg hosts es ops) (fit : AreFit es2) where
@@ -577,7 +556,7 @@ module _ {A : Type 0} where
       ap (option_map (λ (x : Client A). x.replies)) (client_shown (network_of hosts).logs session es ∙ ap (option_map (λ x. shown (network_of hosts).logs (client_in x))) found)
       ∙ go (is_up (log_of c.node (network_of hosts).logs))
     where
-      go : (t : Bool) → Some (cond t (client_in c) (standing_as (client_in c) (stranded (client_in c).standing))).replies ≡ Some c.replies
+      go : (t : Bool) → Some (cond t (client_in c) (standing_as (client_in c) (disconnected (client_in c).standing))).replies ≡ Some c.replies
       go true = refl
       go false = refl
 
@@ -590,3 +569,10 @@ module _ {A : Type 0} where
       → (session : ℕ) (c : Client A) → client_of session v.service.clients ≡ Some c → IsProjected v.config v.service c
   kept_projected cfg hosts es ops v is kept =
       subst (λ (x : World A). (session : ℕ) (c : Client A) → client_of session x.service.clients ≡ Some c → IsProjected x.config x.service c) is (reached_projected cfg (service_of hosts es) kept.reached)
+
+-- the nodes of a service that a world has kept are those of a run of nodes
+module _ {A : Type 0} where
+  pub kept_nodes : (cfg : Config A) (hosts : Hosts A) (es : List (ℕ × Connection A)) (ops : List (CommandId × Bool)) (v : World A) →
+      world_of cfg hosts es ops ≡ v → IsKept cfg hosts es ops → AreOfRun v.config v.service
+  kept_nodes cfg hosts es ops v is kept =
+      subst (λ (x : World A). AreOfRun x.config x.service) is (reached_nodes cfg (service_of hosts es) kept.reached)

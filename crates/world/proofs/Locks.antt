@@ -20,7 +20,7 @@ use Rattle.session.specs.declared.state.Step.{Step}
 use Rattle.session.specs.declared.state.Step.TheVariants.{Say, Ask, SayAndClose}
 use Rattle.session.specs.declared.state.Turn.{Turn}
 use Rattle.session.specs.OpenMessages.{message_at}
-use Rattle.session.specs.Session.{hears, lock_due, invalid_login, checked_login, login, in_authorization, delete, quit, in_transaction, by_line}
+use Rattle.session.specs.Session.{takes_line, lock_due, after_invalid_login, checked_login, login, in_authorization, delete, quit, in_transaction, by_line}
 
 module _ {A : Type 0} where
   abbrev pub KeepsLock : Option (List ℕ × Ticket) → Step A → State A → Type 0
@@ -31,7 +31,7 @@ module _ {A : Type 0} where
   abbrev Keeps : Option (List ℕ × Ticket) → Turn A → Type 0
   Keeps lock turn = KeepsLock lock turn.step turn.state
 
-invalid_keeps : (A : Type 0) (invalid : ℕ) → Keeps None (invalid_login {A = A} invalid)
+invalid_keeps : (A : Type 0) (invalid : ℕ) → Keeps None (after_invalid_login {A = A} invalid)
 invalid_keeps A invalid = elim (cases_Bool (nat_lt invalid 2)) [
   | inl few ↦ rw few refl
   | inr many ↦ rw many refl
@@ -88,7 +88,7 @@ module _ {A : Type 0} where
   transaction_keeps user lock entries (Ok verb.Quit) = quit_keeps user lock entries
   transaction_keeps user lock entries (Err fault) = refl
 
-  pub line_keeps : (accounts : List Account) (stamp : Stamp) (state : State A) (line : Line) → hears state ≡ true → Keeps (lock_due state) (by_line accounts stamp state line)
+  pub line_keeps : (accounts : List Account) (stamp : Stamp) (state : State A) (line : Line) → takes_line state ≡ true → Keeps (lock_due state) (by_line accounts stamp state line)
   line_keeps accounts stamp (Authorization user invalid) TooLong hearing = refl
   line_keeps accounts stamp (Authorization user invalid) (Whole bytes) hearing = authorization_keeps A accounts stamp user invalid (verb_of bytes)
   line_keeps accounts stamp (Transaction user lock entries) TooLong hearing = refl

@@ -7,19 +7,19 @@ use Rattle.maildrop.specs.declared.outcome.Outcome.{Outcome}
 use Rattle.node.specs.Nodes.{answered}
 use Rattle.node.specs.declared.log.NodeLog.{NodeLog}
 use Rattle.session.specs.declared.state.State.{State}
-use Rattle.world.specs.Clients.{Standing, Hears, Waits, Shut, Stranded, Over, Client, standing_as, stranded}
+use Rattle.runs.specs.Clients.{Standing, Hears, Waits, Failed, Disconnected, Over, Client, standing_as, disconnected}
 use Rattle.world.specs.Connections.{service_of, client_in, connection_of, shown}
 use Rattle.world.specs.Hosts.{Hosts, network_of}
-use Rattle.world.specs.Messages.{log_of, is_up}
-use Rattle.world.specs.Refusals.{busy_without, collect_refusal, arrival_refusal, step_refusal}
-use Rattle.world.specs.Services.{Service}
+use Rattle.runs.specs.Messages.{log_of, is_up}
+use Rattle.runs.specs.Refusals.{busy_without, collect_refusal, arrival_refusal, step_refusal}
+use Rattle.runs.specs.Services.{Service}
 use Rattle.world.specs.Scheduling.{has_its_answer, NoneAnswered}
-use Rattle.world.specs.Worlds.{answer_at, is_answered, next_answer}
-use Rattle.world.specs.declared.config.Config.{Config}
+use Rattle.runs.specs.Worlds.{answer_at, is_answered, next_answer}
+use Rattle.runs.specs.declared.config.Config.{Config}
 use Rattle.world.specs.declared.connection.Connection.{Connection}
-use Rattle.world.specs.declared.event.Event.TheVariants.{Collect, Arrive}
-use Rattle.world.specs.declared.refused.Refused.TheVariants.{Down}
-use Rattle.world.specs.declared.sent.Sent.{Sent}
+use Rattle.runs.specs.declared.event.Event.TheVariants.{Collect, Arrive}
+use Rattle.runs.specs.declared.refused.Refused.TheVariants.{Down}
+use Rattle.runs.specs.declared.sent.Sent.{Sent}
 use Rattle.world.proofs.Refusing.{refused_found, collect_stranded}
 use Rattle.world.proofs.Searching.{find_none, find_found}
 
@@ -38,11 +38,11 @@ module _ {A : Type 0} where
   there_for None e = absurd (cc)
   there_for (Some x) e = refl
 
-  stranded_waits : (w : Service A) (c : Client A) (s : Standing A) → is_answered w c (stranded s) ≡ true → ⊥
+  stranded_waits : (w : Service A) (c : Client A) (s : Standing A) → is_answered w c (disconnected s) ≡ true → ⊥
   stranded_waits w c (Hears state) e = cc
   stranded_waits w c (Waits state id) e = cc
-  stranded_waits w c (Shut lock) e = cc
-  stranded_waits w c Stranded e = cc
+  stranded_waits w c (Failed lock) e = cc
+  stranded_waits w c Disconnected e = cc
   stranded_waits w c Over e = cc
 
   -- an answer that is there can be taken
@@ -58,17 +58,17 @@ module _ {A : Type 0} where
   standing_taken : (w : Service A) (c : Client A) (s : Standing A) → is_answered w c s ≡ true → collect_refusal (log_of c.node w.network.logs) s ≡ None
   standing_taken w c (Hears state) e = absurd (cc)
   standing_taken w c (Waits state id) e = there_taken (log_of c.node w.network.logs) state id e
-  standing_taken w c (Shut lock) e = absurd (cc)
-  standing_taken w c Stranded e = absurd (cc)
+  standing_taken w c (Failed lock) e = absurd (cc)
+  standing_taken w c Disconnected e = absurd (cc)
   standing_taken w c Over e = absurd (cc)
 
   shown_taken : (w : Service A) (c : Client A) → is_answered w (shown w.network.logs c) (shown w.network.logs c).standing ≡ true → collect_refusal (log_of c.node w.network.logs) c.standing ≡ None
   shown_taken w c e =
       go (is_up (log_of c.node w.network.logs)) e
     where
-      go : (t : Bool) → is_answered w (cond t c (standing_as c (stranded c.standing))) (cond t c (standing_as c (stranded c.standing))).standing ≡ true → collect_refusal (log_of c.node w.network.logs) c.standing ≡ None
+      go : (t : Bool) → is_answered w (cond t c (standing_as c (disconnected c.standing))) (cond t c (standing_as c (disconnected c.standing))).standing ≡ true → collect_refusal (log_of c.node w.network.logs) c.standing ≡ None
       go true e = standing_taken w c c.standing e
-      go false e = absurd (stranded_waits w (standing_as c (stranded c.standing)) c.standing e)
+      go false e = absurd (stranded_waits w (standing_as c (disconnected c.standing)) c.standing e)
 
   pub collect_possible : (hosts : Hosts A) (es : List (ℕ × Connection A)) (cfg : Config A) (session : ℕ) (c : Connection A) → connection_of session es ≡ Some c → has_its_answer hosts es c ≡ true
       → step_refusal cfg (service_of hosts es) (Collect session) ≡ None

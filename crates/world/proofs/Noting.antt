@@ -9,17 +9,17 @@ use Rattle.indexmap.specs.IndexMap.{insert_entry}
 use Rattle.maildrop.specs.CommandId.{CommandId}
 use Rattle.node.specs.Nodes.{answered}
 use Rattle.node.specs.declared.log.NodeLog.{NodeLog}
-use Rattle.world.specs.Clients.{standing_as, stranded}
+use Rattle.runs.specs.Clients.{standing_as, disconnected}
 use Rattle.world.specs.Connections.{service_of, client_in, awaited_by}
 use Rattle.world.specs.Hosts.{Hosts, network_of}
-use Rattle.world.specs.Messages.{log_of, is_up}
+use Rattle.runs.specs.Messages.{log_of, is_up}
 use Rattle.world.specs.Scheduling.{has_its_answer, NoneAnswered}
-use Rattle.world.proofs.Logs.{some_same}
+use Rattle.runs.proofs.Logs.{some_same}
 use Rattle.world.specs.Waiting.{Waiting, MayHave, IsWatched, WatchesBut, NoneMay, IsBehind, IsUnheard, IsUpToDate, nowhere, only_at, place_of, KeepsOthers}
-use Rattle.world.specs.Worlds.{answer_at, is_answered}
+use Rattle.runs.specs.Worlds.{answer_at, is_answered}
 use Rattle.world.specs.declared.connection.Connection.{Connection}
 use Rattle.world.specs.declared.connection.Standing.{Standing}
-use Rattle.world.specs.declared.connection.Standing.TheVariants.{Hears, Waits, Shut, Stranded, Over}
+use Rattle.world.specs.declared.connection.Standing.TheVariants.{Hears, Waits, Failed, Disconnected, Over}
 
 pub if_none : {X P : Type 0} (o : Option X) → P → IfNone o P
 if_none None p = p
@@ -120,17 +120,17 @@ module _ {A : Type 0} where
       its : Standing → Bool → Bool
       its standing up =
           let client = client_in (record c { standing = standing }) in
-          let seen = cond up client (standing_as client (stranded client.standing)) in
+          let seen = cond up client (standing_as client (disconnected client.standing)) in
           is_answered (service_of hosts es) seen seen.standing
 
       go : (standing : Standing) → awaited_by standing ≡ None → (up : Bool) → its standing up ≡ false
       go Hears e true = refl
       go Hears e false = refl
       go (Waits id) e up = absurd (cc)
-      go (Shut lock) e true = refl
-      go (Shut lock) e false = refl
-      go Stranded e true = refl
-      go Stranded e false = refl
+      go (Failed lock) e true = refl
+      go (Failed lock) e false = refl
+      go Disconnected e true = refl
+      go Disconnected e false = refl
       go Over e true = refl
       go Over e false = refl
 
@@ -143,7 +143,7 @@ module _ {A : Type 0} where
       its : Standing → Bool → Bool
       its standing up =
           let client = client_in (record c { standing = standing }) in
-          let seen = cond up client (standing_as client (stranded client.standing)) in
+          let seen = cond up client (standing_as client (disconnected client.standing)) in
           is_answered (service_of hosts es) seen seen.standing
 
       absent : (log : NodeLog A) → log_of c.node (network_of hosts).logs ≡ Some log → is_up (Some log) ≡ true → (t : Bool) → is_some (answered log id) ≡ t → t ≡ false
@@ -160,8 +160,8 @@ module _ {A : Type 0} where
       go (Waits other) e o at =
           let same : other ≡ id = cc e in
           ap (λ i. its (Waits i) (is_up (log_of c.node (network_of hosts).logs))) same ∙ here (log_of c.node (network_of hosts).logs) refl (is_up (log_of c.node (network_of hosts).logs)) refl
-      go (Shut lock) e o at = absurd (cc e)
-      go Stranded e o at = absurd (cc e)
+      go (Failed lock) e o at = absurd (cc e)
+      go Disconnected e o at = absurd (cc e)
       go Over e o at = absurd (cc e)
 
   module _ (hosts : Hosts A) (es : List (ℕ × Connection A)) where

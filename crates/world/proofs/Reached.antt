@@ -8,14 +8,14 @@ use Rattle.node.specs.Nodes.{answered}
 use Rattle.node.specs.declared.log.NodeLog.{NodeLog}
 use Rattle.session.specs.Session.{by_answer}
 use Rattle.session.specs.declared.state.State.{State}
-use Rattle.world.specs.Clients.{Client, Waits, client_of}
-use Rattle.world.specs.Messages.{log_of}
-use Rattle.world.specs.Projection.{IsProjected}
-use Rattle.world.specs.Services.{Service, Happening, new_service, happens}
-use Rattle.world.specs.Worlds.{IsReached}
-use Rattle.world.specs.declared.config.Config.{Config}
-use Rattle.world.proofs.Fit.{every_answer_fits}
-use Rattle.world.proofs.Projected.{every_projected}
+use Rattle.runs.specs.Clients.{Client, Waits, client_of}
+use Rattle.runs.specs.Messages.{log_of}
+use Rattle.runs.specs.Projection.{IsProjected}
+use Rattle.runs.specs.Services.{Service, Happening, new_service, happens}
+use Rattle.runs.specs.Worlds.{IsReached}
+use Rattle.runs.specs.declared.config.Config.{Config}
+use Rattle.runs.proofs.Fit.{every_answer_fits}
+use Rattle.runs.proofs.Projected.{every_projected}
 
 module _ {A : Type 0} where
   pub new_reached : (cfg : Config A) → IsReached cfg (new_service cfg)

@@ -12,9 +12,9 @@ use Rattle.session.specs.declared.state.Step.TheVariants.{Say, Ask, SayAndClose}
 use Rattle.node.specs.Replay.{next_ticket}
 use Rattle.node.specs.declared.input.Input.TheVariants.{Submit, Crash}
 use Rattle.node.specs.declared.log.NodeLog.{NodeLog}
-use Rattle.world.specs.Clients.{Standing, Waits, Shut, Stranded, Client, standing_as, stranded, with_line, asking}
+use Rattle.runs.specs.Clients.{Standing, Waits, Failed, Disconnected, Client, standing_as, disconnected, with_line, asking}
 use Rattle.world.specs.Hosts.{ticket_at}
-use Rattle.world.specs.Messages.{Network, is_up, takes}
+use Rattle.runs.specs.Messages.{Network, is_up, given_input}
 use Rattle.world.specs.Served.{IsAsking, IsCrash, IsLost, IsStepCut}
 use Rattle.world.proofs.Locks.{KeepsLock}
 
@@ -43,8 +43,8 @@ module _ {A : Type 0} where
 
   -- there was no memory for what a line brings
   pub cut : (state later_state : State A) (step : Step A) (n new : Network A) (c middle later : Client A) → KeepsLock (lock_due state) step later_state → IsStepCut later_state step n new middle later
-      → ((s : Standing A) → standing_as middle s ≡ standing_as c s) → middle.node ≡ c.node → stranded c.standing ≡ Stranded → IsLost (lock_due state) n new c later ⊎ IsCrash n new c later
-  cut state later_state (Say bytes) n new c middle later keeps h same node strands = inl (h.0, h.1 ∙ same (Shut (lock_due later_state)) ∙ ap (λ lock. standing_as c (Shut lock)) keeps)
-  cut state later_state (SayAndClose bytes) n new c middle later keeps h same node strands = inl (h.0, h.1 ∙ same (Shut (lock_due later_state)) ∙ ap (λ lock. standing_as c (Shut lock)) keeps)
+      → ((s : Standing A) → standing_as middle s ≡ standing_as c s) → middle.node ≡ c.node → disconnected c.standing ≡ Disconnected → IsLost (lock_due state) n new c later ⊎ IsCrash n new c later
+  cut state later_state (Say bytes) n new c middle later keeps h same node strands = inl (h.0, h.1 ∙ same (Failed (lock_due later_state)) ∙ ap (λ lock. standing_as c (Failed lock)) keeps)
+  cut state later_state (SayAndClose bytes) n new c middle later keeps h same node strands = inl (h.0, h.1 ∙ same (Failed (lock_due later_state)) ∙ ap (λ lock. standing_as c (Failed lock)) keeps)
   cut state later_state (Ask user op) n new c middle later keeps h same node strands =
-      inr (h.0 ∙ ap (λ m. takes n m Crash) node, h.1 ∙ same Stranded ∙ ap (λ (s : Standing A). standing_as c s) (sym strands))
+      inr (h.0 ∙ ap (λ m. given_input n m Crash) node, h.1 ∙ same Disconnected ∙ ap (λ (s : Standing A). standing_as c s) (sym strands))

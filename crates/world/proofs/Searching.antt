@@ -5,7 +5,7 @@ use Rattle.std.specs.List.{position, position_or_len, find}
 use Rattle.std.specs.Option.{option_map}
 use Rattle.std.proofs.lemmas.Option.{slice_get_within}
 use Rattle.std.proofs.lemmas.Bool.{lt-ltb, le-ltb}
-use Rattle.world.specs.Worlds.{last_position}
+use Rattle.runs.specs.Worlds.{last_position}
 
 some_same : {X : Type 0} (a b : X) → Some a ≡ Some b → a ≡ b
 some_same a b e = cc

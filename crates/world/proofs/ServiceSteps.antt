@@ -19,32 +19,32 @@ use Rattle.node.specs.Replay.{is_crash, sends_of}
 use Rattle.node.specs.declared.input.Input.{Input}
 use Rattle.node.specs.declared.input.Input.TheVariants as input
 use Rattle.node.specs.declared.log.NodeLog.{NodeLog}
-use Rattle.world.specs.Clients.{Standing, Hears, Waits, Shut, Stranded, Over, Client, new_client, standing_as, stranded, told, with_line, asking, client_of, with_client, all_without_node}
+use Rattle.runs.specs.Clients.{Standing, Hears, Waits, Failed, Disconnected, Over, Client, new_client, standing_as, disconnected, told, with_line, asking, client_of, with_client, all_without_node}
 use Rattle.world.specs.Connections.{client_in, shown, clients_in, connection_of, service_of, IsFit, AreFit}
 use Rattle.world.specs.Hosts.{Hosts, network_of, IsArrivalCut}
-use Rattle.world.specs.Interrupted.{IsItsCrashed, IsAddresseeCrashed, IsInterrupted}
-use Rattle.world.specs.Messages.{Network, log_of, is_up, newly_sent, taken_by, takes, with_arrival, arrives}
+use Rattle.runs.specs.Interrupted.{IsItsCrashed, IsAddresseeCrashed, IsInterrupted}
+use Rattle.runs.specs.Messages.{Network, log_of, is_up, newly_sent, taken_by, given_input, with_arrival, message_arrives}
 use Rattle.world.specs.Served.{IsIfUp, IsIdle, IsCrash, IsLost, IsAsking, IsStep, IsLineAt, IsLine, IsCutAt, IsLineCut, IsAnswer, IsCollectAt, IsAnswerLost, IsCollectCutAt, IsFreed, IsHangupAt, IsHangup, IsHangupCut}
-use Rattle.world.specs.Services.{Service, Occurs, next_id, keeps, submits, if_up, if_served, connects, after_line, hears_line, after_answer, by_turn, takes_answer, collects, gives_back, hangs_up, loses_answer, is_lost, crashes, occurs, happens}
-use Rattle.world.specs.Worlds.{answer_at}
-use Rattle.world.specs.declared.config.Config.{Config}
+use Rattle.runs.specs.Services.{Service, Occurs, next_id, keeps, submits_for, if_up, if_served, connects, after_line, hears_line, after_answer, by_turn, takes_answer, collects, gives_back, hangs_up, loses_answer, is_lost, crashes, occurs, happens}
+use Rattle.runs.specs.Worlds.{answer_at}
+use Rattle.runs.specs.declared.config.Config.{Config}
 use Rattle.world.specs.declared.connection.Connection.{Connection}
-use Rattle.world.specs.declared.event.Event.TheVariants as event
-use Rattle.world.specs.declared.sent.Sent.{Sent}
+use Rattle.runs.specs.declared.event.Event.TheVariants as event
+use Rattle.runs.specs.declared.sent.Sent.{Sent}
 use Rattle.world.proofs.HostList.{the_network}
 use Rattle.world.proofs.Hosting.{crashed_down}
-use Rattle.world.proofs.Logs.{log_same}
+use Rattle.runs.proofs.Logs.{log_same}
 use Rattle.world.proofs.Shown.{AreAsUp, shown_up, client_shown, set_shown, with_same, shown_alike, takes_as_up, crash_shown}
 
 module _ {A : Type 0} where
   abbrev the_service : Network A → List (ℕ × Client A) → Service A
   the_service network clients = record { network = network; clients = clients }
 
-  stranded_twice : (s : Standing A) → stranded (stranded s) ≡ stranded s
+  stranded_twice : (s : Standing A) → disconnected (disconnected s) ≡ disconnected s
   stranded_twice (Hears state) = refl
   stranded_twice (Waits state id) = refl
-  stranded_twice (Shut lock) = refl
-  stranded_twice Stranded = refl
+  stranded_twice (Failed lock) = refl
+  stranded_twice Disconnected = refl
   stranded_twice Over = refl
 
   -- the log of a node that is up
@@ -63,23 +63,23 @@ module _ {A : Type 0} where
     w = service_of hosts es
 
     -- nodes go on
-    pub nodes_on : (m : ℕ) (i : Input A) → is_crash i ≡ false → network_of later_hosts ≡ takes (network_of hosts) m i → service_of later_hosts es ≡ record (service_of hosts es) { network = takes (network_of hosts) m i }
+    pub nodes_on : (m : ℕ) (i : Input A) → is_crash i ≡ false → network_of later_hosts ≡ given_input (network_of hosts) m i → service_of later_hosts es ≡ record (service_of hosts es) { network = given_input (network_of hosts) m i }
     nodes_on m i quiet e =
         ap (λ (x : Network A). the_service x (clients_in x.logs es)) e
-        ∙ ap (the_service (takes n m i)) (shown_alike n.logs (takes n m i).logs (takes_as_up n m i quiet) es)
+        ∙ ap (the_service (given_input n m i)) (shown_alike n.logs (given_input n m i).logs (takes_as_up n m i quiet) es)
 
-    crash_takes : (m : ℕ) (log : NodeLog A) → log_of m n.logs ≡ Some log → is_up (Some log) ≡ true → takes n m input.Crash ≡ the_network (set n.logs (m - 1) (logged log input.Crash)) (n.sent ++ newly_sent (sends_of log input.Crash))
+    crash_takes : (m : ℕ) (log : NodeLog A) → log_of m n.logs ≡ Some log → is_up (Some log) ≡ true → given_input n m input.Crash ≡ the_network (set n.logs (m - 1) (logged log input.Crash)) (n.sent ++ newly_sent (sends_of log input.Crash))
     crash_takes m log e up = rw (e, up) refl
 
     -- a node crashes
-    pub nodes_crash : (cfg : Config A) (m : ℕ) → network_of later_hosts ≡ takes (network_of hosts) m input.Crash → service_of later_hosts es ≡ happens cfg (service_of hosts es) (Occurs (event.Crash m))
+    pub nodes_crash : (cfg : Config A) (m : ℕ) → network_of later_hosts ≡ given_input (network_of hosts) m input.Crash → service_of later_hosts es ≡ happens cfg (service_of hosts es) (Occurs (event.Crash m))
     nodes_crash cfg m e =
         ap (λ (x : Network A). the_service x (clients_in x.logs es)) e ∙ go (log_of m n.logs) refl
       where
         by : (log : NodeLog A) → log_of m n.logs ≡ Some log → (t : Bool) → is_up (Some log) ≡ t →
             the_service (cond t (the_network (set n.logs (m - 1) (logged log input.Crash)) (n.sent ++ newly_sent (sends_of log input.Crash))) n)
             (clients_in (cond t (the_network (set n.logs (m - 1) (logged log input.Crash)) (n.sent ++ newly_sent (sends_of log input.Crash))) n).logs es)
-            ≡ cond t (the_service (takes n m input.Crash) (all_without_node m (clients_in n.logs es))) w
+            ≡ cond t (the_service (given_input n m input.Crash) (all_without_node m (clients_in n.logs es))) w
         by log q true up =
             ap (the_service _) (crash_shown n.logs m log q up es) ∙ ap (λ x. the_service x (all_without_node m (clients_in n.logs es))) (sym (crash_takes m log q up))
         by log q false up = refl
@@ -108,15 +108,15 @@ module _ {A : Type 0} where
           ∙ ap (the_service n) (set_shown n.logs session es c later found ∙ ap (λ y. with_client session y (clients_in n.logs es)) (ap (shown n.logs) same ∙ shown_up n.logs x up))
 
       -- and its node is given an operation
-      pub is_submitted : (x : Client A) (user : List ℕ) (op : Op A) → new ≡ takes n x.node (input.Submit user op) → client_in later ≡ x → is_up (log_of x.node n.logs) ≡ true → service_of later_hosts es2 ≡ submits w session x user op
+      pub is_submitted : (x : Client A) (user : List ℕ) (op : Op A) → new ≡ given_input n x.node (input.Submit user op) → client_in later ≡ x → is_up (log_of x.node n.logs) ≡ true → service_of later_hosts es2 ≡ submits_for w session x user op
       is_submitted x user op e same up =
           let i : Input A = input.Submit user op in
           ap (λ (y : Network A). the_service y (clients_in y.logs es2)) e
-          ∙ ap (the_service (takes n x.node i)) (shown_alike n.logs (takes n x.node i).logs (takes_as_up n x.node i refl) es2
+          ∙ ap (the_service (given_input n x.node i)) (shown_alike n.logs (given_input n x.node i).logs (takes_as_up n x.node i refl) es2
           ∙ set_shown n.logs session es c later found ∙ ap (λ y. with_client session y (clients_in n.logs es)) (ap (shown n.logs) same ∙ shown_up n.logs x up))
 
       -- its node crashes
-      shown_twice : (logs : List (NodeLog A)) → client_in later ≡ standing_as (client_in c) (stranded (client_in c).standing) → is_up (log_of c.node logs) ≡ false → shown logs (client_in later) ≡ shown logs (client_in c)
+      shown_twice : (logs : List (NodeLog A)) → client_in later ≡ standing_as (client_in c) (disconnected (client_in c).standing) → is_up (log_of c.node logs) ≡ false → shown logs (client_in later) ≡ shown logs (client_in c)
       shown_twice logs same down = ap (shown logs) same ∙ rw (down) (ap (λ s. standing_as (client_in c) s) (stranded_twice (client_in c).standing))
 
       pub is_crashed : (cfg : Config A) → is_up (log_of c.node n.logs) ≡ true → IsCrash n new (client_in c) (client_in later) → service_of later_hosts es2 ≡ happens cfg w (Occurs (event.Crash c.node))
@@ -134,7 +134,7 @@ module _ {A : Type 0} where
           ∙ nodes_crash cfg c.node h.0
 
       -- what is done where the client's node is up
-      shown_node : (t : Bool) (x : Client A) → (cond t x (standing_as x (stranded x.standing))).node ≡ x.node
+      shown_node : (t : Bool) (x : Client A) → (cond t x (standing_as x (disconnected x.standing))).node ≡ x.node
       shown_node true x = refl
       shown_node false x = refl
 
@@ -168,8 +168,8 @@ module _ {A : Type 0} where
         line_done : (cfg : Config A) (line : Line) (s : Standing A) → IsLineAt cfg.accounts line s n new (client_in c) (client_in later) → service_of later_hosts es2 ≡ hears_line cfg w session line (client_in c) log s
         line_done cfg line (Hears state) h = step_done line (by_line cfg.accounts c.session.stamp state line).state (by_line cfg.accounts c.session.stamp state line).step h
         line_done cfg line (Waits state id) h = idles h
-        line_done cfg line (Shut lock) h = idles h
-        line_done cfg line Stranded h = idles h
+        line_done cfg line (Failed lock) h = idles h
+        line_done cfg line Disconnected h = idles h
         line_done cfg line Over h = idles h
 
         freed_done : (free : Option (List ℕ × Op A)) → IsFreed free n new (client_in c) (client_in later) → service_of later_hosts es2 ≡ gives_back w session (standing_as (client_in c) Over) free
@@ -178,9 +178,9 @@ module _ {A : Type 0} where
 
         hangup_done : (s : Standing A) → IsHangupAt s n new (client_in c) (client_in later) → service_of later_hosts es2 ≡ hangs_up w session (client_in c) log s
         hangup_done (Hears state) h = freed_done (free_of (lock_due state)) h
-        hangup_done (Shut lock) h = freed_done (free_of lock) h
+        hangup_done (Failed lock) h = freed_done (free_of lock) h
         hangup_done (Waits state id) h = idles h
-        hangup_done Stranded h = idles h
+        hangup_done Disconnected h = idles h
         hangup_done Over h = idles h
 
         turn_node : (turn : Option (Turn A)) → (by_turn (client_in c) turn).node ≡ c.node
@@ -204,22 +204,22 @@ module _ {A : Type 0} where
         collect_done : new ≡ n → (s : Standing A) → IsCollectAt s n (client_in c) (client_in later) → service_of later_hosts es2 ≡ collects w session (client_in c) log s
         collect_done e (Waits state id) h = answer_done e state id.ticket (answered log id) (subst (λ o. IsAnswer state id.ticket o (client_in c) (client_in later)) (its_answer id) h)
         collect_done e (Hears state) h = idles (e, h)
-        collect_done e (Shut lock) h = idles (e, h)
-        collect_done e Stranded h = idles (e, h)
+        collect_done e (Failed lock) h = idles (e, h)
+        collect_done e Disconnected h = idles (e, h)
         collect_done e Over h = idles (e, h)
 
         lost_done : (state : State A) → (client_in c).standing ≡ Hears state → IsLost (lock_due state) n new (client_in c) (client_in later) → service_of later_hosts es2 ≡ is_lost w session (client_in c) log (client_in c).standing
-        lost_done state e h = is_kept (standing_as (client_in c) (Shut (lock_due state))) h.0 h.1 its_up ∙ ap (is_lost w session (client_in c) log) (sym e)
+        lost_done state e h = is_kept (standing_as (client_in c) (Failed (lock_due state))) h.0 h.1 its_up ∙ ap (is_lost w session (client_in c) log) (sym e)
 
         answer_lost : new ≡ n → (state : State A) (ticket : Ticket) (o : Option (Outcome A)) → IsAnswerLost state ticket o (client_in c) (client_in later) → service_of later_hosts es2 ≡ loses_answer w session (client_in c) state ticket o
         answer_lost e state ticket None h = absurd h
-        answer_lost e state ticket (Some outcome) h = is_kept (standing_as (client_in c) (Shut (lock_got state ticket outcome))) e h its_up
+        answer_lost e state ticket (Some outcome) h = is_kept (standing_as (client_in c) (Failed (lock_got state ticket outcome))) e h its_up
 
         collect_lost : new ≡ n → (s : Standing A) → IsCollectCutAt s n (client_in c) (client_in later) → service_of later_hosts es2 ≡ is_lost w session (client_in c) log s
         collect_lost e (Waits state id) h = answer_lost e state id.ticket (answered log id) (subst (λ o. IsAnswerLost state id.ticket o (client_in c) (client_in later)) (its_answer id) h)
         collect_lost e (Hears state) h = absurd h
-        collect_lost e (Shut lock) h = absurd h
-        collect_lost e Stranded h = absurd h
+        collect_lost e (Failed lock) h = absurd h
+        collect_lost e Disconnected h = absurd h
         collect_lost e Over h = absurd h
 
       -- By whether the node is up
@@ -252,8 +252,8 @@ module _ {A : Type 0} where
           go None q = refl
           go (Some log) q = rw (q) refl
       no_answer down (Hears state) h = h
-      no_answer down (Shut lock) h = h
-      no_answer down Stranded h = h
+      no_answer down (Failed lock) h = h
+      no_answer down Disconnected h = h
       no_answer down Over h = h
 
       pub collect_occurs : (cfg : Config A) → new ≡ n → IsCollectAt (client_in c).standing n (client_in c) (client_in later) → service_of later_hosts es2 ≡ occurs cfg w (event.Collect session)
@@ -287,8 +287,8 @@ module _ {A : Type 0} where
               inl (lost_done x.0 x.1 up state e lost ∙ sym (served (λ y l. is_lost w session y l y.standing) x.0 x.1 up))
           go (Hears state) e (inr crash) = inr (its_crash cfg h.0 crash)
           go (Waits state id) e p = absurd p
-          go (Shut lock) e p = absurd p
-          go Stranded e p = absurd p
+          go (Failed lock) e p = absurd p
+          go Disconnected e p = absurd p
           go Over e p = absurd p
 
       has_up : (s : Standing A) → IsCollectCutAt s n (client_in c) (client_in later) → (t : Bool) → is_up (log_of c.node n.logs) ≡ t → is_up (log_of c.node n.logs) ≡ true
@@ -300,8 +300,8 @@ module _ {A : Type 0} where
           go None q = refl
           go (Some log) q = rw (q) refl
       has_up (Hears state) h false q = absurd h
-      has_up (Shut lock) h false q = absurd h
-      has_up Stranded h false q = absurd h
+      has_up (Failed lock) h false q = absurd h
+      has_up Disconnected h false q = absurd h
       has_up Over h false q = absurd h
 
       pub collect_interrupted : (cfg : Config A) → new ≡ n → IsCollectCutAt (client_in c).standing n (client_in c) (client_in later) → IsInterrupted cfg (event.Collect session) w (service_of later_hosts es2)
@@ -441,19 +441,19 @@ module _ {A : Type 0} where
   fit_greeted (Err e) old later session client none fit h same = subst AreFit (sym same) fit
 
   -- a message arrives
-  arrives_as_up : (w : Network A) (which : ℕ) (o : Option (Sent A)) → AreAsUp w.logs (arrives w which o).logs
+  arrives_as_up : (w : Network A) (which : ℕ) (o : Option (Sent A)) → AreAsUp w.logs (message_arrives w which o).logs
   arrives_as_up w which None m = refl
   arrives_as_up w which (Some s) m =
       go (is_up (log_of s.envelope.to w.logs))
     where
-      go : (t : Bool) → is_up (log_of m (cond t (takes (record { logs = w.logs; sent = with_arrival which w.sent }) s.envelope.to (input.Arrive s.envelope)) w).logs) ≡ is_up (log_of m w.logs)
+      go : (t : Bool) → is_up (log_of m (cond t (given_input (record { logs = w.logs; sent = with_arrival which w.sent }) s.envelope.to (input.Arrive s.envelope)) w).logs) ≡ is_up (log_of m w.logs)
       go true = takes_as_up (record { logs = w.logs; sent = with_arrival which w.sent }) s.envelope.to (input.Arrive s.envelope) refl m
       go false = refl
 
-  pub nodes_arrive : (hosts later : Hosts A) (es : List (ℕ × Connection A)) (cfg : Config A) (which : ℕ) → network_of later ≡ arrives (network_of hosts) which (slice_get hosts.sent which)
+  pub nodes_arrive : (hosts later : Hosts A) (es : List (ℕ × Connection A)) (cfg : Config A) (which : ℕ) → network_of later ≡ message_arrives (network_of hosts) which (slice_get hosts.sent which)
       → service_of later es ≡ occurs cfg (service_of hosts es) (event.Arrive which)
   nodes_arrive hosts later es cfg which e =
-      let next : Network A = arrives (network_of hosts) which (slice_get hosts.sent which) in
+      let next : Network A = message_arrives (network_of hosts) which (slice_get hosts.sent which) in
       ap (λ (x : Network A). the_service x (clients_in x.logs es)) e
       ∙ ap (the_service next) (shown_alike (network_of hosts).logs next.logs (arrives_as_up (network_of hosts) which (slice_get hosts.sent which)) es)
 

@@ -1,7 +1,7 @@
 -- Events that come next in turn.
 use Rattle.std.proofs.Common.{◌≡◌, ◌≢◌, ℕ, zero, suc, ◌+◌, Option, Some, None, refl, sym, ap, ◌∙◌, arith}
-use Rattle.world.specs.Worlds.{World, Settled, next_oldest, one_more, settled, settled_by, stepped}
-use Rattle.world.specs.declared.event.Event.{Event}
+use Rattle.runs.specs.Worlds.{World, Settled, next_oldest, one_more, settled, settled_by, stepped}
+use Rattle.runs.specs.declared.event.Event.{Event}
 
 module _ {A : Type 0} where
   abbrev pub at : ℕ → World A → Settled A

@@ -10,20 +10,20 @@ use Rattle.node.specs.declared.input.Input.{Input}
 use Rattle.node.specs.declared.input.Input.TheVariants.{Crash}
 use Rattle.node.specs.declared.log.NodeLog.{NodeLog}
 use Rattle.node.proofs.Kept.{crash-push}
-use Rattle.world.specs.Clients.{Standing, Hears, Waits, Shut, Stranded, Over, Client, standing_as, stranded, client_of, with_client, without_node, all_without_node}
+use Rattle.runs.specs.Clients.{Standing, Hears, Waits, Failed, Disconnected, Over, Client, standing_as, disconnected, client_of, with_client, without_node, all_without_node}
 use Rattle.world.specs.Connections.{client_in, shown, clients_in, connection_of}
-use Rattle.world.specs.Messages.{Network, log_of, is_up, newly_sent, taken_by, takes}
+use Rattle.runs.specs.Messages.{Network, log_of, is_up, newly_sent, taken_by, given_input}
 use Rattle.world.specs.declared.connection.Connection.{Connection}
 use Rattle.world.proofs.Hosting.{crashed_down}
 use Rattle.world.proofs.HostList.{the_network}
-use Rattle.world.proofs.Logs.{log_set}
+use Rattle.runs.proofs.Logs.{log_set}
 
 module _ {A : Type 0} where
   both : {a b : Client A} {cs ds : List (ℕ × Client A)} (k : ℕ) → a ≡ b → cs ≡ ds → ((k, a) ∷ cs) ≡ ((k, b) ∷ ds)
   both k p q j = (k, p j) ∷ q j
 
   abbrev shown_by : Bool → Client A → Client A
-  shown_by up c = if up then c else standing_as c (stranded c.standing)
+  shown_by up c = if up then c else standing_as c (disconnected c.standing)
 
   pub shown_up : (logs : List (NodeLog A)) (c : Client A) → is_up (log_of c.node logs) ≡ true → shown logs c ≡ c
   shown_up logs c up = rw (up) refl
@@ -81,7 +81,7 @@ module _ {A : Type 0} where
       go false q = refl
 
   -- an input but a crash leaves each node up that is
-  pub takes_as_up : (w : Network A) (n : ℕ) (i : Input A) → is_crash i ≡ false → AreAsUp w.logs (takes w n i).logs
+  pub takes_as_up : (w : Network A) (n : ℕ) (i : Input A) → is_crash i ≡ false → AreAsUp w.logs (given_input w n i).logs
   takes_as_up w n i quiet m =
       go (log_of n w.logs) refl
     where
@@ -100,15 +100,15 @@ module _ {A : Type 0} where
 
   -- A node crashes
 
-  strands_once : (s : Standing A) → stranded (stranded s) ≡ stranded s
+  strands_once : (s : Standing A) → disconnected (disconnected s) ≡ disconnected s
   strands_once (Hears state) = refl
   strands_once (Waits state id) = refl
-  strands_once (Shut lock) = refl
-  strands_once Stranded = refl
+  strands_once (Failed lock) = refl
+  strands_once Disconnected = refl
   strands_once Over = refl
 
   abbrev without_by : Bool → Client A → Client A
-  without_by its c = if its then standing_as c (stranded c.standing) else c
+  without_by its c = if its then standing_as c (disconnected c.standing) else c
 
   -- a client shown by whether its node is up, where that is the node that crashes
   crash_one : (logs : List (NodeLog A)) (n : ℕ) (log : NodeLog A) → log_of n logs ≡ Some log → is_up (Some log) ≡ true → (c : Client A)

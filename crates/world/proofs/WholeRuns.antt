@@ -13,24 +13,24 @@ use Rattle.node.specs.declared.input.Input.{Input}
 use Rattle.node.specs.declared.input.Input.TheVariants.{Submit, Arrive, Tick, Campaign, Crash}
 use Rattle.node.specs.declared.log.NodeLog.{NodeLog}
 use Rattle.node.specs.declared.log.Opening.{Opening}
-use Rattle.world.specs.Clients.{Client, client_of, standing_as, stranded}
+use Rattle.runs.specs.Clients.{Client, client_of, standing_as, disconnected}
 use Rattle.world.specs.Connections.{service_of, client_in, shown}
 use Rattle.world.specs.Hosts.{Hosts, network_of}
-use Rattle.world.specs.Messages.{Network, NodeEvent, Submits, Arrives, Ticks, Campaigns, Crashes, log_of, is_up, newly_sent, taken_by, takes, with_arrival, arrives, happens, happen, new_logs, new_network}
-use Rattle.world.specs.Projection.{IsProjected}
-use Rattle.world.specs.Refusals.{step_refusal}
-use Rattle.world.specs.Services.{Service, Occurs, occurs, opening_of}
-use Rattle.world.specs.Settling.{ran, first_refusal, all_replies, all_performed}
-use Rattle.world.specs.Worlds.{World, IsReached, new_world, operation_of, performed_by, stepped}
-use Rattle.world.specs.declared.config.Config.{Config}
+use Rattle.runs.specs.Messages.{Network, NodeEvent, Submits, Arrives, Ticks, Campaigns, Crashes, log_of, is_up, newly_sent, taken_by, given_input, with_arrival, message_arrives, after_node_event, after_node_events, new_logs, new_network}
+use Rattle.runs.specs.Projection.{IsProjected}
+use Rattle.runs.specs.Refusals.{step_refusal}
+use Rattle.runs.specs.Services.{Service, Occurs, occurs, opening_of}
+use Rattle.runs.specs.Settling.{ran, first_refusal, all_replies, all_performed}
+use Rattle.runs.specs.Worlds.{World, IsReached, new_world, operation_of, performed_by, stepped}
+use Rattle.runs.specs.declared.config.Config.{Config}
 use Rattle.world.specs.declared.connection.Connection.{Connection}
-use Rattle.world.specs.declared.event.Event.{Event}
-use Rattle.world.specs.declared.refused.Refused.{Refused}
-use Rattle.world.specs.declared.refused.Refused.TheVariants.{Memory}
-use Rattle.world.specs.declared.sent.Sent.{Sent}
-use Rattle.world.proofs.Decisions.{reached_nodes}
-use Rattle.world.proofs.ServiceRuns.{AreOfRun}
-use Rattle.world.proofs.Serving.{every_service}
+use Rattle.runs.specs.declared.event.Event.{Event}
+use Rattle.runs.specs.declared.refused.Refused.{Refused}
+use Rattle.runs.specs.declared.refused.Refused.TheVariants.{Memory}
+use Rattle.runs.specs.declared.sent.Sent.{Sent}
+use Rattle.runs.proofs.Decisions.{reached_nodes}
+use Rattle.runs.proofs.ServiceRuns.{AreOfRun}
+use Rattle.runs.proofs.Serving.{every_service}
 use Rattle.world.proofs.Reached.{new_reached, next_reached, reached_projected}
 
 -- what is read of a list that has been read as far
@@ -101,7 +101,7 @@ module _ {A : Type 0} where
   ran_nodes cfg es = reached_nodes cfg (ran (new_world cfg) es).service (ran_reached cfg es (new_world cfg).service [] (new_reached cfg))
 
   -- the nodes stay as many as they are
-  takes_count : (w : Network A) (n : ℕ) (i : Input A) → length (takes w n i).logs ≡ length w.logs
+  takes_count : (w : Network A) (n : ℕ) (i : Input A) → length (given_input w n i).logs ≡ length w.logs
   takes_count w n i =
       go (log_of n w.logs)
     where
@@ -113,25 +113,25 @@ module _ {A : Type 0} where
       go None = refl
       go (Some log) = up log (is_up (Some log))
 
-  arrives_count : (w : Network A) (k : ℕ) (o : Option (Sent A)) → length (arrives w k o).logs ≡ length w.logs
+  arrives_count : (w : Network A) (k : ℕ) (o : Option (Sent A)) → length (message_arrives w k o).logs ≡ length w.logs
   arrives_count w k None = refl
   arrives_count w k (Some s) =
       go (is_up (log_of s.envelope.to w.logs))
     where
-      go : (t : Bool) → length (cond t (takes (record { logs = w.logs; sent = with_arrival k w.sent }) s.envelope.to (Arrive s.envelope)) w).logs ≡ length w.logs
+      go : (t : Bool) → length (cond t (given_input (record { logs = w.logs; sent = with_arrival k w.sent }) s.envelope.to (Arrive s.envelope)) w).logs ≡ length w.logs
       go true = takes_count (record { logs = w.logs; sent = with_arrival k w.sent }) s.envelope.to (Arrive s.envelope)
       go false = refl
 
-  happens_count : (w : Network A) (e : NodeEvent A) → length (happens w e).logs ≡ length w.logs
+  happens_count : (w : Network A) (e : NodeEvent A) → length (after_node_event w e).logs ≡ length w.logs
   happens_count w (Submits n name op) = takes_count w n (Submit name op)
   happens_count w (Arrives k) = arrives_count w k (slice_get w.sent k)
   happens_count w (Ticks n) = takes_count w n Tick
   happens_count w (Campaigns n) = takes_count w n Campaign
   happens_count w (Crashes n) = takes_count w n Crash
 
-  pub happen_count : (w : Network A) (es : List (NodeEvent A)) → length (happen w es).logs ≡ length w.logs
+  pub happen_count : (w : Network A) (es : List (NodeEvent A)) → length (after_node_events w es).logs ≡ length w.logs
   happen_count w [] = refl
-  happen_count w (e ∷ es) = happen_count (happens w e) es ∙ happens_count w e
+  happen_count w (e ∷ es) = happen_count (after_node_event w e) es ∙ happens_count w e
 
   new_count : (first : Opening A) (n m : ℕ) → length (new_logs first n m) ≡ m
   new_count first n zero = refl
@@ -157,7 +157,7 @@ module _ {A : Type 0} where
   shown_replies logs c =
       go (is_up (log_of c.node logs))
     where
-      go : (t : Bool) → (cond t c (standing_as c (stranded c.standing))).replies ≡ c.replies
+      go : (t : Bool) → (cond t c (standing_as c (disconnected c.standing))).replies ≡ c.replies
       go true = refl
       go false = refl
 

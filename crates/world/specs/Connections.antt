@@ -3,20 +3,20 @@ use Rattle.std.specs.Prelude.{◌≡◌, ℕ, ◌==◌, List, [], ◌∷◌, ◌
 use Rattle.maildrop.specs.CommandId.{CommandId}
 use Rattle.maildrop.specs.Ticket.{Ticket}
 use Rattle.pop3_wire.specs.declared.line.Line.{Line}
-use Rattle.session.specs.Session.{hears, awaits_answer}
+use Rattle.session.specs.Session.{takes_line, awaits_answer}
 use Rattle.session.specs.declared.state.State.{State}
 use Rattle.node.specs.declared.log.NodeLog.{NodeLog}
-use Rattle.world.specs.Clients.{Client, standing_as, stranded}
-use Rattle.world.specs.Clients as client
+use Rattle.runs.specs.Clients.{Client, standing_as, disconnected}
+use Rattle.runs.specs.Clients as client
 use Rattle.std.specs.Map.{lookup}
 use Rattle.world.specs.Hosts.{Hosts, HasAnswerAt, network_of}
-use Rattle.world.specs.Messages.{log_of, is_up}
-use Rattle.world.specs.Services.{Service}
-use Rattle.world.specs.Worlds.{answer_at}
+use Rattle.runs.specs.Messages.{log_of, is_up}
+use Rattle.runs.specs.Services.{Service}
+use Rattle.runs.specs.Worlds.{answer_at}
 use Rattle.world.specs.declared.connection.Connection.{Connection}
 use Rattle.world.specs.declared.connection.Heard.{Heard}
 use Rattle.world.specs.declared.connection.Standing.{Standing}
-use Rattle.world.specs.declared.connection.Standing.TheVariants.{Hears, Waits, Shut, Stranded, Over}
+use Rattle.world.specs.declared.connection.Standing.TheVariants.{Hears, Waits, Failed, Disconnected, Over}
 
 -- the lines that a client sent, and the tickets of the operations that they asked for
 abbrev pub lines_in : List Heard → List Line
@@ -37,7 +37,7 @@ awaited_by standing = None
 
 -- a session hears lines, or awaits an answer, as its state does
 abbrev pub IsStandingFit : {A : Type 0} → Standing → State A → Type 0
-IsStandingFit Hears state = hears state ≡ true
+IsStandingFit Hears state = takes_line state ≡ true
 IsStandingFit (Waits id) state = awaits_answer state ≡ true
 IsStandingFit standing state = Unit {0}
 
@@ -45,8 +45,8 @@ module _ {A : Type 0} where
   abbrev pub standing_in : Standing → State A → client.Standing A
   standing_in Hears state = client.Hears state
   standing_in (Waits id) state = client.Waits state id
-  standing_in (Shut lock) state = client.Shut lock
-  standing_in Stranded state = client.Stranded
+  standing_in (Failed lock) state = client.Failed lock
+  standing_in Disconnected state = client.Disconnected
   standing_in Over state = client.Over
 
   abbrev pub client_in : Connection A → Client A
@@ -67,9 +67,9 @@ module _ {A : Type 0} where
   abbrev pub IsFit : Connection A → Type 0
   IsFit c = IsStandingFit c.standing c.session.state
 
-  -- the client of a node that is down is stranded, if its session isn't over
+  -- the client of a node that is down is disconnected, if its session isn't over
   abbrev pub shown : List (NodeLog A) → Client A → Client A
-  shown logs c = if is_up (log_of c.node logs) then c else standing_as c (stranded c.standing)
+  shown logs c = if is_up (log_of c.node logs) then c else standing_as c (disconnected c.standing)
 
   abbrev pub clients_in : List (NodeLog A) → List (ℕ × Connection A) → List (ℕ × Client A)
   clients_in logs connections = map (λ e. (e.0, shown logs (client_in e.1))) connections

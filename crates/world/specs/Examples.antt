@@ -13,24 +13,24 @@ use Rattle.apop.specs.declared.method.Method.TheVariants.{Pass}
 use Rattle.pop3_wire.specs.declared.line.Line.TheVariants.{Whole}
 use Rattle.node.specs.declared.input.Input.{Input}
 use Rattle.node.specs.declared.input.Input.TheVariants.{Submit}
-use Rattle.world.specs.Clients.{new_client, client_of}
-use Rattle.world.specs.Messages.{log_of}
-use Rattle.world.specs.Projection.{own_commands, alone_bytes}
-use Rattle.world.specs.Refusals.{refusal_of, step_refusal}
+use Rattle.runs.specs.Clients.{new_client, client_of}
+use Rattle.runs.specs.Messages.{log_of}
+use Rattle.runs.specs.Projection.{own_commands, alone_bytes}
+use Rattle.runs.specs.Refusals.{refusal_of, step_refusal}
 use Rattle.world.specs.Scheduling.{reach}
-use Rattle.world.specs.Services.{Happening, Occurs, Lost, Service, run_of}
-use Rattle.world.specs.Worlds.{World, new_world, stepped, outcome_at, outcome_left, without_outcome, last_ticket, next_oldest, next_newest, settled}
-use Rattle.world.specs.declared.config.Config.{Config}
-use Rattle.world.specs.declared.event.Event.{Event}
-use Rattle.world.specs.declared.event.Event.TheVariants.{Connect, Line, Hangup, Collect, Mail, Break, Arrive, Tick, Campaign, Crash}
-use Rattle.world.specs.declared.refused.Refused.TheVariants.{NotSent, Down, NoSession, Busy, NoSuchUser, SessionExists}
+use Rattle.runs.specs.Services.{Happening, Occurs, Lost, Service, run_of}
+use Rattle.runs.specs.Worlds.{World, new_world, stepped, outcome_at, outcome_left, without_outcome, last_ticket, next_oldest, next_newest, settled}
+use Rattle.runs.specs.declared.config.Config.{Config}
+use Rattle.runs.specs.declared.event.Event.{Event}
+use Rattle.runs.specs.declared.event.Event.TheVariants.{Connect, Line, Hangup, Collect, Mail, Break, Arrive, Tick, Campaign, Crash}
+use Rattle.runs.specs.declared.refused.Refused.TheVariants.{NotSent, Down, NoSession, Busy, NoSuchUser, SessionExists}
 
 module _ (A : Type 0) (limits : Limits) where
   abbrev alice : List ℕ
   alice = codes "alice"
 
   abbrev cfg : Config A
-  cfg = record { accounts = record { name = alice; method = Pass; secret = codes "s" } ∷ []; limits = limits; cluster = 1; window = 5 }
+  cfg = record { accounts = record { name = alice; method = Pass; secret = codes "s" } ∷ []; limits = limits; cluster = 1; window = 5; kept = []; keys = 0 }
 
   abbrev connects : Event A
   connects = Connect 1 1 (record { nonce = codes "1.1"; host = codes "localhost" })

@@ -10,8 +10,8 @@ use Rattle.node.specs.declared.input.Input.TheVariants.{Crash}
 use Rattle.node.specs.declared.log.NodeLog.{NodeLog}
 use Rattle.node.specs.declared.stopped.Stopped.{Stopped}
 use Rattle.node.specs.declared.stopped.Stopped.TheVariants.{Crashed, Memory, TicketsUsed}
-use Rattle.world.specs.Messages.{Network, is_up, newly_sent, takes, with_arrival}
-use Rattle.world.specs.declared.sent.Sent.{Sent}
+use Rattle.runs.specs.Messages.{Network, is_up, newly_sent, given_input, with_arrival}
+use Rattle.runs.specs.declared.sent.Sent.{Sent}
 
 -- a node: the log that a run knows, and what is awaited of it
 pub record Host (A : Type 0) : Type 0 where
@@ -89,4 +89,4 @@ module _ {A : Type 0} where
   -- the addressee of a message crashes
   abbrev pub IsArrivalCut : Network A → Network A → Option (Sent A) → Type 0
   IsArrivalCut w new None = ⊥
-  IsArrivalCut w new (Some s) = new ≡ takes w s.envelope.to Crash
+  IsArrivalCut w new (Some s) = new ≡ given_input w s.envelope.to Crash

@@ -6,16 +6,16 @@ use Rattle.node.specs.Replay.{submits_of}
 use Rattle.node.specs.declared.log.NodeLog.{NodeLog}
 use Rattle.node.specs.declared.log.Opening.{Opening}
 use Rattle.session.specs.declared.state.State.{State}
-use Rattle.world.specs.Clients.{Client, Waits, client_of}
+use Rattle.runs.specs.Clients.{Client, Waits, client_of}
 use Rattle.world.specs.Connections.{AreFit, awaited_by, connection_of, service_of}
 use Rattle.world.specs.Hosts.{Host, Hosts, HasAnswerAt}
-use Rattle.world.specs.Messages.{log_of}
-use Rattle.world.specs.Services.{Service}
-use Rattle.world.specs.Worlds.{World, IsReached}
-use Rattle.world.specs.declared.config.Config.{Config}
+use Rattle.runs.specs.Messages.{log_of}
+use Rattle.runs.specs.Services.{Service}
+use Rattle.runs.specs.Worlds.{World, IsReached}
+use Rattle.runs.specs.declared.config.Config.{Config}
 use Rattle.world.specs.declared.connection.Connection.{Connection}
-use Rattle.world.specs.declared.event.Event.{Event}
-use Rattle.world.specs.declared.event.Event.TheVariants as event
+use Rattle.runs.specs.declared.event.Event.{Event}
+use Rattle.runs.specs.declared.event.Event.TheVariants as event
 
 module _ {A : Type 0} where
   abbrev pub world_of : Config A → Hosts A → List (ℕ × Connection A) → List (CommandId × Bool) → World A
@@ -37,14 +37,6 @@ module _ {A : Type 0} where
   abbrev pub collected_by : List (ℕ × Connection A) → Event A → Option CommandId
   collected_by connections (event.Collect session) = awaited_in (connection_of session connections)
   collected_by connections event = None
-
-  -- the session that an event is about, if it is about one
-  abbrev pub session_of : Event A → Option ℕ
-  session_of (event.Connect session node stamp) = Some session
-  session_of (event.Line session line) = Some session
-  session_of (event.Hangup session) = Some session
-  session_of (event.Collect session) = Some session
-  session_of event = None
 
   -- the node of the command's ticket has given that ticket to the command's user
   pub record IsGiven (w : Service A) (id : CommandId) : Type 0 where

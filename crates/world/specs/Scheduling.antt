@@ -4,10 +4,10 @@ use Rattle.std.specs.Int.{w64, bit_not}
 use Rattle.node.specs.declared.log.NodeLog.{NodeLog}
 use Rattle.world.specs.Connections.{service_of, client_in, shown}
 use Rattle.world.specs.Hosts.{Hosts}
-use Rattle.world.specs.Messages.{Network, log_of, is_up}
-use Rattle.world.specs.Worlds.{is_answered}
+use Rattle.runs.specs.Messages.{Network, log_of, is_up}
+use Rattle.runs.specs.Worlds.{is_answered}
 use Rattle.world.specs.declared.connection.Connection.{Connection}
-use Rattle.world.specs.declared.sent.Sent.{Sent}
+use Rattle.runs.specs.declared.sent.Sent.{Sent}
 
 -- how far the block of a place goes, on either side of it: the ones at the end of its number in binary
 unfoldable pub reach : ℕ → ℕ

@@ -11,10 +11,10 @@ use Rattle.session.specs.declared.state.Step.{Step}
 use Rattle.session.specs.declared.state.Step.TheVariants.{Say, Ask, SayAndClose}
 use Rattle.node.specs.declared.input.Input.TheVariants.{Submit, Crash}
 use Rattle.node.specs.declared.log.NodeLog.{NodeLog}
-use Rattle.world.specs.Clients.{Standing, Hears, Waits, Shut, Stranded, Over, Client, standing_as, stranded, told, with_line, asking}
-use Rattle.world.specs.Messages.{Network, log_of, is_up, takes}
-use Rattle.world.specs.Services.{next_id, by_turn}
-use Rattle.world.specs.Worlds.{answer_at}
+use Rattle.runs.specs.Clients.{Standing, Hears, Waits, Failed, Disconnected, Over, Client, standing_as, disconnected, told, with_line, asking}
+use Rattle.runs.specs.Messages.{Network, log_of, is_up, given_input}
+use Rattle.runs.specs.Services.{next_id, by_turn}
+use Rattle.runs.specs.Worlds.{answer_at}
 
 -- by whether a node is up
 abbrev pub IsIfUp : Bool → Type 0 → Type 0 → Type 0
@@ -28,11 +28,11 @@ module _ {A : Type 0} where
 
   -- the client's node crashes
   abbrev pub IsCrash : Network A → Network A → Client A → Client A → Type 0
-  IsCrash n new c later = (new ≡ takes n c.node Crash) × (later ≡ standing_as c (stranded c.standing))
+  IsCrash n new c later = (new ≡ given_input n c.node Crash) × (later ≡ standing_as c (disconnected c.standing))
 
   -- a session is lost, and this lock is still to be given back
   abbrev pub IsLost : Option (List ℕ × Ticket) → Network A → Network A → Client A → Client A → Type 0
-  IsLost lock n new c later = (new ≡ n) × (later ≡ standing_as c (Shut lock))
+  IsLost lock n new c later = (new ≡ n) × (later ≡ standing_as c (Failed lock))
 
   -- the step that a line brings, which the client has sent
   abbrev pub IsAsking : Client A → Client A → State A → List ℕ → Option (NodeLog A) → Type 0
@@ -42,11 +42,11 @@ module _ {A : Type 0} where
   abbrev pub IsStep : State A → Step A → Network A → Network A → Client A → Client A → Type 0
   IsStep state (Say bytes) n new c later = (new ≡ n) × (later ≡ told c bytes (Hears state))
   IsStep state (SayAndClose bytes) n new c later = (new ≡ n) × (later ≡ told c bytes Over)
-  IsStep state (Ask user op) n new c later = (new ≡ takes n c.node (Submit user op)) × IsAsking c later state user (log_of c.node n.logs)
+  IsStep state (Ask user op) n new c later = (new ≡ given_input n c.node (Submit user op)) × IsAsking c later state user (log_of c.node n.logs)
 
   -- there was no memory for it
   abbrev pub IsStepCut : State A → Step A → Network A → Network A → Client A → Client A → Type 0
-  IsStepCut state (Ask user op) n new c later = (new ≡ takes n c.node Crash) × (later ≡ standing_as c Stranded)
+  IsStepCut state (Ask user op) n new c later = (new ≡ given_input n c.node Crash) × (later ≡ standing_as c Disconnected)
   IsStepCut state step n new c later = IsLost (lock_due state) n new c later
 
   -- a line
@@ -79,7 +79,7 @@ module _ {A : Type 0} where
 
   abbrev pub IsAnswerLost : State A → Ticket → Option (Outcome A) → Client A → Client A → Type 0
   IsAnswerLost state ticket None c later = ⊥
-  IsAnswerLost state ticket (Some outcome) c later = later ≡ standing_as c (Shut (lock_got state ticket outcome))
+  IsAnswerLost state ticket (Some outcome) c later = later ≡ standing_as c (Failed (lock_got state ticket outcome))
 
   abbrev pub IsCollectCutAt : Standing A → Network A → Client A → Client A → Type 0
   IsCollectCutAt (Waits state id) n c later = IsAnswerLost state id.ticket (answer_at (log_of c.node n.logs) id) c later
@@ -88,11 +88,11 @@ module _ {A : Type 0} where
   -- a hangup
   abbrev pub IsFreed : Option (List ℕ × Op A) → Network A → Network A → Client A → Client A → Type 0
   IsFreed None n new c later = (new ≡ n) × (later ≡ standing_as c Over)
-  IsFreed (Some free) n new c later = (new ≡ takes n c.node (Submit free.0 free.1)) × (later ≡ standing_as c Over)
+  IsFreed (Some free) n new c later = (new ≡ given_input n c.node (Submit free.0 free.1)) × (later ≡ standing_as c Over)
 
   abbrev pub IsHangupAt : Standing A → Network A → Network A → Client A → Client A → Type 0
   IsHangupAt (Hears state) n new c later = IsFreed (free_of (lock_due state)) n new c later
-  IsHangupAt (Shut lock) n new c later = IsFreed (free_of lock) n new c later
+  IsHangupAt (Failed lock) n new c later = IsFreed (free_of lock) n new c later
   IsHangupAt standing n new c later = IsIdle n new c later
 
   abbrev pub IsHangup : Network A → Network A → Client A → Client A → Type 0

@@ -12,7 +12,7 @@ use Rattle.node.specs.declared.log.NodeLog.{NodeLog}
 use Rattle.replica.specs.Replicas.{has_identity}
 use Rattle.world.specs.Connections.{awaited_by}
 use Rattle.world.specs.Hosts.{Hosts, network_of}
-use Rattle.world.specs.Messages.{log_of, is_up}
+use Rattle.runs.specs.Messages.{log_of, is_up}
 use Rattle.world.specs.declared.connection.Connection.{Connection}
 
 pub record Waiting : Type 0 where

@@ -3,25 +3,25 @@ ghost use Rattle.std.specs.Prelude.{◌≡◌, ◌++◌, ℕ, List, Some, None, 
 ghost use Rattle.std.specs.Map.{lookup};
 ghost use Rattle.world.specs.Connections.{service_of, AreFit, AreUntaken};
 ghost use Rattle.world.specs.Hosts.{network_of, HasAnswerAt};
-ghost use Rattle.world.specs.Interrupted.{IsInterrupted};
-ghost use Rattle.world.specs.Kept.{collected_by, session_of};
-ghost use Rattle.world.specs.Refusals.{refusal_of};
-ghost use Rattle.world.specs.Services.{occurs, next_id};
-ghost use Rattle.world.specs.Messages.{log_of, takes};
+ghost use Rattle.runs.specs.Interrupted.{IsInterrupted};
+ghost use Rattle.runs.specs.Events.{session_of};
+ghost use Rattle.world.specs.Kept.{collected_by};
+ghost use Rattle.runs.specs.Refusals.{refusal_of};
+ghost use Rattle.runs.specs.Services.{occurs, next_id};
+ghost use Rattle.runs.specs.Messages.{log_of, given_input};
 ghost use Rattle.world.specs.Waiting.{KeepsOthersOf};
-ghost use Rattle.world.specs.Worlds.{operation_of};
+ghost use Rattle.runs.specs.Worlds.{operation_of};
 ghost use Rattle.node.specs.declared.log.NodeLog.{NodeLog};
 ghost use Rattle.node.specs.declared.input.Input.TheVariants.{Crash};
 ghost use Rattle.maildrop.specs.CommandId.{CommandId, same_id};
 
-use crate::config::Config;
-use crate::event::Event;
 use crate::hosts::Hosts;
 use crate::operations::{Operations, submit};
-use crate::session_table::Sessions;
+use crate::sessions::Sessions;
 use ballot::{Memory, NodeId};
 use maildrop::Op;
 use node::Input;
+use runs::{Config, Event};
 use std::alloc::Allocator;
 
 /// An event that can happen does. After `Memory` the node or the session that found none is down.
@@ -80,8 +80,8 @@ fn give<A: Allocator + Copy>(
     node: NodeId,
     input: Input<A>,
 ) -> Result<(), Memory>
-    ensures ok { OnOk result (network_of hosts.new ≡ takes (network_of hosts.old) node input) }
-    ensures err { OnErr result (network_of hosts.new ≡ takes (network_of hosts.old) node Crash) }
+    ensures ok { OnOk result (network_of hosts.new ≡ given_input (network_of hosts.old) node input) }
+    ensures err { OnErr result (network_of hosts.new ≡ given_input (network_of hosts.old) node Crash) }
     ensures answers { (n : ℕ) (id : CommandId) → HasAnswerAt n id hosts.old → HasAnswerAt n id hosts.new }
 {
     match hosts.take(node, input) {

@@ -4,11 +4,11 @@ ghost use Rattle.std.specs.Ordering.{is_eq};
 ghost use Rattle.maildrop.specs.CommandId.{CommandId, compare_ids};
 ghost use Rattle.session.specs.Dialogue.{IsSettled};
 ghost use Rattle.session.specs.Session.{awaits_answer, by_answer, lock_due, lock_got};
-ghost use Rattle.world.specs.Clients.{Shut, standing_as};
+ghost use Rattle.runs.specs.Clients.{Failed, standing_as};
 ghost use Rattle.world.specs.Connections.{client_in, awaited_by, IsFit};
 ghost use Rattle.world.specs.Hosts.{network_of, HasAnswerAt};
 ghost use Rattle.world.specs.Served.{IsCollectAt, IsCollectCutAt};
-ghost use Rattle.world.specs.Services.{by_turn, after_answer};
+ghost use Rattle.runs.specs.Services.{by_turn, after_answer};
 
 use crate::connection::{Connection, Standing};
 use crate::hosts::Hosts;
@@ -43,7 +43,7 @@ impl<A: Allocator + Copy> Connection<A> {
     fn hear_answer(&mut self, id: CommandId, outcome: &Outcome<A>) -> Result<(), Memory>
         requires { awaits_answer self.old.session.state ≡ true }
         ensures ok { OnOk result (client_in self.new ≡ by_turn (client_in self.old) (by_answer self.old.session.state id.ticket outcome.now)) }
-        ensures err { OnErr result (client_in self.new ≡ standing_as (client_in self.old) (Shut (lock_got self.old.session.state id.ticket outcome.now))) }
+        ensures err { OnErr result (client_in self.new ≡ standing_as (client_in self.old) (Failed (lock_got self.old.session.state id.ticket outcome.now))) }
         ensures fit { IsFit self.new }
     {
         let (_, ticket) = id.get();
@@ -65,12 +65,12 @@ impl<A: Allocator + Copy> Connection<A> {
         requires settled { IsSettled step self.old.session.state }
         requires says { awaits_answer self.old.session.state ≡ false }
         ensures ok { OnOk result (client_in self.new ≡ after_answer (client_in self.old) self.old.session.state step) }
-        ensures err { OnErr result (client_in self.new ≡ standing_as (client_in self.old) (Shut (lock_due self.old.session.state))) }
+        ensures err { OnErr result (client_in self.new ≡ standing_as (client_in self.old) (Failed (lock_due self.old.session.state))) }
         ensures fit { IsFit self.new }
     {
         match step {
-            Step::Say(bytes) => self.tell(bytes, Standing::Hears),
-            Step::SayAndClose(bytes) => self.tell(bytes, Standing::Over),
+            Step::Say(bytes) => self.tell(&bytes, Standing::Hears),
+            Step::SayAndClose(bytes) => self.tell(&bytes, Standing::Over),
             Step::Ask(..) => unreachable!(),
         }
     }

@@ -3,18 +3,18 @@ ghost use Rattle.std.specs.Prelude.{◌≡◌, false, List, ℕ, Option, IfOk, O
 ghost use Rattle.maildrop.specs.Ticket.{Ticket};
 ghost use Rattle.node.specs.declared.log.NodeLog.{NodeLog};
 ghost use Rattle.session.specs.Session.{awaits_answer, lock_due, free_of};
-ghost use Rattle.world.specs.Clients.{Shut, new_client, standing_as, told};
+ghost use Rattle.runs.specs.Clients.{Failed, new_client, standing_as, told};
 ghost use Rattle.session.specs.declared.state.State.TheVariants.{Closed};
 ghost use Rattle.world.specs.Connections.{client_in, standing_in, awaited_by, IsFit, IsThere};
-ghost use Rattle.world.specs.Messages.{is_up};
-ghost use Rattle.world.specs.Refusals as spec;
+ghost use Rattle.runs.specs.Messages.{is_up};
+ghost use Rattle.runs.specs.Refusals as spec;
 
-use crate::refused::Refused;
 use apop::Stamp;
 use ballot::{Items, Memory, NodeId};
 use maildrop::{CommandId, Name, Op, Ticket};
 use pop3_wire::Line;
-use session::Session;
+use runs::Refused;
+use session::{ReplyBytes, Session};
 use std::alloc::{Allocator, Global};
 
 /// A line that a client sent, with the ticket of the operation that it asked for, if it asked for one.
@@ -34,9 +34,9 @@ pub(crate) enum Standing {
     /// It awaits the answer to this command.
     Waits(CommandId),
     /// It was lost for want of memory. A hangup gives this lock back.
-    Shut(Option<(Name, Ticket)>),
+    Failed(Option<(Name, Ticket)>),
     /// Its node has crashed before it was over.
-    Stranded,
+    Disconnected,
     /// It is over.
     Over,
 }
@@ -100,24 +100,24 @@ impl<A: Allocator + Copy> Connection<A> {
     /// Gives up the session for want of memory. A lock that it holds is given back by a hangup.
     pub(crate) fn lose(&mut self)
         requires { awaits_answer self.old.session.state ≡ false }
-        ensures client { client_in self.new ≡ standing_as (client_in self.old) (Shut (lock_due self.old.session.state)) }
+        ensures client { client_in self.new ≡ standing_as (client_in self.old) (Failed (lock_due self.old.session.state)) }
         ensures heard { self.new.heard ≡ self.old.heard }
         ensures fit { IsFit self.new }
     {
         let lock = self.end();
-        self.standing = Standing::Shut(lock);
+        self.standing = Standing::Failed(lock);
     }
 
     /// The client is told something, and the session stands so from then on. After `Memory` the session is lost.
-    pub(crate) fn tell(&mut self, bytes: Items<u8, A>, standing: Standing) -> Result<(), Memory>
+    pub(crate) fn tell(&mut self, bytes: &ReplyBytes<A>, standing: Standing) -> Result<(), Memory>
         requires { awaits_answer self.old.session.state ≡ false }
-        ensures told { OnOk result (client_in self.new ≡ told (client_in self.old) bytes (standing_in standing self.old.session.state)) }
+        ensures told { OnOk result (client_in self.new ≡ told (client_in self.old) bytes.now (standing_in standing self.old.session.state)) }
         ensures stands { OnOk result ((self.new.standing ≡ standing) × (self.new.session.state ≡ self.old.session.state)) }
         ensures heard { self.new.heard ≡ self.old.heard }
-        ensures lost { OnErr result (client_in self.new ≡ standing_as (client_in self.old) (Shut (lock_due self.old.session.state))) }
+        ensures lost { OnErr result (client_in self.new ≡ standing_as (client_in self.old) (Failed (lock_due self.old.session.state))) }
         ensures fit { OnErr result (IsFit self.new) }
     {
-        if self.replies.append(bytes).is_err() {
+        if bytes.append_to(&mut self.replies).is_err() {
             self.lose();
             return Err(Memory);
         }
@@ -130,8 +130,8 @@ impl<A: Allocator + Copy> Connection<A> {
         ensures { (log : Option (NodeLog A)) → up ≡ is_up log → result ≡ spec.line_refusal log (standing_in self.now.standing self.now.session.state) }
     {
         match &self.standing {
-            Standing::Shut(_) | Standing::Over => Some(Refused::NoSession),
-            Standing::Stranded => Some(Refused::Down),
+            Standing::Failed(_) | Standing::Over => Some(Refused::NoSession),
+            Standing::Disconnected => Some(Refused::Down),
             _ if !up => Some(Refused::Down),
             Standing::Waits(_) => Some(Refused::Busy),
             Standing::Hears => None,
@@ -144,10 +144,10 @@ impl<A: Allocator + Copy> Connection<A> {
     {
         match &self.standing {
             Standing::Over => Some(Refused::NoSession),
-            Standing::Stranded => Some(Refused::Down),
+            Standing::Disconnected => Some(Refused::Down),
             _ if !up => Some(Refused::Down),
             Standing::Waits(_) => Some(Refused::Busy),
-            Standing::Hears | Standing::Shut(_) => None,
+            Standing::Hears | Standing::Failed(_) => None,
         }
     }
 
@@ -167,8 +167,8 @@ impl<A: Allocator + Copy> Connection<A> {
         ensures { (log : Option (NodeLog A)) → up ≡ is_up log → IsThere there log self.now.standing → result ≡ spec.collect_refusal log (standing_in self.now.standing self.now.session.state) }
     {
         match &self.standing {
-            Standing::Shut(_) | Standing::Over => Some(Refused::NoSession),
-            Standing::Stranded => Some(Refused::Down),
+            Standing::Failed(_) | Standing::Over => Some(Refused::NoSession),
+            Standing::Disconnected => Some(Refused::Down),
             _ if !up => Some(Refused::Down),
             Standing::Waits(_) if there => None,
             Standing::Waits(_) | Standing::Hears => Some(Refused::Busy),

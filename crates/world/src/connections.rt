@@ -3,23 +3,23 @@ ghost use Rattle.std.specs.Prelude.{◌≡◌, ◌==◌, ℕ, false, Some, OnOk,
 ghost use Rattle.indexmap.specs.IndexMap.{insert_entry};
 ghost use Rattle.std.specs.Ordering.{is_eq};
 ghost use Rattle.maildrop.specs.CommandId.{CommandId, compare_ids};
-ghost use Rattle.world.specs.Clients.{new_client};
+ghost use Rattle.runs.specs.Clients.{new_client};
 ghost use Rattle.world.specs.Connections.{service_of, client_in, IsFit, AreFit, AreUntaken, connection_of, awaited_by};
 ghost use Rattle.world.specs.Hosts.{HasAnswerAt};
-ghost use Rattle.world.specs.Interrupted.{IsInterrupted};
-ghost use Rattle.world.specs.Services.{occurs};
+ghost use Rattle.runs.specs.Interrupted.{IsInterrupted};
+ghost use Rattle.runs.specs.Services.{occurs};
 ghost use Rattle.world.specs.Waiting.{KeepsOthers};
-ghost use Rattle.world.specs.declared.config.Config.{Config};
+ghost use Rattle.runs.specs.declared.config.Config.{Config};
 ghost use Rattle.world.specs.declared.connection.Connection.{Connection};
-ghost use Rattle.world.specs.declared.event.Event.TheVariants as event;
+ghost use Rattle.runs.specs.declared.event.Event.TheVariants as event;
 
 use crate::connection::Connection;
 use crate::hosts::Hosts;
-use crate::session_id::SessionId;
 use apop::{Accounts, Stamp};
 use ballot::{Memory, NodeId};
 use indexmap::IndexMap;
 use pop3_wire::Line;
+use runs::SessionId;
 use std::alloc::Allocator;
 use std::hash::{BuildHasherDefault, FoldHasher};
 

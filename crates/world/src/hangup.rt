@@ -1,12 +1,13 @@
 //! Clients that are gone.
 ghost use Rattle.std.specs.Prelude.{◌≡◌, true, List, ℕ, OnOk, OnErr};
 ghost use Rattle.maildrop.specs.CommandId.{CommandId};
-ghost use Rattle.node.specs.declared.input.Input.TheVariants.{Crash};
-ghost use Rattle.session.specs.Session.{hears, lock_due, free_of};
-ghost use Rattle.world.specs.Clients.{Stranded, standing_as};
+ghost use Rattle.maildrop.specs.declared.op.Op.TheVariants.{Free};
+ghost use Rattle.node.specs.declared.input.Input.TheVariants.{Crash, Submit};
+ghost use Rattle.session.specs.Session.{takes_line, lock_due, free_of};
+ghost use Rattle.runs.specs.Clients.{Disconnected, standing_as};
 ghost use Rattle.world.specs.Connections.{client_in, IsFit};
 ghost use Rattle.world.specs.Hosts.{network_of, HasAnswerAt};
-ghost use Rattle.world.specs.Messages.{is_up, log_of, takes};
+ghost use Rattle.runs.specs.Messages.{is_up, log_of, given_input};
 ghost use Rattle.world.specs.Served.{IsHangup, IsHangupCut, IsFreed};
 
 use crate::connection::{Connection, Standing};
@@ -30,7 +31,7 @@ impl<A: Allocator + Copy> Connection<A> {
         }
         match &self.standing {
             Standing::Hears => self.leave(hosts),
-            Standing::Shut(lock) => {
+            Standing::Failed(lock) => {
                 let lock = *lock;
                 self.give_back(hosts, lock)
             }
@@ -40,10 +41,10 @@ impl<A: Allocator + Copy> Connection<A> {
 
     /// Ends a session that hears lines. After `Memory` its node has crashed.
     fn leave(&mut self, hosts: &mut Hosts<A>) -> Result<(), Memory>
-        requires hearing { hears self.old.session.state ≡ true }
+        requires hearing { takes_line self.old.session.state ≡ true }
         requires up { is_up (log_of self.old.node (network_of hosts.old).logs) ≡ true }
         ensures ok { OnOk result (IsFreed (free_of (lock_due self.old.session.state)) (network_of hosts.old) (network_of hosts.new) (client_in self.old) (client_in self.new)) }
-        ensures err { OnErr result ((network_of hosts.new ≡ takes (network_of hosts.old) self.old.node Crash) × (client_in self.new ≡ standing_as (client_in self.old) Stranded)) }
+        ensures err { OnErr result ((network_of hosts.new ≡ given_input (network_of hosts.old) self.old.node Crash) × (client_in self.new ≡ standing_as (client_in self.old) Disconnected)) }
         ensures fit { IsFit self.new }
         ensures answers { (n : ℕ) (id : CommandId) → HasAnswerAt n id hosts.old → HasAnswerAt n id hosts.new }
     {
@@ -51,7 +52,7 @@ impl<A: Allocator + Copy> Connection<A> {
         match self.give_back(hosts, lock) {
             Ok(()) => Ok(()),
             Err(error) => {
-                self.standing = Standing::Stranded;
+                self.standing = Standing::Disconnected;
                 Err(error)
             }
         }
@@ -65,14 +66,25 @@ impl<A: Allocator + Copy> Connection<A> {
     ) -> Result<(), Memory>
         requires { is_up (log_of self.old.node (network_of hosts.old).logs) ≡ true }
         ensures ok { OnOk result (IsFreed (free_of lock) (network_of hosts.old) (network_of hosts.new) (client_in self.old) (client_in self.new)) }
-        ensures err { OnErr result ((network_of hosts.new ≡ takes (network_of hosts.old) self.old.node Crash) × (self.new ≡ self.old)) }
+        ensures err { OnErr result ((network_of hosts.new ≡ given_input (network_of hosts.old) self.old.node Crash) × (self.new ≡ self.old)) }
         ensures fit { OnOk result (IsFit self.new) }
         ensures answers { (n : ℕ) (id : CommandId) → HasAnswerAt n id hosts.old → HasAnswerAt n id hosts.new }
     {
-        if let Some((user, lock)) = lock {
-            let _ = hosts.submit(self.node, user, Op::Free { lock })?;
+        if let Some(lock) = lock {
+            self.free(hosts, lock)?;
         }
         self.standing = Standing::Over;
+        Ok(())
+    }
+
+    /// Its node is asked to give a lock back. After `Memory` the node has crashed.
+    fn free(&self, hosts: &mut Hosts<A>, lock: (Name, Ticket)) -> Result<(), Memory>
+        requires { is_up (log_of self.now.node (network_of hosts.old).logs) ≡ true }
+        ensures ok { OnOk result (network_of hosts.new ≡ given_input (network_of hosts.old) self.now.node (Submit lock.0 (Free lock.1))) }
+        ensures err { OnErr result (network_of hosts.new ≡ given_input (network_of hosts.old) self.now.node Crash) }
+        ensures answers { (n : ℕ) (id : CommandId) → HasAnswerAt n id hosts.old → HasAnswerAt n id hosts.new }
+    {
+        let _ = hosts.submit(self.node, lock.0, Op::Free { lock: lock.1 })?;
         Ok(())
     }
 }

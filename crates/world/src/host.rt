@@ -6,8 +6,8 @@ ghost use Rattle.node.specs.Nodes.{logged};
 ghost use Rattle.node.specs.Replay.{replayed, sends_of, ticket_of};
 ghost use Rattle.node.specs.declared.input.Input.TheVariants.{Crash};
 ghost use Rattle.world.specs.Hosts.{HasAnswer, log_after, sent_after, ticket_at};
-ghost use Rattle.world.specs.Messages.{is_up, newly_sent, last_ticket_of};
-ghost use Rattle.world.specs.Worlds.{answer_at};
+ghost use Rattle.runs.specs.Messages.{is_up, newly_sent, last_ticket_of};
+ghost use Rattle.runs.specs.Worlds.{answer_at};
 
 use crate::sent_messages::SentMessages;
 use ballot::{Memory, Slot};

@@ -5,7 +5,7 @@
 //! become more, and a node that is down stays down: an entry that wasn't brought up to date is too small, and never wrong.
 ghost use Rattle.std.specs.Prelude.{◌≡◌, ◌+◌, ◌^◌, ◌<◌, ◌≤◌, slice_get};
 ghost use Rattle.world.specs.Hosts.{network_of};
-ghost use Rattle.world.specs.Messages.{Network};
+ghost use Rattle.runs.specs.Messages.{Network};
 ghost use Rattle.world.specs.Scheduling.{reach, HasArrived, HaveArrived, IsFewest, AreFewest};
 
 use crate::nodes::Nodes;

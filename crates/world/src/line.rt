@@ -2,23 +2,23 @@
 ghost use Rattle.std.specs.Prelude.{◌≡◌, ◌<◌, true, false, ℕ, OnOk, OnErr, vec_len, vec_capacity};
 ghost use Rattle.maildrop.specs.CommandId.{CommandId};
 ghost use Rattle.session.specs.Dialogue.{IsSettled};
-ghost use Rattle.session.specs.Session.{hears, awaits_answer, lock_due};
+ghost use Rattle.session.specs.Session.{takes_line, awaits_answer, lock_due};
 ghost use Rattle.session.specs.declared.state.Step.TheVariants.{Ask};
-ghost use Rattle.world.specs.Clients as client;
-ghost use Rattle.world.specs.Clients.{Shut, told, standing_as, with_line};
+ghost use Rattle.runs.specs.Clients as client;
+ghost use Rattle.runs.specs.Clients.{Failed, told, standing_as, with_line};
 ghost use Rattle.world.specs.Connections.{client_in, standing_in, IsFit};
 ghost use Rattle.world.specs.Hosts.{network_of, HasAnswerAt};
-ghost use Rattle.world.specs.Messages.{is_up, log_of};
+ghost use Rattle.runs.specs.Messages.{is_up, log_of};
 ghost use Rattle.world.specs.Served.{IsLine, IsLineAt, IsLineCut, IsCutAt, IsStep, IsStepCut};
 ghost use Rattle.world.specs.declared.connection.Standing.TheVariants.{Hears};
 
 use crate::connection::{Connection, Heard, Standing};
 use crate::hosts::Hosts;
 use apop::Accounts;
-use ballot::{Items, Memory};
+use ballot::Memory;
 use maildrop::{CommandId, Name, Op};
 use pop3_wire::Line;
-use session::Step;
+use session::{ReplyBytes, Step};
 use std::alloc::Allocator;
 
 impl<A: Allocator + Copy> Connection<A> {
@@ -53,7 +53,7 @@ impl<A: Allocator + Copy> Connection<A> {
         accounts: &Accounts<A>,
         line: Line,
     ) -> Result<(), Memory>
-        requires hearing { hears self.old.session.state ≡ true }
+        requires hearing { takes_line self.old.session.state ≡ true }
         requires stands { self.old.standing ≡ Hears }
         requires up { is_up (log_of self.old.node (network_of hosts.old).logs) ≡ true }
         ensures ok { OnOk result (IsLineAt accounts.now line (client.Hears self.old.session.state) (network_of hosts.old) (network_of hosts.new) (client_in self.old) (client_in self.new)) }
@@ -77,7 +77,7 @@ impl<A: Allocator + Copy> Connection<A> {
         accounts: &Accounts<A>,
         line: Line,
     ) -> Result<(), Memory>
-        requires hearing { hears self.old.session.state ≡ true }
+        requires hearing { takes_line self.old.session.state ≡ true }
         requires stands { self.old.standing ≡ Hears }
         requires room { vec_len self.old.heard < vec_capacity self.old.heard }
         requires up { is_up (log_of self.old.node (network_of hosts.old).logs) ≡ true }
@@ -107,19 +107,19 @@ impl<A: Allocator + Copy> Connection<A> {
         ensures answers { (n : ℕ) (id : CommandId) → HasAnswerAt n id hosts.old → HasAnswerAt n id hosts.new }
     {
         match step {
-            Step::Say(bytes) => self.reply(line, bytes, Standing::Hears),
-            Step::SayAndClose(bytes) => self.reply(line, bytes, Standing::Over),
+            Step::Say(bytes) => self.reply(line, &bytes, Standing::Hears),
+            Step::SayAndClose(bytes) => self.reply(line, &bytes, Standing::Over),
             Step::Ask(user, op) => self.ask(hosts, line, user, op),
         }
     }
 
     /// Answers a line. After `Memory` the session is lost.
-    fn reply(&mut self, line: Line, bytes: Items<u8, A>, standing: Standing) -> Result<(), Memory>
+    fn reply(&mut self, line: Line, bytes: &ReplyBytes<A>, standing: Standing) -> Result<(), Memory>
         requires settled { awaits_answer self.old.session.state ≡ false }
         requires room { vec_len self.old.heard < vec_capacity self.old.heard }
-        ensures told { OnOk result (client_in self.new ≡ told (with_line (client_in self.old) line) bytes (standing_in standing self.old.session.state)) }
+        ensures told { OnOk result (client_in self.new ≡ told (with_line (client_in self.old) line) bytes.now (standing_in standing self.old.session.state)) }
         ensures stands { OnOk result ((self.new.standing ≡ standing) × (self.new.session.state ≡ self.old.session.state)) }
-        ensures lost { OnErr result (client_in self.new ≡ standing_as (client_in self.old) (Shut (lock_due self.old.session.state))) }
+        ensures lost { OnErr result (client_in self.new ≡ standing_as (client_in self.old) (Failed (lock_due self.old.session.state))) }
         ensures fit { OnErr result (IsFit self.new) }
     {
         match self.tell(bytes, standing) {
@@ -152,7 +152,7 @@ impl<A: Allocator + Copy> Connection<A> {
             }
             Ok(None) => unreachable!(),
             Err(error) => {
-                self.standing = Standing::Stranded;
+                self.standing = Standing::Disconnected;
                 Err(error)
             }
         }

@@ -3,18 +3,17 @@ ghost use Rattle.std.specs.Prelude.{◌≡◌, ℕ, List, Some, None, true, fals
 ghost use Rattle.maildrop.specs.CommandId.{CommandId};
 ghost use Rattle.world.specs.Connections.{service_of, connection_of, awaited_by, AreUntaken};
 ghost use Rattle.world.specs.Hosts.{HasAnswerAt};
-ghost use Rattle.world.specs.Refusals.{step_refusal};
+ghost use Rattle.runs.specs.Refusals.{step_refusal};
 ghost use Rattle.world.specs.Scheduling.{has_its_answer};
 ghost use Rattle.world.specs.Waiting.{IsUpToDate};
-ghost use Rattle.world.specs.Worlds as spec;
-ghost use Rattle.world.specs.declared.config.Config.{Config};
+ghost use Rattle.runs.specs.Worlds as spec;
+ghost use Rattle.runs.specs.declared.config.Config.{Config};
 ghost use Rattle.world.specs.declared.connection.Connection.{Connection};
 
 use crate::connection::Connection;
-use crate::event::Event;
 use crate::hosts::Hosts;
-use crate::session_id::SessionId;
-use crate::session_table::Sessions;
+use crate::sessions::Sessions;
+use runs::{Event, SessionId};
 use std::alloc::Allocator;
 
 /// The session that connected as this number, counted from 0, if the answer is there that it awaits, at a node that is up.

@@ -4,16 +4,16 @@ ghost use Rattle.std.specs.Ordering.{is_eq};
 ghost use Rattle.maildrop.specs.CommandId.{CommandId, compare_ids};
 ghost use Rattle.node.specs.declared.input.Input.TheVariants.{Crash};
 ghost use Rattle.world.specs.Hosts.{network_of, HasAnswerAt, IsArrivalCut, ticket_at, can_count, counted};
-ghost use Rattle.world.specs.Messages.{is_up, log_of, takes, arrives};
-ghost use Rattle.world.specs.Worlds.{answer_at, last_ticket_in, performed_in};
-ghost use Rattle.world.specs.declared.sent.Sent.{Sent};
+ghost use Rattle.runs.specs.Messages.{is_up, log_of, given_input, message_arrives};
+ghost use Rattle.runs.specs.Worlds.{answer_at, last_ticket_in, performed_in};
+ghost use Rattle.runs.specs.declared.sent.Sent.{Sent};
 
 use crate::host::Host;
-use crate::sent::Sent;
 use crate::sent_messages::{SentMessages, arriving};
 use ballot::{Memory, NodeId, Slot};
 use maildrop::{CommandId, Name, Outcome, SharedCommand, Ticket};
 use node::Input;
+use runs::Sent;
 use std::alloc::{Allocator, Global};
 use std::marker::Model;
 
@@ -70,9 +70,9 @@ impl<A: Allocator + Copy> Nodes<A> {
     /// A node takes an input, and what that brings is sent. Gives the ticket of a `Submit`. Where the node isn't there,
     /// or isn't up, nothing happens. After `Memory` it has crashed.
     pub(crate) fn take(&mut self, node: NodeId, input: Input<A>) -> Result<Option<Ticket>, Memory>
-        ensures ok { OnOk result (network_of self.new ≡ takes (network_of self.old) node input) }
+        ensures ok { OnOk result (network_of self.new ≡ given_input (network_of self.old) node input) }
         ensures ticket { IfOk result (λ ticket. ticket ≡ ticket_at (log_of node (network_of self.old).logs) input) }
-        ensures err { OnErr result (network_of self.new ≡ takes (network_of self.old) node Crash) }
+        ensures err { OnErr result (network_of self.new ≡ given_input (network_of self.old) node Crash) }
         ensures answers { (n : ℕ) (id : CommandId) → HasAnswerAt n id self.old → HasAnswerAt n id self.new }
     {
         let Some(host) = self.hosts.get_mut(place_of(node)) else {
@@ -84,7 +84,7 @@ impl<A: Allocator + Copy> Nodes<A> {
     /// A node has stopped in place of an input for which there was no memory. Where it isn't there, or isn't up, nothing
     /// happens.
     pub(crate) fn cut(&mut self, node: NodeId)
-        ensures network { network_of self.new ≡ takes (network_of self.old) node Crash }
+        ensures network { network_of self.new ≡ given_input (network_of self.old) node Crash }
         ensures answers { (n : ℕ) (id : CommandId) → HasAnswerAt n id self.old → HasAnswerAt n id self.new }
     {
         let Some(host) = self.hosts.get_mut(place_of(node)) else {
@@ -96,7 +96,7 @@ impl<A: Allocator + Copy> Nodes<A> {
     /// The message that was sent as the number `which` reaches its addressee. Where no such was sent, or the addressee
     /// isn't up, nothing happens. After `Memory` the addressee has crashed.
     pub(crate) fn arrive(&mut self, which: usize) -> Result<(), Memory>
-        ensures ok { OnOk result (network_of self.new ≡ arrives (network_of self.old) which (slice_get self.old.sent which)) }
+        ensures ok { OnOk result (network_of self.new ≡ message_arrives (network_of self.old) which (slice_get self.old.sent which)) }
         ensures err { OnErr result (IsArrivalCut (network_of self.old) (network_of self.new) (slice_get self.old.sent which)) }
         ensures answers { (n : ℕ) (id : CommandId) → HasAnswerAt n id self.old → HasAnswerAt n id self.new }
     {
@@ -119,8 +119,8 @@ impl<A: Allocator + Copy> Nodes<A> {
     /// A message that arrives is an input of its addressee, and is counted. After `Memory` the addressee has crashed.
     fn receive(&mut self, which: usize, to: NodeId, input: Input<A>) -> Result<(), Memory>
         requires { (s : Sent A) × (slice_get self.old.sent which ≡ Some s) × (can_count s ≡ true) }
-        ensures ok { OnOk result (network_of self.new ≡ takes (counted which (network_of self.old)) to input) }
-        ensures err { OnErr result (network_of self.new ≡ takes (network_of self.old) to Crash) }
+        ensures ok { OnOk result (network_of self.new ≡ given_input (counted which (network_of self.old)) to input) }
+        ensures err { OnErr result (network_of self.new ≡ given_input (network_of self.old) to Crash) }
         ensures answers { (n : ℕ) (id : CommandId) → HasAnswerAt n id self.old → HasAnswerAt n id self.new }
     {
         let _ = self.take(to, input)?;

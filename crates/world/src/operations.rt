@@ -7,9 +7,9 @@ ghost use Rattle.node.specs.Replay.{next_ticket};
 ghost use Rattle.node.specs.declared.input.Input.TheVariants.{Submit, Crash};
 ghost use Rattle.node.specs.declared.log.NodeLog.{NodeLog};
 ghost use Rattle.world.specs.Hosts.{network_of, HasAnswerAt};
-ghost use Rattle.world.specs.Messages.{is_up, log_of, takes};
-ghost use Rattle.world.specs.Services.{next_id};
-ghost use Rattle.world.specs.Worlds.{answer_at, unless_taken, with_taken};
+ghost use Rattle.runs.specs.Messages.{is_up, log_of, given_input};
+ghost use Rattle.runs.specs.Services.{next_id};
+ghost use Rattle.runs.specs.Worlds.{answer_at, unless_taken, with_taken};
 
 use crate::hosts::Hosts;
 use ballot::{Memory, NodeId};
@@ -31,10 +31,10 @@ pub(crate) fn submit<A: Allocator + Copy>(
     op: Op<A>,
 ) -> Result<(), Memory>
     requires new { (log : NodeLog A) → log_of node (network_of hosts.old).logs ≡ Some log → lookup (same_id (next_id log user)) operations.old.entries ≡ None }
-    ensures ok { OnOk result (network_of hosts.new ≡ takes (network_of hosts.old) node (Submit user op)) }
+    ensures ok { OnOk result (network_of hosts.new ≡ given_input (network_of hosts.old) node (Submit user op)) }
     ensures operations { (log : NodeLog A) → log_of node (network_of hosts.old).logs ≡ Some log → is_up (Some log) ≡ true
         → OnOk result (operations.new.entries ≡ operations.old.entries ++ (next_id log user, false) ∷ []) }
-    ensures err { OnErr result (network_of hosts.new ≡ takes (network_of hosts.old) node Crash) }
+    ensures err { OnErr result (network_of hosts.new ≡ given_input (network_of hosts.old) node Crash) }
     ensures unchanged { OnErr result (operations.new.entries ≡ operations.old.entries) }
     ensures answers { (n : ℕ) (id : CommandId) → HasAnswerAt n id hosts.old → HasAnswerAt n id hosts.new }
 {

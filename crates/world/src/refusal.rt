@@ -2,23 +2,20 @@
 ghost use Rattle.std.specs.Prelude.{◌≡◌, Some, None, is_some, slice_get};
 ghost use Rattle.std.specs.Option.{option_or};
 ghost use Rattle.apop.specs.Login.{account_named};
-ghost use Rattle.world.specs.Clients.{client_of};
+ghost use Rattle.runs.specs.Clients.{client_of};
 ghost use Rattle.maildrop.specs.CommandId.{CommandId};
 ghost use Rattle.world.specs.Connections.{service_of, awaited_by, AreUntaken, IsThere};
 ghost use Rattle.world.specs.Hosts.{network_of, HasAnswerAt};
-ghost use Rattle.world.specs.Messages.{log_of};
-ghost use Rattle.world.specs.Refusals as spec;
-ghost use Rattle.world.specs.Services.{Service};
+ghost use Rattle.runs.specs.Messages.{log_of};
+ghost use Rattle.runs.specs.Refusals as spec;
+ghost use Rattle.runs.specs.Services.{Service};
 
-use crate::config::Config;
 use crate::connection::{Connection, Standing};
-use crate::event::Event;
 use crate::hosts::Hosts;
-use crate::refused::Refused;
-use crate::session_id::SessionId;
-use crate::session_table::Sessions;
+use crate::sessions::Sessions;
 use ballot::NodeId;
 use maildrop::Name;
+use runs::{Config, Event, Refused, SessionId};
 use std::alloc::Allocator;
 
 /// Why an event can't happen, or has a user without an account, if it is so.

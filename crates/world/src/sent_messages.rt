@@ -1,13 +1,13 @@
 //! The messages of a service, in the order in which they were sent.
 ghost use Rattle.std.specs.Prelude.{◌≡◌, ◌++◌, [], true, Some, List, slice_get, option_copied, OnOk, OnErr, IfOk};
-ghost use Rattle.world.specs.Messages.{newly_sent, with_arrival};
+ghost use Rattle.runs.specs.Messages.{newly_sent, with_arrival};
 ghost use Rattle.world.specs.Hosts.{can_count};
-ghost use Rattle.world.specs.declared.sent.Sent.{Sent};
+ghost use Rattle.runs.specs.declared.sent.Sent.{Sent};
 
-use crate::sent::Sent;
 use ballot::{Envelope, Memory};
 use maildrop::SharedCommand;
 use node::Envelopes;
+use runs::Sent;
 use std::alloc::{Allocator, Global};
 use std::marker::Model;
 
@@ -19,7 +19,7 @@ pub(crate) struct SentMessages<A: Allocator = Global> {
 
 impl<A: Allocator> Model for SentMessages<A> {
     ghost use Rattle.std.specs.Prelude.{List};
-    ghost use Rattle.world.specs.declared.sent.Sent.{Sent};
+    ghost use Rattle.runs.specs.declared.sent.Sent.{Sent};
 
     ghost Value = { List (Sent A) };
 

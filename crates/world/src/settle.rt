@@ -1,14 +1,13 @@
 //! A service that goes on by itself: what comes next happens, and next again.
 ghost use Rattle.std.specs.Prelude.{◌≡◌, None, OnErr, IfOk, IfErr, IfSome};
-ghost use Rattle.world.specs.Refusals.{step_refusal};
-ghost use Rattle.world.specs.Settling.{IsSettleCut};
-ghost use Rattle.world.specs.Worlds as spec;
-ghost use Rattle.world.specs.declared.refused.Refused.TheVariants as refused;
+ghost use Rattle.runs.specs.Refusals.{step_refusal};
+ghost use Rattle.runs.specs.Settling.{IsSettleCut};
+ghost use Rattle.runs.specs.Worlds as spec;
+ghost use Rattle.runs.specs.declared.refused.Refused.TheVariants as refused;
 
-use crate::event::Event;
 use crate::next::{next_newest, next_oldest};
-use crate::refused::Refused;
 use crate::world::World;
+use runs::{Event, Refused};
 use std::alloc::Allocator;
 
 impl<A: Allocator + Copy> World<A> {

@@ -1,19 +1,16 @@
 //! Whole runs of a service.
 ghost use Rattle.std.specs.Prelude.{◌≡◌, ◌≤◌, ◌⊎◌, ℕ, length, Some, None, map, IfOk, IfErr, OnOk};
-ghost use Rattle.world.specs.Clients.{Client, client_of};
-ghost use Rattle.world.specs.Decisions.{AreDecidedFirst, WereSubmitted};
-ghost use Rattle.world.specs.Projection.{IsProjected, decided};
-ghost use Rattle.world.specs.Settling.{ran, first_refusal, all_replies, all_performed};
-ghost use Rattle.world.specs.Worlds.{new_world};
-ghost use Rattle.world.specs.declared.refused.Refused.TheVariants as refused;
+ghost use Rattle.runs.specs.Clients.{Client, client_of};
+ghost use Rattle.runs.specs.Decisions.{AreDecidedFirst, WereSubmitted};
+ghost use Rattle.runs.specs.Projection.{IsProjected, decided};
+ghost use Rattle.runs.specs.Settling.{ran, first_refusal, all_replies, all_performed};
+ghost use Rattle.runs.specs.Worlds.{new_world};
+ghost use Rattle.runs.specs.declared.refused.Refused.TheVariants as refused;
 
-use crate::config::Config;
-use crate::event::Event;
-use crate::refused::Refused;
-use crate::session_id::SessionId;
 use crate::world::World;
 use ballot::{Memory, NodeId, Payload, Slot};
 use maildrop::SharedCommand;
+use runs::{Config, Event, Refused, SessionId};
 use std::alloc::{Allocator, Global};
 
 /// What a run has brought.

@@ -2,32 +2,28 @@
 ghost use Rattle.std.specs.Prelude.{◌≡◌, ◌≤◌, ℕ, true, Some, None, Err, is_some, option_map, IfOk, IfErr, IfSome, OnOk, OnErr};
 ghost use Rattle.std.specs.Option.{option_copied};
 ghost use Rattle.ballot.specs.Nodes.{in_cluster};
-ghost use Rattle.world.specs.Clients.{Client, client_of};
-ghost use Rattle.world.specs.Decisions.{ChoosesOne, ChoosesSubmitted, IsDecidedFirst, KeepsDecided, TellsChosen, WereSubmitted};
-ghost use Rattle.world.specs.Interrupted.{IsInterrupted};
+ghost use Rattle.runs.specs.Clients.{Client, client_of};
+ghost use Rattle.runs.specs.Decisions.{ChoosesOne, ChoosesSubmitted, IsDecidedFirst, KeepsDecided, TellsChosen, WereSubmitted};
+ghost use Rattle.runs.specs.Interrupted.{IsInterrupted};
 ghost use Rattle.world.specs.Kept.{new_host, new_hosts};
-ghost use Rattle.world.specs.Messages.{is_up, log_of};
-ghost use Rattle.world.specs.Projection.{IsProjected};
-ghost use Rattle.world.specs.Refusals.{step_refusal};
-ghost use Rattle.world.specs.Services.{opening_of};
-ghost use Rattle.world.specs.Worlds as spec;
-ghost use Rattle.world.specs.declared.refused.Refused.{Refused};
+ghost use Rattle.runs.specs.Messages.{is_up, log_of};
+ghost use Rattle.runs.specs.Projection.{IsProjected};
+ghost use Rattle.runs.specs.Refusals.{step_refusal};
+ghost use Rattle.runs.specs.Services.{opening_of};
+ghost use Rattle.runs.specs.Worlds as spec;
+ghost use Rattle.runs.specs.declared.refused.Refused.{Refused};
 
 use crate::act::act;
-use crate::config::Config;
-use crate::event::Event;
 use crate::host::Host;
 use crate::hosts::Hosts;
 use crate::operations::{Operations, take_outcome};
 use crate::refusal::refusal_of;
-use crate::refused::Refused;
-use crate::sent::Sent;
-use crate::session_id::SessionId;
-use crate::session_table::Sessions;
-use ballot::{Memory, NodeId, Slot};
+use crate::sessions::Sessions;
+use ballot::{Items, Memory, NodeId, Slot};
 use indexmap::IndexMap;
 use maildrop::{CommandId, Name, Outcome, SharedCommand, Ticket};
-use node::Node;
+use node::{Node, Opening};
+use runs::{Config, Event, Refused, Sent, SessionId};
 use std::alloc::{Allocator, Global};
 use std::marker::Model;
 
@@ -45,7 +41,7 @@ pub struct World<A: Allocator + Copy = Global> {
 }
 
 impl<A: Allocator + Copy> Model for World<A> {
-    ghost use Rattle.world.specs.Worlds.{World};
+    ghost use Rattle.runs.specs.Worlds.{World};
 
     ghost Value = { World A };
 
@@ -190,14 +186,17 @@ fn begin_one<A: Allocator + Copy>(
     requires its { in_cluster config.now.cluster me ≡ true }
     ensures { IfOk result (λ host. host ≡ new_host (opening_of config.now) me) }
 {
-    match Node::new(
-        alloc,
+    let names = Vec::from_slice(alloc, config.accounts.names())?;
+    let opening = Opening {
         me,
-        config.cluster,
-        config.window,
-        config.accounts.names(),
-        config.limits,
-    )? {
+        cluster: config.cluster,
+        window: config.window,
+        names: Items::from_vec(names),
+        limits: config.limits,
+        kept: config.kept.copy()?,
+        keys: config.keys,
+    };
+    match Node::open(alloc, opening)? {
         Some(node) => Ok(Host::new(node)),
         None => unreachable!(),
     }

@@ -4,7 +4,7 @@ ghost use Rattle.std.specs.Prelude.{◌≡◌, IfOk};
 
 use apop::{Accounts, Stamp, stamp};
 use ballot::Cluster;
-use maildrop::Limits;
+use maildrop::{Kept, Limits, Shared};
 use pop3_wire::{Line, LineBytes};
 use samples::{check, name, node, text};
 use std::alloc::Allocator;
@@ -87,6 +87,8 @@ pub fn config<A: Allocator + Copy>(alloc: A) -> Result<Config<A>, Fail>
     Ok(Config {
         accounts: accounts(alloc)?,
         limits,
+        kept: Shared::new(alloc, Kept::new(alloc))?,
+        keys: 0,
         cluster,
         window: 10,
     })

@@ -1,6 +1,6 @@
 use Rattle.std.proofs.Common.{sym, ◌∙◌}
 use Rattle.std.proofs.lemmas.Bool.{true≢false}
-use Rattle.acceptor.proofs.Entries.{kept_stays, kept_over, kept_first, kept_for_none}
+use Rattle.acceptor.proofs.Entries.{kept_stays, kept_over, kept_first, accepted_for_none}
 use Rattle.acceptor.proofs.acceptor.keep.Goals as goal
 use Rattle.acceptor.proofs.acceptor.keep.Goals.{in-Some+else-eq, in_default}
 
@@ -10,7 +10,7 @@ returns-then-eq-clause-ok g c =
 
 pub returns-in_err-insert-clause-slot_is_there : goal.returns-in_err-insert-clause-slot_is_there
 returns-in_err-insert-clause-slot_is_there g c =
-    λ there. absurd (true≢false (sym there ∙ kept_for_none c.args.accepted.now.entries c.args.pvalue.slot c.in_err-insert.ensures.absent))
+    λ there. absurd (true≢false (sym there ∙ accepted_for_none c.args.accepted.now.entries c.args.pvalue.slot c.in_err-insert.ensures.absent))
 
 pub returns-clause-ok : goal.returns-clause-ok
 returns-clause-ok g c =

@@ -1,7 +1,9 @@
 use Rattle.std.proofs.Common.{◌≡◌, ◌++◌}
 use Rattle.std.specs.Prelude.{fold}
 use Rattle.std.specs.List.{flat_map}
-use Rattle.leader.specs.Leaders.{with_slot, commander_for, commanders_for, p2a, p2as}
+use Rattle.ballot.specs.Slots.{with_slot}
+use Rattle.leader.proofs.Parts.{commanders_for, p2as}
+use Rattle.leader.specs.Leaders.{commander_for, p2a}
 use Rattle.leader.specs.States.{state_of}
 use Rattle.leader.proofs.adopting.lead.Given as goal
 

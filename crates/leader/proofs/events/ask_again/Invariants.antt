@@ -1,5 +1,5 @@
 use Rattle.std.proofs.Common.{◌≡◌, ◌++◌}
-use Rattle.leader.specs.Leaders.{p2as_again}
+use Rattle.leader.specs.Parts.{p2as_again}
 use Rattle.leader.specs.States.{state_of}
 use Rattle.leader.proofs.events.ask_again.Given as goal
 

@@ -14,7 +14,7 @@ returns-clause-node g c n is =
     elim c.match-input.branch [
       | in-Arrive+in_ok-copy-in-Arrive+in_ok-sends-in-Arrive w ↦
           w.roles-is ∙ w.in_ok-sends-in-Arrive.ensures.node n is
-          ∙ ap (λ (i : Input g.row.A.Denot). Some (acts c.args.log.now.opening.me c.args.log.now.inputs n i).node) (ap Arrive w.in_ok-copy-in-Arrive.ensures.value ∙ sym w.in-Arrive.is)
+          ∙ ap (λ (i : Input g.row.A.Denot). Some (acts c.args.log.now.opening.me c.args.log.now.inputs n i).after) (ap Arrive w.in_ok-copy-in-Arrive.ensures.value ∙ sym w.in-Arrive.is)
       | in-Tick+in_ok-sends-in-Tick w ↦ rw w.in-Tick.is (w.roles-is ∙ w.in_ok-sends-in-Tick.ensures.node ∙ is)
       | in-Campaign+in_ok-sends-in-Campaign w ↦ rw w.in-Campaign.is (w.roles-is ∙ moved_to _ _ _ n is w.in_ok-sends-in-Campaign.ensures.node)
       | in-Crash w ↦ rw w.in-Crash.is (w.roles-is ∙ is)

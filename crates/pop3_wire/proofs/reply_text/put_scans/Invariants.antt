@@ -1,7 +1,7 @@
 use Rattle.std.proofs.Common.{◌≡◌, ◌++◌, take}
 use Rattle.std.specs.List.{flat_map}
-use Rattle.pop3_wire.specs.Reply.{scan_line}
+use Rattle.pop3_wire.specs.Reply.{number_line}
 use Rattle.pop3_wire.proofs.reply_text.put_scans.Given as goal
 
 abbrev pub invariant-loop-message : goal.invariant-loop-message
-invariant-loop-message g l = l.text.items ≡ l.initial.text.items ++ flat_map scan_line (take l.message-index l.messages)
+invariant-loop-message g l = l.text.items ≡ l.initial.text.items ++ flat_map (λ message. number_line message.number message.octets) (take l.message-index l.messages)

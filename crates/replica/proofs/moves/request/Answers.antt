@@ -1,5 +1,6 @@
 use Rattle.std.proofs.Common.{◌≡◌, ℕ, ◌<◌, ◌≤◌, true, sym, ap, ◌∙◌, subst, OnOk, IfOk}
-use Rattle.replica.specs.Replicas.{Rules, ReplicaState, rules_of, is_decided, with_request, awaiting, proposes}
+use Rattle.replica.specs.Replicas.{Rules, ReplicaState, rules_of, is_decided, awaiting, proposes}
+use Rattle.replica.specs.Parts.{with_request}
 use Rattle.replica.proofs.moves.request.Given.{Over}
 use Rattle.replica.proofs.moves.request.Goals as goal
 
@@ -19,6 +20,6 @@ returns g c =
     let asked : S = with_request c.args.command (awaiting (the_rules g) c.args.command c.args.state.now) in
     let same : c.add_request.new.state ≡ asked = c.in_ok-add_request.ensures ∙ ap (λ (r : S). with_request c.args.command r) c.in_ok-await_answer.ensures in
     record {
-      replica = subst (λ (r : S). OnOk c.propose_all.result (c.propose_all.new.state ≡ (proposes {A = g.row.A.Denot} r).replica)) same c.propose_all.ensures.replica;
+      replica = subst (λ (r : S). OnOk c.propose_all.result (c.propose_all.new.state ≡ (proposes {A = g.row.A.Denot} r).after)) same c.propose_all.ensures.replica;
       sends = subst (λ (r : S). IfOk c.propose_all.result (λ sends. sends ≡ (proposes {A = g.row.A.Denot} r).sends)) same c.propose_all.ensures.sends;
     }

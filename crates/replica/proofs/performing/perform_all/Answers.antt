@@ -1,7 +1,8 @@
 use Rattle.std.proofs.Common.{◌≡◌, ◌<◌, ◌≤◌, length, Some, None, sym, ap, ◌∙◌, subst, ⊎_elim, arith}
 use Rattle.std.proofs.lemmas.Bool.{cases_lt, true≢false}
 use Rattle.ballot.specs.declared.slot.TheConstants.{LAST_SLOT}
-use Rattle.replica.specs.Replicas.{ReplicaState, at_slot}
+use Rattle.replica.specs.Replicas.{ReplicaState}
+use Rattle.ballot.specs.Slots.{at_slot}
 use Rattle.replica.proofs.Slots.{none_above}
 use Rattle.replica.proofs.Seen.{seen}
 use Rattle.replica.proofs.Front.{gives_way_alike, turn_on, ended}

@@ -1,7 +1,7 @@
 use Rattle.std.proofs.Common.{rules, ◌≡◌, true, map}
 use Rattle.apop.specs.Accounts.{name_of}
 use Rattle.maildrop.specs.Name.{are_different}
-use Rattle.world.proofs.Keeping.{different_names}
+use Rattle.runs.proofs.Names.{different_names}
 use Rattle.service.proofs.serve.setup_of.Goals as goal
 
 pub returns-clause-different : goal.returns-clause-different

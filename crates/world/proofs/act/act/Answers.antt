@@ -4,10 +4,10 @@ use Rattle.std.proofs.lemmas.Result.{on_ok_weaker, on_err_weaker}
 use Rattle.maildrop.specs.declared.op.Op.TheVariants as op
 use Rattle.node.specs.declared.input.Input.TheVariants as input
 use Rattle.world.specs.Connections.{service_of}
-use Rattle.world.specs.Interrupted.{IsInterrupted}
+use Rattle.runs.specs.Interrupted.{IsInterrupted}
 use Rattle.world.specs.Kept.{awaited_in, collected_by}
-use Rattle.world.specs.Services.{occurs}
-use Rattle.world.specs.declared.event.Event.{Event}
+use Rattle.runs.specs.Services.{occurs}
+use Rattle.runs.specs.declared.event.Event.{Event}
 use Rattle.world.proofs.ServiceSteps.{nodes_on, nodes_crash, nodes_arrive, arrival_interrupted}
 use Rattle.world.proofs.Keeping.{other_id}
 use Rattle.world.proofs.act.act.Goals as goal

@@ -1,8 +1,8 @@
 use Rattle.std.proofs.Common.{◌∙◌, ap, sym, subst}
 use Rattle.std.proofs.lemmas.Result.{on_ok_weaker, on_err_weaker}
 use Rattle.world.specs.Connections.{service_of, AreFit}
-use Rattle.world.specs.Interrupted.{IsInterrupted}
-use Rattle.world.specs.declared.event.Event.TheVariants as event
+use Rattle.runs.specs.Interrupted.{IsInterrupted}
+use Rattle.runs.specs.declared.event.Event.TheVariants as event
 use Rattle.world.specs.Waiting.{KeepsOthers}
 use Rattle.world.proofs.Noting.{same_others, set_others}
 use Rattle.world.proofs.ServiceSteps.{collect_occurs, collect_interrupted, collect_absent, fit_set}

@@ -1,5 +1,5 @@
 use Rattle.std.proofs.Common.{◌-◌}
-use Rattle.world.specs.Messages.{Network}
+use Rattle.runs.specs.Messages.{Network}
 use Rattle.world.specs.Scheduling.{HaveArrived, AreFewest}
 use Rattle.world.proofs.index.fewest_between.Given as goal
 

@@ -1,7 +1,7 @@
 use Rattle.std.proofs.Common.{◌∙◌, ap, sym, false}
 use Rattle.indexmap.specs.IndexMap.{insert_entry}
 use Rattle.maildrop.specs.CommandId.{same_id}
-use Rattle.world.specs.Services.{next_id}
+use Rattle.runs.specs.Services.{next_id}
 use Rattle.world.proofs.GivenOperations.{insert_last, given_id}
 use Rattle.world.proofs.operations.submit.Goals as goal
 

@@ -1,7 +1,7 @@
 use Rattle.std.proofs.Common.{◌∙◌, sym}
 use Rattle.world.specs.Hosts.{network_of}
-use Rattle.world.specs.Messages.{log_of}
-use Rattle.world.specs.Refusals.{line_refusal}
+use Rattle.runs.specs.Messages.{log_of}
+use Rattle.runs.specs.Refusals.{line_refusal}
 use Rattle.world.proofs.Refusing.{line_stranded, refused_found, refused_absent}
 use Rattle.world.proofs.refusal.of_line.Goals as goal
 

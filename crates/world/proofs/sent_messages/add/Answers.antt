@@ -2,7 +2,7 @@ use Rattle.std.proofs.Common.{rules, ◌≡◌, ◌++◌, ◌∙◌, ap, length}
 use Rattle.std.specs.Prelude.{vec_len}
 use Rattle.std.proofs.lemmas.Iterator.Adapters.{YieldsList-from_vec}
 use Rattle.std.proofs.lemmas.Iterator.Consumers.{YieldsList-end}
-use Rattle.world.specs.Messages.{newly_sent}
+use Rattle.runs.specs.Messages.{newly_sent}
 use Rattle.world.proofs.Arrivals.{sent_all}
 use Rattle.world.proofs.sent_messages.add.Goals as goal
 

@@ -1,5 +1,5 @@
 use Rattle.std.proofs.Common.{◌≡◌, ◌++◌}
-use Rattle.world.specs.Messages.{newly_sent}
+use Rattle.runs.specs.Messages.{newly_sent}
 use Rattle.world.proofs.sent_messages.add.Given as goal
 
 abbrev pub invariant-loop-envelope : goal.invariant-loop-envelope

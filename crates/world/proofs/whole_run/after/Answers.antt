@@ -1,9 +1,9 @@
 use Rattle.std.proofs.Common.{◌∙◌, ◌≡◌, Some, None, sym, ap, subst}
 use Rattle.std.proofs.lemmas.Iterator.Adapters.{YieldsList-from_vec}
 use Rattle.std.proofs.lemmas.Iterator.Consumers.{YieldsList-so_far, YieldsList-turn}
-use Rattle.world.specs.Refusals.{step_refusal}
-use Rattle.world.specs.Settling.{first_refusal}
-use Rattle.world.specs.Worlds.{World, stepped}
+use Rattle.runs.specs.Refusals.{step_refusal}
+use Rattle.runs.specs.Settling.{first_refusal}
+use Rattle.runs.specs.Worlds.{World, stepped}
 use Rattle.world.proofs.WholeRuns.{map_same, split_there, none_refused, cause, ran_more, none_more, refused_there}
 use Rattle.world.proofs.whole_run.after.Goals as goal
 

@@ -1,5 +1,5 @@
 use Rattle.std.proofs.Common.{◌≡◌, None}
-use Rattle.world.specs.Settling.{ran, first_refusal}
+use Rattle.runs.specs.Settling.{ran, first_refusal}
 use Rattle.world.proofs.whole_run.after.Given as goal
 
 abbrev pub invariant-loop-event : goal.invariant-loop-event

@@ -1,8 +1,8 @@
 use Rattle.std.proofs.Common.{◌∙◌, sym, ap, length, subst}
 use Rattle.ballot.specs.Lists.{IsIn}
-use Rattle.world.specs.Settling.{ran, all_performed}
-use Rattle.world.specs.Worlds.{World, new_world}
-use Rattle.world.proofs.Decisions.{all_decided, decided_submitted}
+use Rattle.runs.specs.Settling.{ran, all_performed}
+use Rattle.runs.specs.Worlds.{World, new_world}
+use Rattle.runs.proofs.Decisions.{all_decided, decided_submitted}
 use Rattle.world.proofs.WholeRuns.{ran_count, ran_nodes, ran_projected}
 use Rattle.world.proofs.whole_run.run.Goals as goal
 

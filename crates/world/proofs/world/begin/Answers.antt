@@ -1,6 +1,6 @@
 use Rattle.std.proofs.Common.{◌∙◌, ◌++◌, ◌∷◌, [], ap, arith, sym}
 use Rattle.world.specs.Kept.{new_host, new_hosts}
-use Rattle.world.specs.Services.{opening_of}
+use Rattle.runs.specs.Services.{opening_of}
 use Rattle.world.proofs.Keeping.{host_more, in_it}
 use Rattle.world.proofs.world.begin.Goals as goal
 

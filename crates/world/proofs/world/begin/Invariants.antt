@@ -1,6 +1,6 @@
 use Rattle.std.proofs.Common.{◌≡◌, ◌≤◌}
 use Rattle.world.specs.Kept.{new_hosts}
-use Rattle.world.specs.Services.{opening_of}
+use Rattle.runs.specs.Services.{opening_of}
 use Rattle.world.proofs.world.begin.Given as goal
 
 abbrev pub invariant-loop-place : goal.invariant-loop-place

@@ -1,4 +1,4 @@
-use Rattle.std.proofs.Common.{◌≡◌, [], ◌∷◌, ◌++◌, arith, ◌∙◌, ap}
+use Rattle.std.proofs.Common.{◌≡◌, [], ◌∷◌, ◌++◌, arith, ◌∙◌, ap, rules}
 use Rattle.maildrop.specs.Maildrop.{Maildrop, refusal_of}
 use Rattle.maildrop.specs.declared.message.Message.{Message}
 use Rattle.maildrop.proofs.Consistent.{HasRoom, room-from_no_refusal, consistent_with_message, message_octets-push}
@@ -13,5 +13,5 @@ invariant_of-self-2 g c =
     let room : HasRoom old c.args.text.now = room-from_no_refusal old c.args.text.now (ap (λ m. refusal_of m c.args.text.now) c.self.view_is ∙ c.requires.fits) in
     rw (pushed, c.in_ok-text.ensures, c.in_ok-keep.ensures.ok) (
       omega (arith, c.self.invariant.0, message_octets-push old.messages (record { uid = old.next_uid; text = c.args.text.now }), c.octets-octets.ensures),
-      consistent_with_message old c.args.text.now c.args.key.now c.self.invariant.1 room,
+      consistent_with_message old c.args.text.now c.args.key.now (search rules) c.self.invariant.1 room,
     )

@@ -1,7 +1,7 @@
 use Rattle.std.proofs.Common.{◌≡◌, ◌-◌, ◌∙◌, ap, refl, subst, Some, None, ℕ, List, length}
 use Rattle.std.specs.List.{slice_get}
 use Rattle.std.proofs.lemmas.Option.{slice_get_read, slice_get_past}
-use Rattle.replica.specs.Replicas.{at_slot}
+use Rattle.ballot.specs.Slots.{at_slot}
 use Rattle.replica.proofs.Gapless.{get_front, get_ahead}
 use Rattle.replica.proofs.decisions.Decisions.get.Goals as goal
 

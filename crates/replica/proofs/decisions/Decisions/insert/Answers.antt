@@ -1,6 +1,7 @@
 use Rattle.std.proofs.Common.{◌≡◌, ◌+◌, ◌<◌, ◌∙◌, ap, subst, sym, rules, arith, length, ℕ, List, [], ◌∷◌, ◌++◌, false, inl}
 use Rattle.std.specs.List.{enumerate_from}
-use Rattle.replica.specs.Replicas.{is_decided, with_slot, IsAhead}
+use Rattle.replica.specs.Replicas.{is_decided, IsAhead}
+use Rattle.ballot.specs.Slots.{with_slot}
 use Rattle.replica.proofs.Gapless.{behind_front, ahead_grows, ahead_is_ahead, front_grows, front_is_ahead, on_ok_of, on_err_of}
 use Rattle.replica.proofs.decisions.Decisions.insert.Goals as goal
 

@@ -1,6 +1,7 @@
 use Rattle.std.proofs.Common.{◌≡◌, ◌+◌, ◌∙◌, ap, subst, sym, rules, arith, length, List, [], ◌∷◌, ◌++◌, None}
 use Rattle.std.specs.List.{enumerate_from}
-use Rattle.replica.specs.Replicas.{at_slot, IsAhead}
+use Rattle.replica.specs.Replicas.{IsAhead}
+use Rattle.ballot.specs.Slots.{at_slot}
 use Rattle.replica.proofs.Gapless.{moves, left_ahead}
 use Rattle.replica.proofs.decisions.Decisions.move_first.Goals as goal
 

@@ -1,5 +1,5 @@
 use Rattle.std.proofs.Common.{refl, sym, subst}
-use Rattle.replica.specs.Replicas.{Rules, ReplicaState, rules_of, decided, IsSettled}
+use Rattle.replica.specs.Replicas.{Rules, ReplicaState, rules_of, learns, IsSettled}
 use Rattle.replica.proofs.Settled.{decided_settled}
 use Rattle.replica.proofs.Moved.{moved}
 use Rattle.replica.proofs.replica.Replica.decision.Given.{Over}
@@ -15,5 +15,5 @@ invariant_of-self-2 g c fresh =
 pub returns-clause-moves : goal.returns-clause-moves
 returns-clause-moves g c =
     let S = ReplicaState g.row.M-Command.Denot g.row.M-Command-Id.Denot g.row.M-Answer.Denot g.row.M.Denot in
-    moved (λ (r : S). decided {A = g.row.A.Denot} (the_rules g) c.args.slot c.args.command r) c.self.inside.spent c.self.inside.state c.decide.new.state c.args.self.now c.in_ok-sends.sends
+    moved (λ (r : S). learns {A = g.row.A.Denot} (the_rules g) c.args.slot c.args.command r) c.self.inside.spent c.self.inside.state c.decide.new.state c.args.self.now c.in_ok-sends.sends
     (c.in_ok-spend.ensures.once.0 refl) c.self.view_is c.in_ok-sends.ensures.replica c.in_ok-sends.ensures.sends

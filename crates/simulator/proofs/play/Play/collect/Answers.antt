@@ -1,7 +1,7 @@
 use Rattle.std.proofs.Common.{rules, ◌≡◌, ◌<◌, Some, length, ◌∙◌, sym, ap, arith}
 use Rattle.simulator.specs.Plays.{IsWritten, given}
 use Rattle.simulator.proofs.Telling.{answers_alone, collects_more}
-use Rattle.world.specs.Worlds.{next_answer}
+use Rattle.runs.specs.Worlds.{next_answer}
 use Rattle.simulator.proofs.play.Play.collect.Goals as goal
 
 pub loop-preserved : goal.loop-preserved

@@ -1,7 +1,7 @@
 use Rattle.std.proofs.Common.{◌∙◌, sym, ap}
 use Rattle.std.proofs.lemmas.Result.{on_ok_weaker}
-use Rattle.world.specs.Messages.{log_of, is_up}
-use Rattle.world.specs.Worlds.{performed_by}
+use Rattle.runs.specs.Messages.{log_of, is_up}
+use Rattle.runs.specs.Worlds.{performed_by}
 use Rattle.simulator.proofs.Telling.{order_written, order_refused}
 use Rattle.simulator.proofs.play.Play.order.Goals as goal
 

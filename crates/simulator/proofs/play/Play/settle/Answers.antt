@@ -1,6 +1,6 @@
 use Rattle.std.proofs.Common.{rules, ◌≡◌, None, Some, suc, ◌+◌, ◌-◌, ◌∙◌, sym, ap, subst, arith}
 use Rattle.simulator.specs.Plays.{IsWritten, given, oldest}
-use Rattle.world.specs.Worlds.{next_oldest}
+use Rattle.runs.specs.Worlds.{next_oldest}
 use Rattle.simulator.proofs.Telling.{IsSettledTo, settles_more, settles_none}
 use Rattle.simulator.proofs.play.Play.settle.Goals as goal
 

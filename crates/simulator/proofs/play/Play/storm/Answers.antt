@@ -1,6 +1,6 @@
 use Rattle.std.proofs.Common.{rules, ◌≡◌, None, Some, suc, ◌+◌, ◌-◌, ◌∙◌, sym, ap, subst, arith}
 use Rattle.simulator.specs.Plays.{IsWritten, given, newest}
-use Rattle.world.specs.Worlds.{next_newest}
+use Rattle.runs.specs.Worlds.{next_newest}
 use Rattle.simulator.proofs.Telling.{IsSettledTo, settles_more, settles_none}
 use Rattle.simulator.proofs.play.Play.storm.Goals as goal
 

@@ -1,5 +1,5 @@
 use Rattle.std.proofs.Common.{◌∙◌, ap, refl, sym, Some}
-use Rattle.world.specs.Clients.{with_line}
+use Rattle.runs.specs.Clients.{with_line}
 use Rattle.world.specs.Connections.{client_in, lines_in, tickets_in}
 use Rattle.world.proofs.HeardLines.{lines_push, ticket_push}
 use Rattle.world.proofs.Replying.{pushed_asking, asked}

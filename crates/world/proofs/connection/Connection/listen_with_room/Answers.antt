@@ -6,7 +6,7 @@ use Rattle.session.specs.Open.{Open}
 use Rattle.session.specs.Session.{by_line, lock_due}
 use Rattle.session.specs.declared.state.State.{State}
 use Rattle.session.specs.declared.state.Step.{Step}
-use Rattle.world.specs.Clients.{Standing, standing_as, stranded}
+use Rattle.runs.specs.Clients.{Standing, standing_as, disconnected}
 use Rattle.world.specs.Connections.{client_in, standing_in}
 use Rattle.world.proofs.Locks.{KeepsLock, line_keeps}
 use Rattle.world.proofs.Replying.{cut}
@@ -29,5 +29,5 @@ returns-in-Ok-clause-err g c =
     on_err_weaker c.follow.result
     (λ h. cut old.state c.line.new.self.state c.in-Ok.step _ _ (client_in it) _ (client_in c.follow.new.self) keeps h
     (λ (s : Standing g.row.A.Denot). ap (λ (o : Open g.row.A.Denot). standing_as (client_in (record it { session = o })) s) c.in-Ok.ensures.state)
-    refl (ap (λ st. stranded (standing_in st old.state)) c.requires.stands))
+    refl (ap (λ st. disconnected (standing_in st old.state)) c.requires.stands))
     c.follow.ensures.err

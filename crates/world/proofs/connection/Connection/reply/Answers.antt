@@ -1,5 +1,5 @@
 use Rattle.std.proofs.Common.{◌∙◌, ap, refl, None}
-use Rattle.world.specs.Clients.{Client, with_line}
+use Rattle.runs.specs.Clients.{Client, with_line}
 use Rattle.world.specs.Connections.{client_in, lines_in, tickets_in}
 use Rattle.world.proofs.HeardLines.{lines_push, no_ticket_push}
 use Rattle.world.proofs.Replying.{pushed}

@@ -3,7 +3,7 @@ use Rattle.node.specs.Replay.{sends_of, ticket_of}
 use Rattle.node.specs.declared.log.NodeLog.{NodeLog}
 use Rattle.node.specs.Nodes.{no_ticket_for}
 use Rattle.world.specs.Hosts.{host_of}
-use Rattle.world.specs.Messages.{newly_sent}
+use Rattle.runs.specs.Messages.{newly_sent}
 use Rattle.world.proofs.Hosting.{running, step_logged, step_log, step_has, cut_log, stopped_log}
 use Rattle.world.proofs.host.Host.take.Goals as goal
 

@@ -1,7 +1,7 @@
 use Rattle.std.proofs.Common.{◌∙◌, ap, sym, subst}
 use Rattle.std.specs.Prelude.{is_some}
 use Rattle.world.specs.Hosts.{HasAnswerAt}
-use Rattle.world.specs.Worlds.{answer_at}
+use Rattle.runs.specs.Worlds.{answer_at}
 use Rattle.world.proofs.HostList.{got, got_none, found_log, no_log, answer_found}
 use Rattle.world.proofs.nodes.Nodes.has_answer.Goals as goal
 

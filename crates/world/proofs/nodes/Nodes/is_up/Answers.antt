@@ -1,5 +1,5 @@
 use Rattle.std.proofs.Common.{◌∙◌, ap, sym}
-use Rattle.world.specs.Messages.{is_up}
+use Rattle.runs.specs.Messages.{is_up}
 use Rattle.world.proofs.HostList.{got, got_none, found_log, no_log}
 use Rattle.world.proofs.nodes.Nodes.is_up.Goals as goal
 

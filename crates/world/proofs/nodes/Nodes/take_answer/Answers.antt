@@ -1,6 +1,6 @@
 use Rattle.std.proofs.Common.{◌∙◌, ap, sym, subst, refl}
 use Rattle.world.specs.Hosts.{HasAnswerAt}
-use Rattle.world.specs.Worlds.{answer_at}
+use Rattle.runs.specs.Worlds.{answer_at}
 use Rattle.world.proofs.HostList.{got, found_log, answer_found, same_logs, answers_set}
 use Rattle.world.proofs.nodes.Nodes.take_answer.Goals as goal
 

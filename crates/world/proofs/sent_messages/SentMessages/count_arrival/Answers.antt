@@ -1,7 +1,7 @@
 use Rattle.std.proofs.Common.{◌∙◌, ap, refl, sym}
 use Rattle.std.specs.Prelude.{slice_get}
 use Rattle.std.proofs.lemmas.Option.{slice_get_read, slice_get_past}
-use Rattle.world.specs.Messages.{with_arrival}
+use Rattle.runs.specs.Messages.{with_arrival}
 use Rattle.world.proofs.Arrivals.{arrival_none, arrival_set, count_fits}
 use Rattle.world.proofs.sent_messages.SentMessages.count_arrival.Goals as goal
 use Rattle.world.proofs.sent_messages.SentMessages.count_arrival.Goals.{in-Some, in_default}

@@ -4,7 +4,7 @@ use Rattle.node.specs.Replay.{mail_rules}
 use Rattle.replica.specs.Replicas.{has_identity}
 use Rattle.world.specs.Waiting.{Waiting, MayHave, IsWatched}
 use Rattle.world.proofs.HostList.{got}
-use Rattle.world.proofs.Logs.{some_same}
+use Rattle.runs.proofs.Logs.{some_same}
 use Rattle.world.proofs.waiting.Waiting.hear.Goals as goal
 
 pub returns-clause-own : goal.returns-clause-own

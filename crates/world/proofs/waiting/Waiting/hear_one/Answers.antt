@@ -1,7 +1,7 @@
 use Rattle.std.proofs.Common.{◌≡◌, Some, sym, ap, ◌∙◌, subst, arith, ⊎_elim}
 use Rattle.maildrop.specs.Ticket.{Ticket}
 use Rattle.world.specs.Waiting.{Waiting, MayHave, IsWatched, WatchesBut, nowhere}
-use Rattle.world.proofs.Logs.{some_same}
+use Rattle.runs.proofs.Logs.{some_same}
 use Rattle.world.proofs.Watching.{its_place, put_watches}
 use Rattle.world.proofs.waiting.Waiting.hear_one.Goals as goal
 

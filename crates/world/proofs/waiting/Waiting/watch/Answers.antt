@@ -1,6 +1,6 @@
 use Rattle.std.proofs.Common.{sym, ap, ◌∙◌, subst, inr, refl}
 use Rattle.world.specs.Waiting.{Waiting, MayHave, WatchesBut, only_at}
-use Rattle.world.proofs.Logs.{some_same}
+use Rattle.runs.proofs.Logs.{some_same}
 use Rattle.world.proofs.Watching.{its_place, put_watches}
 use Rattle.world.proofs.waiting.Waiting.watch.Goals as goal
 

@@ -1,4 +1,4 @@
-use Rattle.world.specs.Settling.{all_performed}
+use Rattle.runs.specs.Settling.{all_performed}
 use Rattle.world.proofs.WholeRuns.{pushed_next, performed_there}
 use Rattle.world.proofs.world.World.all_performed.Goals as goal
 

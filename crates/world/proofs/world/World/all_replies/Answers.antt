@@ -1,7 +1,7 @@
 use Rattle.std.proofs.Common.{◌∙◌, ap, sym, arith}
 use Rattle.std.proofs.lemmas.Bool.{false≢true}
-use Rattle.world.specs.Settling.{all_replies}
-use Rattle.world.specs.Worlds.{World}
+use Rattle.runs.specs.Settling.{all_replies}
+use Rattle.runs.specs.Worlds.{World}
 use Rattle.world.proofs.WholeRuns.{pushed_next, replies_there}
 use Rattle.world.proofs.world.World.all_replies.Goals as goal
 

@@ -1,5 +1,5 @@
 use Rattle.std.proofs.Common.{◌≡◌, map, take}
-use Rattle.world.specs.Settling.{all_replies}
+use Rattle.runs.specs.Settling.{all_replies}
 use Rattle.world.proofs.world.World.all_replies.Given as goal
 
 abbrev pub invariant-loop-place : goal.invariant-loop-place

@@ -1,5 +1,5 @@
 use Rattle.std.proofs.Common.{◌≡◌, ◌∙◌, ap, length, replicate, rules}
-use Rattle.world.specs.Services.{opening_of}
+use Rattle.runs.specs.Services.{opening_of}
 use Rattle.world.proofs.CatchingUp.{begun_current}
 use Rattle.world.proofs.Keeping.{begun, begun_world}
 use Rattle.world.proofs.world.World.new.Goals as goal

@@ -1,7 +1,8 @@
 use Rattle.std.proofs.Common.{◌∙◌, ap, sym}
 use Rattle.std.proofs.lemmas.Option.{IfSome_then}
-use Rattle.world.specs.Worlds.{World, performed_by}
-use Rattle.world.proofs.Decisions.{kept_nodes, performed_decided, front_submitted}
+use Rattle.runs.specs.Worlds.{World, performed_by}
+use Rattle.runs.proofs.Decisions.{performed_decided, front_submitted}
+use Rattle.world.proofs.Keeping.{kept_nodes}
 use Rattle.world.proofs.world.World.performed.Goals as goal
 
 pub returns-clause-decided : goal.returns-clause-decided

@@ -1,4 +1,5 @@
-use Rattle.world.proofs.Decisions.{kept_nodes, chooses_one, tells_chosen, chooses_submitted}
+use Rattle.runs.proofs.Decisions.{chooses_one, tells_chosen, chooses_submitted}
+use Rattle.world.proofs.Keeping.{kept_nodes}
 use Rattle.world.proofs.world.World.sent.Goals as goal
 
 pub returns-clause-agreement : goal.returns-clause-agreement

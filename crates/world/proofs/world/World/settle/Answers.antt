@@ -1,5 +1,5 @@
 use Rattle.std.proofs.Common.{◌≡◌, suc, ◌+◌, ◌-◌, ◌∙◌, sym, ap, subst, arith}
-use Rattle.world.specs.Worlds.{settled}
+use Rattle.runs.specs.Worlds.{settled}
 use Rattle.world.proofs.Settled.{at, settled_next, settled_ends}
 use Rattle.world.proofs.world.World.settle.Goals as goal
 

@@ -1,5 +1,5 @@
 use Rattle.std.proofs.Common.{◌≡◌}
-use Rattle.world.specs.Worlds.{settled}
+use Rattle.runs.specs.Worlds.{settled}
 use Rattle.world.proofs.world.World.settle.Given as goal
 
 abbrev pub invariant-loop-events : goal.invariant-loop-events

@@ -1,14 +1,14 @@
 use Rattle.std.proofs.Common.{◌≡◌, ◌∙◌, ℕ, Option, None, sym, subst}
 use Rattle.world.specs.Connections.{service_of}
-use Rattle.world.specs.Decisions.{KeepsDecided}
+use Rattle.runs.specs.Decisions.{KeepsDecided}
 use Rattle.world.specs.Kept.{IsKept}
-use Rattle.world.specs.Refusals.{refusal_of}
-use Rattle.world.specs.Services.{Occurs}
+use Rattle.runs.specs.Refusals.{refusal_of}
+use Rattle.runs.specs.Services.{Occurs}
 use Rattle.world.specs.Waiting.{KeepsOthersOf}
-use Rattle.world.specs.Worlds.{World}
+use Rattle.runs.specs.Worlds.{World}
 use Rattle.world.proofs.Awaiting.{are_numbered}
 use Rattle.world.proofs.CatchingUp.{acted_untaken, acted_follows, event_behind}
-use Rattle.world.proofs.Decisions.{reached_nodes, cut_decided, happened_decided}
+use Rattle.runs.proofs.Decisions.{reached_nodes, cut_decided, happened_decided}
 use Rattle.world.proofs.Keeping.{kept_untaken, kept_new, kept_after, kept_cut, first_none}
 use Rattle.world.proofs.world.World.step.Goals as goal
 

@@ -1,0 +1,15 @@
+pub mod Chosen
+pub mod Decided
+pub mod Messages
+pub mod Runs
+pub mod Clients
+pub mod Services
+pub mod Refusals
+pub mod Projection
+pub mod Lives
+pub mod Decisions
+pub mod Worlds
+pub mod Interrupted
+pub mod Settling
+pub mod Events
+pub mod Examples

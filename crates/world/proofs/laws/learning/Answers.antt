@@ -1,5 +1,0 @@
-use Rattle.world.proofs.Theorems.{told_chosen, performed_prefix}
-use Rattle.world.proofs.laws.learning.Goals as goal
-
-pub returns : goal.returns
-returns g c = record { told = told_chosen; performed = performed_prefix }

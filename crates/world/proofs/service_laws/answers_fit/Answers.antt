@@ -1,5 +1,0 @@
-use Rattle.world.proofs.Fit.{every_answer_fits}
-use Rattle.world.proofs.service_laws.answers_fit.Goals as goal
-
-pub returns : goal.returns
-returns g c = every_answer_fits

@@ -1,5 +1,0 @@
-use Rattle.world.proofs.Serving.{every_service}
-use Rattle.world.proofs.service_laws.services_run_on_nodes.Goals as goal
-
-pub returns : goal.returns
-returns g c config happenings = (every_service config happenings).nodes

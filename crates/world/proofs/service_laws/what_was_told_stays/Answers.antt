@@ -1,5 +1,0 @@
-use Rattle.world.proofs.Later.{clients_stay}
-use Rattle.world.proofs.service_laws.what_was_told_stays.Goals as goal
-
-pub returns : goal.returns
-returns g c = clients_stay
