@@ -1,6 +1,6 @@
 //! Audits whose requests for memory are refused in turn.
 
-use crate::runs::{GONE, Plan, audited, play};
+use crate::session_runs::{GONE, Plan, audited, play};
 use audit::AuditError;
 use refusing::Refusal;
 use samples::{Heap, Scenario, check, requests};

@@ -1,6 +1,6 @@
 //! Changes of what a run leaves, so that logs or transcripts say something else than what happened.
 
-use crate::runs::Run;
+use crate::session_runs::Run;
 use ballot::{Envelope, Items, Message};
 use maildrop::Outcome;
 use node::{Input, NodeLog};

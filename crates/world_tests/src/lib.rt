@@ -23,7 +23,7 @@ mod order_tests;
 #[cfg(test)]
 mod run_tests;
 #[cfg(test)]
-mod runs;
+mod session_runs;
 #[cfg(test)]
 mod stopped_tests;
 #[cfg(test)]

@@ -1,7 +1,7 @@
 //! The events of a legal order, written by hand.
 
 use crate::changes::{Change, make_change};
-use crate::runs::{GONE, LINES, Plan, play};
+use crate::session_runs::{GONE, LINES, Plan, play};
 use audit::{Event, audit};
 use samples::{check, node};
 use std::alloc::Global;

@@ -1,7 +1,7 @@
 //! What an audit finds if logs or transcripts were changed.
 
 use crate::changes::{Change, make_change};
-use crate::runs::{LINES, Plan, Run, audited, play};
+use crate::session_runs::{LINES, Plan, Run, audited, play};
 use audit::AuditError::{self, NoOrder, WrongAnswer};
 use samples::{check, node};
 use std::alloc::Global;
