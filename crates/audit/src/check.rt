@@ -14,8 +14,8 @@ ghost use Rattle.audit.specs.Wrong.{are_good, node_of, seen_after, first_wrong a
 ghost use Rattle.audit.specs.Checks.{AreFound, IsLeft, AreLeft, AreAllNumbered, submit_of, named_after};
 ghost use Rattle.audit.specs.Checks as spec;
 
-use crate::home::{first_node, place_of};
 use crate::command_index::CommandIndex;
+use crate::home::{first_node, place_of};
 use crate::numbers::Numbers;
 use crate::outcomes::Outcomes;
 use maildrop::{CommandId, Outcome};

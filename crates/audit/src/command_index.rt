@@ -12,7 +12,12 @@ use std::alloc::Allocator;
 use std::hash::{BuildHasherDefault, FoldHasher};
 
 /// For each command that a transcript names the place of the first such transcript, and that of its first such entry.
-pub(crate) type CommandIndex<A> = IndexMap<CommandId, (usize, usize), BuildHasherDefault<FoldHasher>, A>;
+pub(crate) type CommandIndex<A> = IndexMap<
+    CommandId,
+    (usize, usize),
+    BuildHasherDefault<FoldHasher>,
+    A,
+>;
 
 /// Enters what a transcript names, over what others do.
 fn enter<A: Allocator + Copy>(
