@@ -76,13 +76,13 @@ module _ {A : Type 0} where
     cut_follows (event.Crash node) cut = moved_follows (Occurs (event.Crash node)) cut
 
   -- where a log stands, it stood, and was a front of it
-  record WasLog (w : Network A) (place : ℕ) (log : NodeLog A) : Type 0 where
-    old : NodeLog A
-    more : List (Input A)
-    at : slice_get w.logs place ≡ Some old
-    longer : log ≡ lengthened old more
+  pub record WasLog (w : Network A) (place : ℕ) (log : NodeLog A) : Type 0 where
+    pub old : NodeLog A
+    pub more : List (Input A)
+    pub at : slice_get w.logs place ≡ Some old
+    pub longer : log ≡ lengthened old more
 
-  was_log : (w later : Service A) → Follows w later → (place : ℕ) (log : NodeLog A) → slice_get later.network.logs place ≡ Some log → WasLog w.network place log
+  pub was_log : (w later : Service A) → Follows w later → (place : ℕ) (log : NodeLog A) → slice_get later.network.logs place ≡ Some log → WasLog w.network place log
   was_log w later follows place log at =
       let low = slice_get_within later.network.logs place log at in
       let count : length later.network.logs ≡ length w.network.logs = ap (λ (n : Network A). length n.logs) follows.1 ∙ happen_count w.network follows.0 in
@@ -97,7 +97,7 @@ module _ {A : Type 0} where
         longer = some_same log (lengthened old more.0) (sym at ∙ ap (λ (n : Network A). slice_get n.logs place) follows.1 ∙ more.1);
       }
 
-  was_up : (old : NodeLog A) (more : List (Input A)) → is_up (Some (lengthened old more)) ≡ true → is_up (Some old) ≡ true
+  pub was_up : (old : NodeLog A) (more : List (Input A)) → is_up (Some (lengthened old more)) ≡ true → is_up (Some old) ≡ true
   was_up old more up =
       go (list_any is_crash old.inputs) (sym (ap not (list_any-append is_crash old.inputs more)) ∙ up)
     where
@@ -109,7 +109,7 @@ module _ {A : Type 0} where
   the_answer None some = absurd (cc some)
   the_answer (Some answer) some = (answer, refl)
 
-  at_its_place : (n : ℕ) (logs : List (NodeLog A)) (log : NodeLog A) → log_of n logs ≡ Some log → (k : ℕ) × (n ≡ suc k) × (slice_get logs k ≡ Some log)
+  pub at_its_place : (n : ℕ) (logs : List (NodeLog A)) (log : NodeLog A) → log_of n logs ≡ Some log → (k : ℕ) × (n ≡ suc k) × (slice_get logs k ≡ Some log)
   at_its_place zero logs log at = absurd (cc at)
   at_its_place (suc k) logs log at = (k, refl, at)
 

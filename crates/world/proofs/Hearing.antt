@@ -1,5 +1,5 @@
 -- The index of sessions that await an answer, as it hears what nodes have performed, and what an event leaves to be heard.
-use Rattle.std.proofs.Common.{◌≡◌, ◌≢◌, ℕ, ◌+◌, ◌<◌, List, [], ◌∷◌, true, false, Some, refl, sym, ap, ◌∙◌, inl, inr, ⊎_elim, arith, length, set, drop}
+use Rattle.std.proofs.Common.{◌≡◌, ◌≢◌, ℕ, ◌+◌, ◌<◌, List, [], ◌∷◌, Bool, true, false, Option, Some, refl, sym, ap, ◌∙◌, inl, inr, ⊎_elim, arith, length, set, drop}
 use Rattle.std.specs.Prelude.{◌⊎◌, slice_get}
 use Rattle.std.proofs.lemmas.List.{length-set, get_or-set_same, get_or-set_other}
 use Rattle.std.proofs.lemmas.Option.{slice_get_within, slice_get-get_or}
@@ -9,8 +9,8 @@ use Rattle.node.specs.Replay.{mail_rules, replayed}
 use Rattle.node.specs.declared.log.NodeLog.{NodeLog}
 use Rattle.replica.specs.Replicas.{has_identity}
 use Rattle.world.specs.Hosts.{Hosts, network_of}
-use Rattle.runs.specs.Messages.{is_up}
 use Rattle.runs.specs.Worlds.{performed_in}
+use Rattle.world.specs.Values.{is_known}
 use Rattle.world.specs.Waiting.{Waiting, MayHave, IsWatched, IsBehind, IsHeard, IsUnheard, IsUpToDate, nowhere}
 use Rattle.world.specs.declared.connection.Connection.{Connection}
 use Rattle.runs.proofs.Logs.{some_same}
@@ -76,8 +76,10 @@ module _ {A : Type 0} where
     heard_there k apart is log at up = ap (λ hs. slice_get hs k) heard ∙ set_there w.heard node k (length performed) _ apart (is log at up)
 
   -- one that is down, or isn't there
-  pub down_heard : (hosts : Hosts A) (w : Waiting) (node : ℕ) → (is_up (slice_get (network_of hosts).logs node) ≡ true → false ≡ true) → IsHeard hosts w node
-  down_heard hosts w node down log at up = absurd (let no : false ≡ true = down (ap is_up at ∙ up) in cc)
+  pub down_heard : (hosts : Hosts A) (w : Waiting) (node : ℕ) (crashed : Option Bool) → false ≡ is_known (slice_get (network_of hosts).logs node) crashed → IsHeard hosts w node
+  down_heard hosts w node crashed unknown log at up =
+      let known : is_known (Some log) crashed ≡ true = rw (up) refl in
+      absurd (let no : false ≡ true = unknown ∙ ap (λ o. is_known o crashed) at ∙ known in cc)
 
   -- once all was heard
   pub all_heard : (hosts : Hosts A) (es : List (ℕ × Connection A)) (w : Waiting) → IsBehind nowhere hosts es w → ((k : ℕ) → k < length w.heard → IsHeard hosts w k) → IsUpToDate hosts es w

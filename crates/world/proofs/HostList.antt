@@ -3,7 +3,6 @@ use Rattle.std.proofs.Common.{◌≡◌, ◌≢◌, ℕ, zero, suc, ◌+◌, ◌
 use Rattle.std.specs.Prelude.{slice_get, ◌⊎◌, option_map, Result, Ok, Err, OnOk, OnErr, IfSome}
 use Rattle.std.proofs.lemmas.Option.{slice_get_read, slice_get_past}
 use Rattle.maildrop.specs.CommandId.{CommandId}
-use Rattle.maildrop.specs.Ticket.{Ticket}
 use Rattle.node.specs.Nodes.{logged}
 use Rattle.node.specs.Replay.{replayed, sends_of}
 use Rattle.maildrop.specs.declared.command.Command.{Command}
@@ -13,8 +12,8 @@ use Rattle.node.specs.declared.input.Input.{Input}
 use Rattle.node.specs.declared.input.Input.TheVariants.{Crash}
 use Rattle.node.specs.declared.log.NodeLog.{NodeLog}
 use Rattle.world.specs.Hosts.{Host, Hosts, HasAnswer, HasAnswerAt, host_at, logs_of, log_after, network_of, sent_after, can_count, counted}
-use Rattle.runs.specs.Messages.{Network, log_of, is_up, newly_sent, taken_by, given_input, with_arrival, last_ticket_of}
-use Rattle.runs.specs.Worlds.{last_ticket_in, performed_in}
+use Rattle.runs.specs.Messages.{Network, log_of, is_up, newly_sent, taken_by, given_input, with_arrival}
+use Rattle.runs.specs.Worlds.{performed_in}
 use Rattle.runs.specs.declared.sent.Sent.{Sent}
 use Rattle.world.proofs.Hosting.{crash_sent}
 
@@ -178,11 +177,6 @@ module _ {A : Type 0} where
       go : (o : Option (NodeLog A)) → counted which (taken_by w n i o) ≡ taken_by (counted which w) n i o
       go None = refl
       go (Some log) = up log (is_up (Some log))
-
-  -- the ticket that a node gave last, by its log
-  pub given_at : (o : Option Ticket) (at : Option (NodeLog A)) (log : NodeLog A) (user : List ℕ) → at ≡ Some log → IfSome o (λ ticket. last_ticket_of log user ≡ Some ticket) → IfSome o (λ ticket. last_ticket_in at user ≡ Some ticket)
-  given_at None at log user e p = tt
-  given_at (Some ticket) at log user e p = ap (λ l. last_ticket_in l user) e ∙ p
 
   -- what a node has performed, by its log
   pub performed_at : {X : Type 0} (o : Option X) (now : X → List (ℕ × Command A)) (at : Option (NodeLog A)) (log : NodeLog A) → at ≡ Some log → IfSome o (λ x. now x ≡ (replayed log).replica.performed)

@@ -17,7 +17,7 @@ use Rattle.node.specs.declared.stopped.Stopped.{Stopped}
 use Rattle.node.specs.declared.stopped.Stopped.TheVariants.{Crashed, Memory, TicketsUsed}
 use Rattle.node.proofs.Kept.{crash-push}
 use Rattle.node.proofs.Replaying.{replayed-push}
-use Rattle.world.specs.Hosts.{Host, known_log, crashed_instead, host_of, IsLoggedSo, HasAnswer, without_last, log_after, sent_after}
+use Rattle.world.specs.Hosts.{Host, has_crashed, known_log, crashed_instead, host_of, IsLoggedSo, HasAnswer, without_last, log_after, sent_after}
 use Rattle.runs.specs.Messages.{is_up, newly_sent}
 use Rattle.runs.specs.declared.sent.Sent.{Sent}
 use Rattle.world.proofs.AnswersStay.{all_left}
@@ -50,6 +50,7 @@ module _ {A : Type 0} where
     pub log : node.log ≡ host.log
     pub awaited : node.awaited ≡ host.awaited
     pub no_crash : list_any is_crash node.log.inputs ≡ false
+    pub uncrashed : host.crashed ≡ false
 
   pub running : (node : NodeValue A) (is_cut : Bool) (host : Host A) → IsLoggedSo node.stopped node.log → host_of node is_cut ≡ host → is_up (Some host.log) ≡ true → IsRunning node is_cut host
   running node true host h same up = absurd (cc (ap (λ (x : Host A). is_up (Some x.log)) same, crashed_down (record { opening = node.log.opening; inputs = without_last node.log.inputs })))
@@ -57,7 +58,7 @@ module _ {A : Type 0} where
       go node.stopped refl h (ap (λ (x : Host A). x.log) same) up
     where
       go : (s : Option Stopped) → node.stopped ≡ s → IsLoggedSo s node.log → known_log s node.log ≡ host.log → is_up (Some host.log) ≡ true → IsRunning node false host
-      go None e k its up = record { whole = refl; runs = e; log = its; awaited = ap (λ (x : Host A). x.awaited) same; no_crash = k }
+      go None e k its up = record { whole = refl; runs = e; log = its; awaited = ap (λ (x : Host A). x.awaited) same; no_crash = k; uncrashed = ap (λ (x : Host A). x.crashed) (sym same) ∙ ap has_crashed e }
       go (Some Crashed) e k its up = absurd (cc (ap (λ (l : NodeLog A). is_up (Some l)) its))
       go (Some Memory) e k its up = absurd (cc (ap (λ (l : NodeLog A). is_up (Some l)) its, crashed_down node.log))
       go (Some TicketsUsed) e k its up = absurd (cc (ap (λ (l : NodeLog A). is_up (Some l)) its, crashed_down node.log))

@@ -1,5 +1,5 @@
 -- What the type of a world keeps, after a step and after an outcome is taken.
-use Rattle.std.proofs.Common.{◌≡◌, ◌≢◌, ℕ, zero, suc, ◌+◌, ◌≤◌, ◌<◌, List, [], ◌∷◌, ◌++◌, Bool, true, false, Option, Some, None, refl, sym, ap, ◌∙◌, subst, inl, inr, ⊎_elim, arith, cond, eqb, true≢false}
+use Rattle.std.proofs.Common.{◌≡◌, ℕ, zero, suc, ◌+◌, ◌≤◌, ◌<◌, List, [], ◌∷◌, ◌++◌, Bool, true, false, Option, Some, None, refl, sym, ap, ◌∙◌, subst, inl, inr, ⊎_elim, arith, cond, eqb, true≢false}
 use Rattle.std.specs.Prelude.{◌⊎◌, is_some, option_map, slice_get}
 use Rattle.std.specs.Option.{option_or}
 use Rattle.ballot.specs.Nodes.{in_cluster}

@@ -11,6 +11,7 @@ pub mod WholeRuns
 pub mod AnswersStay
 pub mod Hosting
 pub mod HostList
+pub mod Crashes
 pub mod HeardLines
 pub mod Locks
 pub mod Replying

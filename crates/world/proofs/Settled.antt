@@ -1,7 +1,13 @@
 -- Events that come next in turn.
-use Rattle.std.proofs.Common.{◌≡◌, ◌≢◌, ℕ, zero, suc, ◌+◌, Option, Some, None, refl, sym, ap, ◌∙◌, arith}
-use Rattle.runs.specs.Worlds.{World, Settled, next_oldest, one_more, settled, settled_by, stepped}
+use Rattle.std.proofs.Common.{◌≡◌, ◌≢◌, ℕ, zero, suc, ◌+◌, List, Bool, Option, Some, None, refl, sym, ap, ◌∙◌, arith, drop}
+use Rattle.std.specs.Prelude.{find, position, option_map}
+use Rattle.std.specs.Option.{option_or}
+use Rattle.runs.specs.Clients.{Client}
+use Rattle.runs.specs.Services.{Service}
+use Rattle.runs.specs.Worlds.{World, Settled, is_answered, may_arrive, next_oldest, one_more, settled, settled_by, stepped}
 use Rattle.runs.specs.declared.event.Event.{Event}
+use Rattle.runs.specs.declared.event.Event.TheVariants as event
+use Rattle.world.specs.Values.{crashed_after}
 
 module _ {A : Type 0} where
   abbrev pub at : ℕ → World A → Settled A
@@ -32,6 +38,16 @@ module _ {A : Type 0} where
       go (Some d) q ih =
           let first : settled n (stepped w d) ≡ at n v = before_one (settled n (stepped w d)) n v (sym (ap (settled_by (settled n) w) q) ∙ so) in
           ap (settled_by (settled (suc n)) w) q ∙ ap one_more (ih d first) ∙ one_after (suc n) (stepped v e)
+
+  -- what comes next crashes nobody
+  pub next_uncrashed : (w : Service A) (from : ℕ) (e : Event A) (crashed : List Bool) → next_oldest w from ≡ Some e → crashed_after e crashed ≡ crashed
+  next_uncrashed w from e crashed next =
+      go (find (λ (c : ℕ × Client A). is_answered w c.1 c.1.standing) w.clients) (position (may_arrive w 1) (drop from w.network.sent)) next
+    where
+      go : (answer : Option (ℕ × Client A)) (place : Option ℕ) → option_or (option_map (λ c. event.Collect c.0) answer) (option_map (λ k. event.Arrive (from + k)) place) ≡ Some e → crashed_after e crashed ≡ crashed
+      go (Some c) place is = let same : event.Collect c.0 ≡ e = cc in ap (λ (x : Event A). crashed_after x crashed) (sym same)
+      go None (Some k) is = let same : event.Arrive (from + k) ≡ e = cc in ap (λ (x : Event A). crashed_after x crashed) (sym same)
+      go None None is = absurd (cc)
 
   pub settled_ends : (n m : ℕ) (w v : World A) → settled n w ≡ at n v → next_oldest v.service 0 ≡ None → (limit : ℕ) → n + m ≡ limit → settled limit w ≡ at n v
   settled_ends zero m w v so none zero e = so

@@ -1,5 +1,5 @@
 -- Worked runs of a service of one node with one user.
-use Rattle.std.specs.Prelude.{◌≡◌, refl, ℕ, List, [], ◌∷◌, ◌++◌, fold, Option, Some, None, option_map, codes}
+use Rattle.std.specs.Prelude.{◌≡◌, refl, ℕ, List, [], ◌∷◌, ◌++◌, fold, Bool, true, false, Option, Some, None, option_map, codes}
 use Rattle.std.specs.List.{concat, flat_map}
 use Rattle.std.specs.Fmt.{digits}
 use Rattle.maildrop.specs.Limits.{Limits}
@@ -18,6 +18,7 @@ use Rattle.runs.specs.Messages.{log_of}
 use Rattle.runs.specs.Projection.{own_commands, alone_bytes}
 use Rattle.runs.specs.Refusals.{refusal_of, step_refusal}
 use Rattle.world.specs.Scheduling.{reach}
+use Rattle.world.specs.Values.{WorldValue, crashed_after, is_known_at}
 use Rattle.runs.specs.Services.{Happening, Occurs, Lost, Service, run_of}
 use Rattle.runs.specs.Worlds.{World, new_world, stepped, outcome_at, outcome_left, without_outcome, last_ticket, next_oldest, next_newest, settled}
 use Rattle.runs.specs.declared.config.Config.{Config}
@@ -205,6 +206,19 @@ module _ (A : Type 0) (limits : Limits) where
 
   none_of_bob : last_ticket broken.service 1 (codes "bob") ≡ None
   none_of_bob = refl
+
+  -- what a crashed node did is known, but not once want of memory has stopped it
+  abbrev after_crash : List Bool → WorldValue A
+  after_crash crashed = record { world = stepped_by (Crash 1 ∷ []); crashed = crashed }
+
+  known_once_crashed : is_known_at (after_crash (crashed_after {A = A} (Crash 1) (false ∷ []))) 1 ≡ true
+  known_once_crashed = refl
+
+  unknown_without_memory : is_known_at (after_crash (false ∷ [])) 1 ≡ false
+  unknown_without_memory = refl
+
+  unknown_where_none_is : is_known_at (after_crash (true ∷ [])) 2 ≡ false
+  unknown_where_none_is = refl
 
 -- the blocks of places: every other place is alone, and place 3 has all from 0 to 6
 alone_in_its_block : reach 4 ≡ 0

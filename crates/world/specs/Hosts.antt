@@ -1,5 +1,5 @@
 -- The nodes of a world, as it keeps them: each with its answers, and with a crash in its log where it has stopped for want of memory.
-use Rattle.std.specs.Prelude.{◌≡◌, ℕ, zero, suc, nat_lt, List, [], ◌∷◌, ◌++◌, map, true, false, Bool, Option, Some, None, slice_get, if◌then◌else◌}
+use Rattle.std.specs.Prelude.{◌≡◌, ℕ, zero, suc, ◌-◌, nat_lt, List, [], ◌∷◌, ◌++◌, map, set, true, false, Bool, Option, Some, None, slice_get, if◌then◌else◌}
 use Rattle.std.specs.List.{list_any}
 use Rattle.maildrop.specs.CommandId.{CommandId}
 use Rattle.maildrop.specs.Ticket.{Ticket}
@@ -10,13 +10,14 @@ use Rattle.node.specs.declared.input.Input.TheVariants.{Crash}
 use Rattle.node.specs.declared.log.NodeLog.{NodeLog}
 use Rattle.node.specs.declared.stopped.Stopped.{Stopped}
 use Rattle.node.specs.declared.stopped.Stopped.TheVariants.{Crashed, Memory, TicketsUsed}
-use Rattle.runs.specs.Messages.{Network, is_up, newly_sent, given_input, with_arrival}
+use Rattle.runs.specs.Messages.{Network, is_up, log_of, newly_sent, given_input, with_arrival}
 use Rattle.runs.specs.declared.sent.Sent.{Sent}
 
--- a node: the log that a run knows, and what is awaited of it
+-- a node: the log that a run knows, what is awaited of it, and whether an input has crashed it. One without memory has crashed only in that log
 pub record Host (A : Type 0) : Type 0 where
   pub log : NodeLog A
   pub awaited : Awaited A
+  pub crashed : Bool
 
 -- the nodes, in the order of their numbers, and all messages, in the order in which they were sent
 pub record Hosts (A : Type 0) : Type 0 where
@@ -27,6 +28,11 @@ abbrev pub without_last : {X : Type 0} → List X → List X
 without_last [] = []
 without_last (x ∷ []) = []
 without_last (x ∷ y ∷ ys) = x ∷ without_last (y ∷ ys)
+
+-- whether an input has crashed the node
+abbrev pub has_crashed : Option Stopped → Bool
+has_crashed (Some Crashed) = true
+has_crashed _ = false
 
 module _ {A : Type 0} where
   -- a run has a crash of a node that has stopped for want of memory or tickets
@@ -41,8 +47,8 @@ module _ {A : Type 0} where
   crashed_instead log = logged (record { opening = log.opening; inputs = without_last log.inputs }) Crash
 
   abbrev pub host_of : NodeValue A → Bool → Host A
-  host_of node true = record { log = crashed_instead node.log; awaited = node.awaited }
-  host_of node false = record { log = known_log node.stopped node.log; awaited = node.awaited }
+  host_of node true = record { log = crashed_instead node.log; awaited = node.awaited; crashed = false }
+  host_of node false = record { log = known_log node.stopped node.log; awaited = node.awaited; crashed = has_crashed node.stopped }
 
   -- a node that runs has no crash in its log, and one that has crashed has one
   abbrev pub IsLoggedSo : Option Stopped → NodeLog A → Type 0
@@ -67,12 +73,26 @@ module _ {A : Type 0} where
   abbrev pub HasAnswerAt : ℕ → CommandId → Hosts A → Type 0
   HasAnswerAt n id w = (host : Host A) → host_at n w.hosts ≡ Some host → HasAnswer id host
 
+  -- of each node, whether an input has crashed it
+  abbrev pub crashes_of : Hosts A → List Bool
+  crashes_of w = map (λ h. h.crashed) w.hosts
+
   -- what an input makes of a log, and what it sends behind these messages, where the node is up
   abbrev pub log_after : NodeLog A → Input A → NodeLog A
   log_after log i = if is_up (Some log) then logged log i else log
 
   abbrev pub sent_after : NodeLog A → Input A → List (Sent A) → List (Sent A)
   sent_after log i sent = if is_up (Some log) then sent ++ newly_sent (sends_of log i) else sent
+
+  -- whether an input has crashed the node, after one more
+  abbrev pub crashed_by : Input A → Host A → Bool
+  crashed_by Crash host = if is_up (Some host.log) then true else host.crashed
+  crashed_by _ host = host.crashed
+
+  -- of each node, after an input to this one
+  abbrev pub crashes_after : Input A → ℕ → Hosts A → List Bool
+  crashes_after Crash n w = if is_up (log_of n (network_of w).logs) then set (crashes_of w) (n - 1) true else crashes_of w
+  crashes_after _ n w = crashes_of w
 
   -- the ticket that the node gives at an input, where it is up
   abbrev pub ticket_at : Option (NodeLog A) → Input A → Option Ticket

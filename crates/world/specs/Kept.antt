@@ -3,15 +3,17 @@ use Rattle.std.specs.Prelude.{◌≡◌, ℕ, zero, suc, ◌≤◌, ◌⊎◌, L
 use Rattle.std.specs.Map.{lookup}
 use Rattle.maildrop.specs.CommandId.{CommandId, same_id}
 use Rattle.node.specs.Replay.{submits_of}
+use Rattle.node.specs.declared.input.Input.TheVariants.{Crash}
 use Rattle.node.specs.declared.log.NodeLog.{NodeLog}
 use Rattle.node.specs.declared.log.Opening.{Opening}
 use Rattle.session.specs.declared.state.State.{State}
 use Rattle.runs.specs.Clients.{Client, Waits, client_of}
 use Rattle.world.specs.Connections.{AreFit, awaited_by, connection_of, service_of}
-use Rattle.world.specs.Hosts.{Host, Hosts, HasAnswerAt}
+use Rattle.world.specs.Hosts.{Host, Hosts, HasAnswerAt, crashes_of, crashes_after}
 use Rattle.runs.specs.Messages.{log_of}
 use Rattle.runs.specs.Services.{Service}
 use Rattle.runs.specs.Worlds.{World, IsReached}
+use Rattle.world.specs.Values.{WorldValue}
 use Rattle.runs.specs.declared.config.Config.{Config}
 use Rattle.world.specs.declared.connection.Connection.{Connection}
 use Rattle.runs.specs.declared.event.Event.{Event}
@@ -21,9 +23,12 @@ module _ {A : Type 0} where
   abbrev pub world_of : Config A → Hosts A → List (ℕ × Connection A) → List (CommandId × Bool) → World A
   world_of cfg hosts connections operations = record { config = cfg; service = service_of hosts connections; operations = operations }
 
+  abbrev pub value_of : Config A → Hosts A → List (ℕ × Connection A) → List (CommandId × Bool) → WorldValue A
+  value_of cfg hosts connections operations = record { world = world_of cfg hosts connections operations; crashed = crashes_of hosts }
+
   -- node n, that has taken no input; m such nodes from number n on, that begin alike but for their numbers
   abbrev pub new_host : Opening A → ℕ → Host A
-  new_host first n = record { log = record { opening = record first { me = n }; inputs = [] }; awaited = [] }
+  new_host first n = record { log = record { opening = record first { me = n }; inputs = [] }; awaited = []; crashed = false }
 
   abbrev pub new_hosts : Opening A → ℕ → ℕ → List (Host A)
   new_hosts first n zero = []
@@ -37,6 +42,11 @@ module _ {A : Type 0} where
   abbrev pub collected_by : List (ℕ × Connection A) → Event A → Option CommandId
   collected_by connections (event.Collect session) = awaited_in (connection_of session connections)
   collected_by connections event = None
+
+  -- of each node, whether an event has crashed it, after one more
+  abbrev pub crashes_by : Event A → Hosts A → List Bool
+  crashes_by (event.Crash node) hosts = crashes_after Crash node hosts
+  crashes_by event hosts = crashes_of hosts
 
   -- the node of the command's ticket has given that ticket to the command's user
   pub record IsGiven (w : Service A) (id : CommandId) : Type 0 where

@@ -1,6 +1,7 @@
 pub mod Hosts
 pub mod Connections
 pub mod Served
+pub mod Values
 pub mod Kept
 pub mod Scheduling
 pub mod Waiting

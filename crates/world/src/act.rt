@@ -2,10 +2,10 @@
 ghost use Rattle.std.specs.Prelude.{◌≡◌, ◌++◌, ℕ, List, Some, None, OnOk, OnErr};
 ghost use Rattle.std.specs.Map.{lookup};
 ghost use Rattle.world.specs.Connections.{service_of, AreFit, AreUntaken};
-ghost use Rattle.world.specs.Hosts.{network_of, HasAnswerAt};
+ghost use Rattle.world.specs.Hosts.{network_of, HasAnswerAt, crashes_of, crashes_after};
 ghost use Rattle.runs.specs.Interrupted.{IsInterrupted};
 ghost use Rattle.runs.specs.Events.{session_of};
-ghost use Rattle.world.specs.Kept.{collected_by};
+ghost use Rattle.world.specs.Kept.{collected_by, crashes_by};
 ghost use Rattle.runs.specs.Refusals.{refusal_of};
 ghost use Rattle.runs.specs.Services.{occurs, next_id};
 ghost use Rattle.runs.specs.Messages.{log_of, given_input};
@@ -45,6 +45,8 @@ pub(crate) fn act<A: Allocator + Copy>(
         → OnOk result (operations.new.entries ≡ operations.old.entries ++ operation_of (service_of hosts.old connections.old.entries) event) }
     ensures unchanged { OnErr result (operations.new.entries ≡ operations.old.entries) }
     ensures answers { (n : ℕ) (id : CommandId) → (collected_by connections.old.entries event ≡ Some id → ⊥) → HasAnswerAt n id hosts.old → HasAnswerAt n id hosts.new }
+    ensures crashed { OnOk result (crashes_of hosts.new ≡ crashes_by event hosts.old) }
+    ensures uncrashed { OnErr result (crashes_of hosts.new ≡ crashes_of hosts.old) }
 {
     match event {
         Event::Connect {
@@ -83,6 +85,8 @@ fn give<A: Allocator + Copy>(
     ensures ok { OnOk result (network_of hosts.new ≡ given_input (network_of hosts.old) node input) }
     ensures err { OnErr result (network_of hosts.new ≡ given_input (network_of hosts.old) node Crash) }
     ensures answers { (n : ℕ) (id : CommandId) → HasAnswerAt n id hosts.old → HasAnswerAt n id hosts.new }
+    ensures crashed { OnOk result (crashes_of hosts.new ≡ crashes_after input node hosts.old) }
+    ensures uncrashed { OnErr result (crashes_of hosts.new ≡ crashes_of hosts.old) }
 {
     match hosts.take(node, input) {
         Ok(_) => Ok(()),

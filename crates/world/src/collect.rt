@@ -6,7 +6,7 @@ ghost use Rattle.session.specs.Dialogue.{IsSettled};
 ghost use Rattle.session.specs.Session.{awaits_answer, by_answer, lock_due, lock_got};
 ghost use Rattle.runs.specs.Clients.{Failed, standing_as};
 ghost use Rattle.world.specs.Connections.{client_in, awaited_by, IsFit};
-ghost use Rattle.world.specs.Hosts.{network_of, HasAnswerAt};
+ghost use Rattle.world.specs.Hosts.{network_of, HasAnswerAt, crashes_of};
 ghost use Rattle.world.specs.Served.{IsCollectAt, IsCollectCutAt};
 ghost use Rattle.runs.specs.Services.{by_turn, after_answer};
 
@@ -28,6 +28,7 @@ impl<A: Allocator + Copy> Connection<A> {
         ensures err { OnErr result (IsCollectCutAt (client_in self.old).standing (network_of hosts.old) (client_in self.old) (client_in self.new)) }
         ensures fit { IsFit self.new }
         ensures others { (n : ℕ) (other : CommandId) → ((id : CommandId) → awaited_by self.old.standing ≡ Some id → is_eq (compare_ids id other) ≡ false) → HasAnswerAt n other hosts.old → HasAnswerAt n other hosts.new }
+        ensures crashed { crashes_of hosts.new ≡ crashes_of hosts.old }
     {
         let Some(id) = self.awaited() else {
             return Ok(());

@@ -5,7 +5,7 @@ ghost use Rattle.std.specs.Ordering.{is_eq};
 ghost use Rattle.maildrop.specs.CommandId.{CommandId, compare_ids};
 ghost use Rattle.runs.specs.Clients.{new_client};
 ghost use Rattle.world.specs.Connections.{service_of, client_in, IsFit, AreFit, AreUntaken, connection_of, awaited_by};
-ghost use Rattle.world.specs.Hosts.{HasAnswerAt};
+ghost use Rattle.world.specs.Hosts.{HasAnswerAt, crashes_of};
 ghost use Rattle.runs.specs.Interrupted.{IsInterrupted};
 ghost use Rattle.runs.specs.Services.{occurs};
 ghost use Rattle.world.specs.Waiting.{KeepsOthers};
@@ -91,6 +91,7 @@ pub(crate) fn send_line<A: Allocator + Copy>(
     ensures err { (cfg : Config A) → OnErr result (IsInterrupted cfg (event.Line session line) (service_of hosts.old connections.old.entries) (service_of hosts.new connections.new.entries)) }
     ensures fit { AreFit connections.new.entries }
     ensures answers { (n : ℕ) (id : CommandId) → HasAnswerAt n id hosts.old → HasAnswerAt n id hosts.new }
+    ensures crashed { crashes_of hosts.new ≡ crashes_of hosts.old }
     ensures sessions { KeepsOthers session connections.old.entries connections.new.entries }
 {
     match connections.get_mut(&session) {
@@ -113,6 +114,7 @@ pub(crate) fn collect_answer<A: Allocator + Copy>(
     ensures others { (n : ℕ) (other : CommandId)
         → ((c : Connection A) (id : CommandId) → connection_of session connections.old.entries ≡ Some c → awaited_by c.standing ≡ Some id → is_eq (compare_ids id other) ≡ false)
         → HasAnswerAt n other hosts.old → HasAnswerAt n other hosts.new }
+    ensures crashed { crashes_of hosts.new ≡ crashes_of hosts.old }
     ensures sessions { KeepsOthers session connections.old.entries connections.new.entries }
 {
     match connections.get_mut(&session) {
@@ -132,6 +134,7 @@ pub(crate) fn hang_up<A: Allocator + Copy>(
     ensures err { (cfg : Config A) → OnErr result (IsInterrupted cfg (event.Hangup session) (service_of hosts.old connections.old.entries) (service_of hosts.new connections.new.entries)) }
     ensures fit { AreFit connections.new.entries }
     ensures answers { (n : ℕ) (id : CommandId) → HasAnswerAt n id hosts.old → HasAnswerAt n id hosts.new }
+    ensures crashed { crashes_of hosts.new ≡ crashes_of hosts.old }
     ensures sessions { KeepsOthers session connections.old.entries connections.new.entries }
 {
     match connections.get_mut(&session) {

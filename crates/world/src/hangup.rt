@@ -6,7 +6,7 @@ ghost use Rattle.node.specs.declared.input.Input.TheVariants.{Crash, Submit};
 ghost use Rattle.session.specs.Session.{takes_line, lock_due, free_of};
 ghost use Rattle.runs.specs.Clients.{Disconnected, standing_as};
 ghost use Rattle.world.specs.Connections.{client_in, IsFit};
-ghost use Rattle.world.specs.Hosts.{network_of, HasAnswerAt};
+ghost use Rattle.world.specs.Hosts.{network_of, HasAnswerAt, crashes_of};
 ghost use Rattle.runs.specs.Messages.{is_up, log_of, given_input};
 ghost use Rattle.world.specs.Served.{IsHangup, IsHangupCut, IsFreed};
 
@@ -25,6 +25,7 @@ impl<A: Allocator + Copy> Connection<A> {
         ensures err { OnErr result (IsHangupCut (network_of hosts.old) (network_of hosts.new) (client_in self.old) (client_in self.new)) }
         ensures fit { IsFit self.new }
         ensures answers { (n : ℕ) (id : CommandId) → HasAnswerAt n id hosts.old → HasAnswerAt n id hosts.new }
+        ensures crashed { crashes_of hosts.new ≡ crashes_of hosts.old }
     {
         if !hosts.is_up(self.node) {
             return Ok(());
@@ -47,6 +48,7 @@ impl<A: Allocator + Copy> Connection<A> {
         ensures err { OnErr result ((network_of hosts.new ≡ given_input (network_of hosts.old) self.old.node Crash) × (client_in self.new ≡ standing_as (client_in self.old) Disconnected)) }
         ensures fit { IsFit self.new }
         ensures answers { (n : ℕ) (id : CommandId) → HasAnswerAt n id hosts.old → HasAnswerAt n id hosts.new }
+        ensures crashed { crashes_of hosts.new ≡ crashes_of hosts.old }
     {
         let lock = self.end();
         match self.give_back(hosts, lock) {
@@ -69,6 +71,7 @@ impl<A: Allocator + Copy> Connection<A> {
         ensures err { OnErr result ((network_of hosts.new ≡ given_input (network_of hosts.old) self.old.node Crash) × (self.new ≡ self.old)) }
         ensures fit { OnOk result (IsFit self.new) }
         ensures answers { (n : ℕ) (id : CommandId) → HasAnswerAt n id hosts.old → HasAnswerAt n id hosts.new }
+        ensures crashed { crashes_of hosts.new ≡ crashes_of hosts.old }
     {
         if let Some(lock) = lock {
             self.free(hosts, lock)?;
@@ -83,6 +86,7 @@ impl<A: Allocator + Copy> Connection<A> {
         ensures ok { OnOk result (network_of hosts.new ≡ given_input (network_of hosts.old) self.now.node (Submit lock.0 (Free lock.1))) }
         ensures err { OnErr result (network_of hosts.new ≡ given_input (network_of hosts.old) self.now.node Crash) }
         ensures answers { (n : ℕ) (id : CommandId) → HasAnswerAt n id hosts.old → HasAnswerAt n id hosts.new }
+        ensures crashed { crashes_of hosts.new ≡ crashes_of hosts.old }
     {
         let _ = hosts.submit(self.node, lock.0, Op::Free { lock: lock.1 })?;
         Ok(())

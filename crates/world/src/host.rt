@@ -1,11 +1,12 @@
 //! A node of a service, with its log as a run knows it.
-ghost use Rattle.std.specs.Prelude.{◌≡◌, ◌++◌, [], true, false, Some, None, is_some, IfOk, OnOk, OnErr, IfSome};
+ghost use Rattle.std.specs.Prelude.{◌≡◌, ◌++◌, [], true, false, Some, None, is_some, if◌then◌else◌, IfOk, OnOk, OnErr, IfSome};
 ghost use Rattle.std.specs.Ordering.{is_eq};
 ghost use Rattle.maildrop.specs.CommandId.{CommandId, compare_ids};
 ghost use Rattle.node.specs.Nodes.{logged};
 ghost use Rattle.node.specs.Replay.{replayed, sends_of, ticket_of};
 ghost use Rattle.node.specs.declared.input.Input.TheVariants.{Crash};
-ghost use Rattle.world.specs.Hosts.{HasAnswer, log_after, sent_after, ticket_at};
+ghost use Rattle.world.specs.Hosts.{HasAnswer, crashed_by, log_after, sent_after, ticket_at};
+ghost use Rattle.world.specs.Values.{is_known};
 ghost use Rattle.runs.specs.Messages.{is_up, newly_sent, last_ticket_of};
 ghost use Rattle.runs.specs.Worlds.{answer_at};
 
@@ -39,7 +40,7 @@ impl<A: Allocator + Copy> Host<A> {
     pub(crate) fn new(node: Node<A>) -> Self
         requires running { node.stopped ≡ None }
         requires new { node.log.inputs ≡ [] }
-        ensures { result ≡ record { log = node.log; awaited = node.awaited } }
+        ensures { result ≡ record { log = node.log; awaited = node.awaited; crashed = false } }
     {
         Host {
             node,
@@ -67,6 +68,8 @@ impl<A: Allocator + Copy> Host<A> {
         ensures crashed { OnErr result (self.new.log ≡ logged self.old.log Crash) }
         ensures unsent { OnErr result (sent.new ≡ sent.old) }
         ensures answers { (id : CommandId) → HasAnswer id self.old → HasAnswer id self.new }
+        ensures input { OnOk result (self.new.crashed ≡ crashed_by input self.old) }
+        ensures cut { OnErr result (self.new.crashed ≡ self.old.crashed) }
     {
         match self.node.step(input) {
             Ok(outputs) => match sent.add_all(outputs.sends) {
@@ -92,6 +95,8 @@ impl<A: Allocator + Copy> Host<A> {
         ensures crashed { OnErr result (self.new.log ≡ log_after self.old.log Crash) }
         ensures unsent { OnErr result (sent.new ≡ sent.old) }
         ensures answers { (id : CommandId) → HasAnswer id self.old → HasAnswer id self.new }
+        ensures input { OnOk result (self.new.crashed ≡ crashed_by input self.old) }
+        ensures cut { OnErr result (self.new.crashed ≡ self.old.crashed) }
     {
         if self.is_up() {
             self.take(sent, input)
@@ -104,6 +109,7 @@ impl<A: Allocator + Copy> Host<A> {
     pub(crate) fn cut(&mut self)
         ensures log { self.new.log ≡ log_after self.old.log Crash }
         ensures answers { (id : CommandId) → HasAnswer id self.old → HasAnswer id self.new }
+        ensures crashed { self.new.crashed ≡ self.old.crashed }
     {
         if self.is_up() {
             match self.node.step(Input::Crash) {
@@ -125,6 +131,7 @@ impl<A: Allocator + Copy> Host<A> {
     pub(crate) fn take_answer(&mut self, id: CommandId) -> Option<Outcome<A>>
         ensures answer { HasAnswer id self.old → result ≡ answer_at (Some self.old.log) id }
         ensures log { self.new.log ≡ self.old.log }
+        ensures crashed { self.new.crashed ≡ self.old.crashed }
         ensures others { (other : CommandId) → is_eq (compare_ids id other) ≡ false → HasAnswer other self.old → HasAnswer other self.new }
     {
         if !self.is_up() {
@@ -134,11 +141,11 @@ impl<A: Allocator + Copy> Host<A> {
         self.node.take_answer(user, ticket)
     }
 
-    /// What it has performed: each command once, with its slot. None where it has stopped for want of
-    /// memory or tickets.
+    /// What it has performed: each command once, with its slot. None exactly if it has stopped for want of memory or
+    /// tickets.
     pub(crate) fn performed(&self) -> Option<&[(Slot, SharedCommand<A>)]>
         ensures value { IfSome result (λ performed. performed.now ≡ (replayed self.now.log).replica.performed) }
-        ensures up { is_up (Some self.now.log) ≡ true → is_some result ≡ true }
+        ensures known { is_some result ≡ is_known (Some self.now.log) (Some self.now.crashed) }
     {
         if self.is_cut {
             return None;
@@ -150,11 +157,9 @@ impl<A: Allocator + Copy> Host<A> {
         }
     }
 
-    /// The ticket that it gave last to the user, if it has given one. None where it has stopped for want of
-    /// memory or tickets.
+    /// The ticket that it gave last to the user, if it has given one. None if it has stopped for want of memory or tickets.
     pub(crate) fn last_ticket(&self, user: Name) -> Option<Ticket>
-        ensures value { IfSome result (λ ticket. last_ticket_of self.now.log user ≡ Some ticket) }
-        ensures up { is_up (Some self.now.log) ≡ true → result ≡ last_ticket_of self.now.log user }
+        ensures { result ≡ (if is_known (Some self.now.log) (Some self.now.crashed) then last_ticket_of self.now.log user else None) }
     {
         if self.is_cut {
             return None;

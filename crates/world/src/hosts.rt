@@ -1,11 +1,12 @@
 //! The nodes of a service, the messages between them, and which of these may arrive.
-ghost use Rattle.std.specs.Prelude.{◌≡◌, ◌+◌, ◌^◌, ◌<◌, ◌≤◌, [], true, false, ℕ, length, Some, is_some, slice_get, drop, IfOk, OnOk, OnErr, IfSome};
+ghost use Rattle.std.specs.Prelude.{◌≡◌, ◌+◌, ◌^◌, ◌<◌, ◌≤◌, [], true, false, ℕ, length, Some, None, is_some, slice_get, drop, if◌then◌else◌, IfOk, OnOk, OnErr, IfSome};
 ghost use Rattle.std.specs.List.{position};
 ghost use Rattle.std.specs.Option.{option_map};
 ghost use Rattle.std.specs.Ordering.{is_eq};
 ghost use Rattle.maildrop.specs.CommandId.{CommandId, compare_ids};
 ghost use Rattle.node.specs.declared.input.Input.TheVariants.{Crash, Submit};
-ghost use Rattle.world.specs.Hosts.{network_of, HasAnswerAt, IsArrivalCut, ticket_at};
+ghost use Rattle.world.specs.Hosts.{network_of, HasAnswerAt, IsArrivalCut, ticket_at, crashes_of, crashes_after};
+ghost use Rattle.world.specs.Values.{crash_of, is_known};
 ghost use Rattle.runs.specs.Messages.{is_up, log_of, given_input, message_arrives};
 ghost use Rattle.world.specs.Scheduling.{reach, can_arrive, IsQuiet};
 ghost use Rattle.runs.specs.Worlds.{answer_at, last_position, last_ticket_in, performed_in};
@@ -71,6 +72,8 @@ impl<A: Allocator + Copy> Hosts<A> {
         ensures ticket { IfOk result (λ ticket. ticket ≡ ticket_at (log_of node (network_of self.old).logs) input) }
         ensures err { OnErr result (network_of self.new ≡ given_input (network_of self.old) node Crash) }
         ensures answers { (n : ℕ) (id : CommandId) → HasAnswerAt n id self.old → HasAnswerAt n id self.new }
+        ensures crashed { OnOk result (crashes_of self.new ≡ crashes_after input node self.old) }
+        ensures uncrashed { OnErr result (crashes_of self.new ≡ crashes_of self.old) }
     {
         let was_up = self.nodes.is_up(node);
         let taken = self.nodes.take(node, input);
@@ -93,6 +96,7 @@ impl<A: Allocator + Copy> Hosts<A> {
         ensures ticket { IfOk result (λ ticket. ticket ≡ ticket_at (log_of node (network_of self.old).logs) (Submit user op)) }
         ensures err { OnErr result (network_of self.new ≡ given_input (network_of self.old) node Crash) }
         ensures answers { (n : ℕ) (id : CommandId) → HasAnswerAt n id self.old → HasAnswerAt n id self.new }
+        ensures crashed { crashes_of self.new ≡ crashes_of self.old }
     {
         match Shared::new(*self.index.allocator(), op) {
             Ok(op) => self.take(node, Input::Submit(user, op)),
@@ -108,6 +112,7 @@ impl<A: Allocator + Copy> Hosts<A> {
     pub(crate) fn cut(&mut self, node: NodeId)
         ensures network { network_of self.new ≡ given_input (network_of self.old) node Crash }
         ensures answers { (n : ℕ) (id : CommandId) → HasAnswerAt n id self.old → HasAnswerAt n id self.new }
+        ensures crashed { crashes_of self.new ≡ crashes_of self.old }
     {
         let was_up = self.nodes.is_up(node);
         self.nodes.cut(node);
@@ -122,6 +127,7 @@ impl<A: Allocator + Copy> Hosts<A> {
         ensures ok { OnOk result (network_of self.new ≡ message_arrives (network_of self.old) which (slice_get self.old.sent which)) }
         ensures err { OnErr result (IsArrivalCut (network_of self.old) (network_of self.new) (slice_get self.old.sent which)) }
         ensures answers { (n : ℕ) (id : CommandId) → HasAnswerAt n id self.old → HasAnswerAt n id self.new }
+        ensures crashed { crashes_of self.new ≡ crashes_of self.old }
     {
         let arrived = self.nodes.arrive(which);
         refresh(&self.nodes, &mut self.index, which);
@@ -203,15 +209,16 @@ impl<A: Allocator + Copy> Hosts<A> {
         ensures answer { HasAnswerAt node id self.old → result ≡ answer_at (log_of node (network_of self.old).logs) id }
         ensures network { network_of self.new ≡ network_of self.old }
         ensures others { (n : ℕ) (other : CommandId) → is_eq (compare_ids id other) ≡ false → HasAnswerAt n other self.old → HasAnswerAt n other self.new }
+        ensures crashed { crashes_of self.new ≡ crashes_of self.old }
     {
         self.nodes.take_answer(node, id)
     }
 
-    /// What a node has performed: each command once, with its slot. None where there is no such node, or want of memory has
-    /// stopped it.
+    /// What a node has performed: each command once, with its slot. None exactly if there is no such node, or want of memory
+    /// has stopped it.
     pub(crate) fn performed(&self, node: NodeId) -> Option<&[(Slot, SharedCommand<A>)]>
         ensures value { IfSome result (λ performed. performed_in (log_of node (network_of self.now).logs) ≡ Some performed.now) }
-        ensures up { is_up (log_of node (network_of self.now).logs) ≡ true → is_some result ≡ true }
+        ensures known { is_some result ≡ is_known (log_of node (network_of self.now).logs) (crash_of node (crashes_of self.now)) }
     {
         self.nodes.performed(node)
     }
@@ -219,16 +226,15 @@ impl<A: Allocator + Copy> Hosts<A> {
     /// As `performed`, of the node at this place, counted from 0.
     pub(crate) fn performed_at(&self, place: usize) -> Option<&[(Slot, SharedCommand<A>)]>
         ensures value { IfSome result (λ performed. performed_in (slice_get (network_of self.now).logs place) ≡ Some performed.now) }
-        ensures up { is_up (slice_get (network_of self.now).logs place) ≡ true → is_some result ≡ true }
+        ensures known { is_some result ≡ is_known (slice_get (network_of self.now).logs place) (slice_get (crashes_of self.now) place) }
     {
         self.nodes.performed_at(place)
     }
 
-    /// The ticket that a node gave last to the user, if it has given one. None where there is no such node, or want of
-    /// memory has stopped it.
+    /// The ticket that a node gave last to the user, if it has given one. None if there is no such node, or want of memory has
+    /// stopped it.
     pub(crate) fn last_ticket(&self, node: NodeId, user: Name) -> Option<Ticket>
-        ensures value { IfSome result (λ ticket. last_ticket_in (log_of node (network_of self.now).logs) user ≡ Some ticket) }
-        ensures up { is_up (log_of node (network_of self.now).logs) ≡ true → result ≡ last_ticket_in (log_of node (network_of self.now).logs) user }
+        ensures { result ≡ (if is_known (log_of node (network_of self.now).logs) (crash_of node (crashes_of self.now)) then last_ticket_in (log_of node (network_of self.now).logs) user else None) }
     {
         self.nodes.last_ticket(node, user)
     }

@@ -23,5 +23,6 @@ mod whole_run;
 mod world;
 
 pub use runs::{Config, Event, Refused, Sent, SessionId};
+pub use waiting::Waiting;
 pub use whole_run::{Runs, run};
 pub use world::{WIDEST_WINDOW, World};

@@ -7,7 +7,7 @@ ghost use Rattle.session.specs.declared.state.Step.TheVariants.{Ask};
 ghost use Rattle.runs.specs.Clients as client;
 ghost use Rattle.runs.specs.Clients.{Failed, told, standing_as, with_line};
 ghost use Rattle.world.specs.Connections.{client_in, standing_in, IsFit};
-ghost use Rattle.world.specs.Hosts.{network_of, HasAnswerAt};
+ghost use Rattle.world.specs.Hosts.{network_of, HasAnswerAt, crashes_of};
 ghost use Rattle.runs.specs.Messages.{is_up, log_of};
 ghost use Rattle.world.specs.Served.{IsLine, IsLineAt, IsLineCut, IsCutAt, IsStep, IsStepCut};
 ghost use Rattle.world.specs.declared.connection.Standing.TheVariants.{Hears};
@@ -35,6 +35,7 @@ impl<A: Allocator + Copy> Connection<A> {
         ensures err { OnErr result (IsLineCut (network_of hosts.old) (network_of hosts.new) (client_in self.old) (client_in self.new)) }
         ensures fit { IsFit self.new }
         ensures answers { (n : ℕ) (id : CommandId) → HasAnswerAt n id hosts.old → HasAnswerAt n id hosts.new }
+        ensures crashed { crashes_of hosts.new ≡ crashes_of hosts.old }
     {
         if !hosts.is_up(self.node) {
             return Ok(());
@@ -60,6 +61,7 @@ impl<A: Allocator + Copy> Connection<A> {
         ensures err { OnErr result (IsCutAt (client.Hears self.old.session.state) (network_of hosts.old) (network_of hosts.new) (client_in self.old) (client_in self.new)) }
         ensures fit { IsFit self.new }
         ensures answers { (n : ℕ) (id : CommandId) → HasAnswerAt n id hosts.old → HasAnswerAt n id hosts.new }
+        ensures crashed { crashes_of hosts.new ≡ crashes_of hosts.old }
     {
         match self.heard.reserve(1) {
             Ok(()) => self.listen_with_room(hosts, accounts, line),
@@ -85,6 +87,7 @@ impl<A: Allocator + Copy> Connection<A> {
         ensures err { OnErr result (IsCutAt (client.Hears self.old.session.state) (network_of hosts.old) (network_of hosts.new) (client_in self.old) (client_in self.new)) }
         ensures fit { IsFit self.new }
         ensures answers { (n : ℕ) (id : CommandId) → HasAnswerAt n id hosts.old → HasAnswerAt n id hosts.new }
+        ensures crashed { crashes_of hosts.new ≡ crashes_of hosts.old }
     {
         match self.session.line(accounts, &line) {
             Ok(step) => self.follow(hosts, line, step),
@@ -105,6 +108,7 @@ impl<A: Allocator + Copy> Connection<A> {
         ensures err { OnErr result (IsStepCut self.old.session.state step (network_of hosts.old) (network_of hosts.new) (client_in self.old) (client_in self.new)) }
         ensures fit { IsFit self.new }
         ensures answers { (n : ℕ) (id : CommandId) → HasAnswerAt n id hosts.old → HasAnswerAt n id hosts.new }
+        ensures crashed { crashes_of hosts.new ≡ crashes_of hosts.old }
     {
         match step {
             Step::Say(bytes) => self.reply(line, &bytes, Standing::Hears),
@@ -140,6 +144,7 @@ impl<A: Allocator + Copy> Connection<A> {
         ensures err { OnErr result (IsStepCut self.old.session.state (Ask user op) (network_of hosts.old) (network_of hosts.new) (client_in self.old) (client_in self.new)) }
         ensures fit { IsFit self.new }
         ensures answers { (n : ℕ) (id : CommandId) → HasAnswerAt n id hosts.old → HasAnswerAt n id hosts.new }
+        ensures crashed { crashes_of hosts.new ≡ crashes_of hosts.old }
     {
         match hosts.submit(self.node, user, op) {
             Ok(Some(ticket)) => {

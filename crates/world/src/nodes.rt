@@ -1,9 +1,10 @@
 //! The nodes of a service, and the messages between them.
-ghost use Rattle.std.specs.Prelude.{◌≡◌, ◌+◌, ℕ, [], true, false, Some, is_some, slice_get, IfOk, OnOk, OnErr, IfSome};
+ghost use Rattle.std.specs.Prelude.{◌≡◌, ◌+◌, ℕ, [], true, false, Some, None, is_some, slice_get, if◌then◌else◌, IfOk, OnOk, OnErr, IfSome};
 ghost use Rattle.std.specs.Ordering.{is_eq};
 ghost use Rattle.maildrop.specs.CommandId.{CommandId, compare_ids};
 ghost use Rattle.node.specs.declared.input.Input.TheVariants.{Crash};
-ghost use Rattle.world.specs.Hosts.{network_of, HasAnswerAt, IsArrivalCut, ticket_at, can_count, counted};
+ghost use Rattle.world.specs.Hosts.{network_of, HasAnswerAt, IsArrivalCut, ticket_at, can_count, counted, crashes_of, crashes_after};
+ghost use Rattle.world.specs.Values.{crash_of, is_known};
 ghost use Rattle.runs.specs.Messages.{is_up, log_of, given_input, message_arrives};
 ghost use Rattle.runs.specs.Worlds.{answer_at, last_ticket_in, performed_in};
 ghost use Rattle.runs.specs.declared.sent.Sent.{Sent};
@@ -74,6 +75,8 @@ impl<A: Allocator + Copy> Nodes<A> {
         ensures ticket { IfOk result (λ ticket. ticket ≡ ticket_at (log_of node (network_of self.old).logs) input) }
         ensures err { OnErr result (network_of self.new ≡ given_input (network_of self.old) node Crash) }
         ensures answers { (n : ℕ) (id : CommandId) → HasAnswerAt n id self.old → HasAnswerAt n id self.new }
+        ensures crashed { OnOk result (crashes_of self.new ≡ crashes_after input node self.old) }
+        ensures uncrashed { OnErr result (crashes_of self.new ≡ crashes_of self.old) }
     {
         let Some(host) = self.hosts.get_mut(place_of(node)) else {
             return Ok(None);
@@ -86,6 +89,7 @@ impl<A: Allocator + Copy> Nodes<A> {
     pub(crate) fn cut(&mut self, node: NodeId)
         ensures network { network_of self.new ≡ given_input (network_of self.old) node Crash }
         ensures answers { (n : ℕ) (id : CommandId) → HasAnswerAt n id self.old → HasAnswerAt n id self.new }
+        ensures crashed { crashes_of self.new ≡ crashes_of self.old }
     {
         let Some(host) = self.hosts.get_mut(place_of(node)) else {
             return;
@@ -99,6 +103,7 @@ impl<A: Allocator + Copy> Nodes<A> {
         ensures ok { OnOk result (network_of self.new ≡ message_arrives (network_of self.old) which (slice_get self.old.sent which)) }
         ensures err { OnErr result (IsArrivalCut (network_of self.old) (network_of self.new) (slice_get self.old.sent which)) }
         ensures answers { (n : ℕ) (id : CommandId) → HasAnswerAt n id self.old → HasAnswerAt n id self.new }
+        ensures crashed { crashes_of self.new ≡ crashes_of self.old }
     {
         let Some(message) = self.sent.message(which) else {
             return Ok(());
@@ -122,6 +127,8 @@ impl<A: Allocator + Copy> Nodes<A> {
         ensures ok { OnOk result (network_of self.new ≡ given_input (counted which (network_of self.old)) to input) }
         ensures err { OnErr result (network_of self.new ≡ given_input (network_of self.old) to Crash) }
         ensures answers { (n : ℕ) (id : CommandId) → HasAnswerAt n id self.old → HasAnswerAt n id self.new }
+        ensures crashed { OnOk result (crashes_of self.new ≡ crashes_after input to self.old) }
+        ensures uncrashed { OnErr result (crashes_of self.new ≡ crashes_of self.old) }
     {
         let _ = self.take(to, input)?;
         self.sent.count_arrival(which);
@@ -143,6 +150,7 @@ impl<A: Allocator + Copy> Nodes<A> {
         ensures answer { HasAnswerAt node id self.old → result ≡ answer_at (log_of node (network_of self.old).logs) id }
         ensures network { network_of self.new ≡ network_of self.old }
         ensures others { (n : ℕ) (other : CommandId) → is_eq (compare_ids id other) ≡ false → HasAnswerAt n other self.old → HasAnswerAt n other self.new }
+        ensures crashed { crashes_of self.new ≡ crashes_of self.old }
     {
         let Some(host) = self.hosts.get_mut(place_of(node)) else {
             return None;
@@ -150,11 +158,11 @@ impl<A: Allocator + Copy> Nodes<A> {
         host.take_answer(id)
     }
 
-    /// What a node has performed: each command once, with its slot. None where there is no such node, or want of memory has
-    /// stopped it.
+    /// What a node has performed: each command once, with its slot. None exactly if there is no such node, or want of memory
+    /// has stopped it.
     pub(crate) fn performed(&self, node: NodeId) -> Option<&[(Slot, SharedCommand<A>)]>
         ensures value { IfSome result (λ performed. performed_in (log_of node (network_of self.now).logs) ≡ Some performed.now) }
-        ensures up { is_up (log_of node (network_of self.now).logs) ≡ true → is_some result ≡ true }
+        ensures known { is_some result ≡ is_known (log_of node (network_of self.now).logs) (crash_of node (crashes_of self.now)) }
     {
         self.performed_at(place_of(node))
     }
@@ -162,7 +170,7 @@ impl<A: Allocator + Copy> Nodes<A> {
     /// As `performed`, of the node at this place, counted from 0.
     pub(crate) fn performed_at(&self, place: usize) -> Option<&[(Slot, SharedCommand<A>)]>
         ensures value { IfSome result (λ performed. performed_in (slice_get (network_of self.now).logs place) ≡ Some performed.now) }
-        ensures up { is_up (slice_get (network_of self.now).logs place) ≡ true → is_some result ≡ true }
+        ensures known { is_some result ≡ is_known (slice_get (network_of self.now).logs place) (slice_get (crashes_of self.now) place) }
     {
         match self.hosts.get(place) {
             Some(host) => host.performed(),
@@ -170,11 +178,10 @@ impl<A: Allocator + Copy> Nodes<A> {
         }
     }
 
-    /// The ticket that a node gave last to the user, if it has given one. None where there is no such node, or want of
-    /// memory has stopped it.
+    /// The ticket that a node gave last to the user, if it has given one. None if there is no such node, or want of memory has
+    /// stopped it.
     pub(crate) fn last_ticket(&self, node: NodeId, user: Name) -> Option<Ticket>
-        ensures value { IfSome result (λ ticket. last_ticket_in (log_of node (network_of self.now).logs) user ≡ Some ticket) }
-        ensures up { is_up (log_of node (network_of self.now).logs) ≡ true → result ≡ last_ticket_in (log_of node (network_of self.now).logs) user }
+        ensures { result ≡ (if is_known (log_of node (network_of self.now).logs) (crash_of node (crashes_of self.now)) then last_ticket_in (log_of node (network_of self.now).logs) user else None) }
     {
         match self.hosts.get(place_of(node)) {
             Some(host) => host.last_ticket(user),

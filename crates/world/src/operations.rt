@@ -6,7 +6,7 @@ ghost use Rattle.maildrop.specs.CommandId.{CommandId, compare_ids, same_id};
 ghost use Rattle.node.specs.Replay.{next_ticket};
 ghost use Rattle.node.specs.declared.input.Input.TheVariants.{Submit, Crash};
 ghost use Rattle.node.specs.declared.log.NodeLog.{NodeLog};
-ghost use Rattle.world.specs.Hosts.{network_of, HasAnswerAt};
+ghost use Rattle.world.specs.Hosts.{network_of, HasAnswerAt, crashes_of};
 ghost use Rattle.runs.specs.Messages.{is_up, log_of, given_input};
 ghost use Rattle.runs.specs.Services.{next_id};
 ghost use Rattle.runs.specs.Worlds.{answer_at, unless_taken, with_taken};
@@ -37,6 +37,7 @@ pub(crate) fn submit<A: Allocator + Copy>(
     ensures err { OnErr result (network_of hosts.new ≡ given_input (network_of hosts.old) node Crash) }
     ensures unchanged { OnErr result (operations.new.entries ≡ operations.old.entries) }
     ensures answers { (n : ℕ) (id : CommandId) → HasAnswerAt n id hosts.old → HasAnswerAt n id hosts.new }
+    ensures crashed { crashes_of hosts.new ≡ crashes_of hosts.old }
 {
     if operations.reserve(1).is_err() {
         hosts.cut(node);
@@ -65,6 +66,7 @@ pub(crate) fn take_outcome<A: Allocator + Copy>(
     ensures network { network_of hosts.new ≡ network_of hosts.old }
     ensures operations { operations.new.entries ≡ (if is_some result then with_taken id operations.old.entries else operations.old.entries) }
     ensures others { (n : ℕ) (other : CommandId) → is_eq (compare_ids id other) ≡ false → HasAnswerAt n other hosts.old → HasAnswerAt n other hosts.new }
+    ensures crashed { crashes_of hosts.new ≡ crashes_of hosts.old }
     ensures none { result ≡ None → hosts.new ≡ hosts.old }
 {
     let (_, ticket) = id.get();

@@ -4,7 +4,7 @@ ghost use Rattle.std.specs.Map.Iter.{deref_pair};
 ghost use Rattle.std.specs.Ordering.{is_eq};
 ghost use Rattle.maildrop.specs.CommandId.{CommandId, compare_ids};
 ghost use Rattle.world.specs.Connections.{service_of, AreFit, AreUntaken, connection_of, awaited_by};
-ghost use Rattle.world.specs.Hosts.{HasAnswerAt};
+ghost use Rattle.world.specs.Hosts.{HasAnswerAt, crashes_of};
 ghost use Rattle.runs.specs.Interrupted.{IsInterrupted};
 ghost use Rattle.runs.specs.Services.{occurs};
 ghost use Rattle.world.specs.Waiting.{IsBehind, IsHeard, IsUpToDate, KeepsOthers, NoneMay, is_of, nowhere, place_of};
@@ -181,6 +181,7 @@ impl<A: Allocator + Copy> Sessions<A> {
         ensures sessions { KeepsOthers session self.old.entries self.new.entries }
         ensures waiting { self.new.waiting ≡ self.old.waiting }
         ensures answers { (n : ℕ) (id : CommandId) → HasAnswerAt n id hosts.old → HasAnswerAt n id hosts.new }
+        ensures crashed { crashes_of hosts.new ≡ crashes_of hosts.old }
     {
         send_line(&mut self.connections, hosts, accounts, session, line)
     }
@@ -201,6 +202,7 @@ impl<A: Allocator + Copy> Sessions<A> {
         ensures others { (n : ℕ) (other : CommandId)
             → ((c : Connection A) (id : CommandId) → connection_of session self.old.entries ≡ Some c → awaited_by c.standing ≡ Some id → is_eq (compare_ids id other) ≡ false)
             → HasAnswerAt n other hosts.old → HasAnswerAt n other hosts.new }
+        ensures crashed { crashes_of hosts.new ≡ crashes_of hosts.old }
     {
         collect_answer(&mut self.connections, hosts, session)
     }
@@ -214,6 +216,7 @@ impl<A: Allocator + Copy> Sessions<A> {
         ensures sessions { KeepsOthers session self.old.entries self.new.entries }
         ensures waiting { self.new.waiting ≡ self.old.waiting }
         ensures answers { (n : ℕ) (id : CommandId) → HasAnswerAt n id hosts.old → HasAnswerAt n id hosts.new }
+        ensures crashed { crashes_of hosts.new ≡ crashes_of hosts.old }
     {
         hang_up(&mut self.connections, hosts, session)
     }

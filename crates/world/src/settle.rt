@@ -15,8 +15,8 @@ impl<A: Allocator + Copy> World<A> {
     /// takes it; or else the first message, from this place on, that never arrived and whose addressee is up. Takes no
     /// memory.
     pub fn next_oldest(&self, from: usize) -> Option<Event<A>>
-        ensures value { result ≡ spec.next_oldest self.now.service from }
-        ensures possible { IfSome result (λ event. step_refusal self.now.config self.now.service event ≡ None) }
+        ensures value { result ≡ spec.next_oldest self.now.world.service from }
+        ensures possible { IfSome result (λ event. step_refusal self.now.world.config self.now.world.service event ≡ None) }
     {
         next_oldest(&self.hosts, &self.connections, from)
     }
@@ -24,8 +24,8 @@ impl<A: Allocator + Copy> World<A> {
     /// As `next_oldest`, with the last message, from this place on, that arrived fewer times than `copies`. Takes no
     /// memory.
     pub fn next_newest(&self, from: usize, copies: u64) -> Option<Event<A>>
-        ensures value { result ≡ spec.next_newest self.now.service from copies }
-        ensures possible { IfSome result (λ event. step_refusal self.now.config self.now.service event ≡ None) }
+        ensures value { result ≡ spec.next_newest self.now.world.service from copies }
+        ensures possible { IfSome result (λ event. step_refusal self.now.world.config self.now.world.service event ≡ None) }
     {
         next_newest(&self.hosts, &self.connections, from, copies)
     }
@@ -34,9 +34,10 @@ impl<A: Allocator + Copy> World<A> {
     /// Gives how many happened. After `Memory`, the only error, they happened up to one at which a node or a session found
     /// no memory; that one is down.
     pub fn settle(&mut self, limit: u64) -> Result<u64, Refused>
-        ensures settled { IfOk result (λ events. spec.settled limit self.old ≡ record { events = events; world = self.new }) }
+        ensures settled { IfOk result (λ events. spec.settled limit self.old.world ≡ record { events = events; world = self.new.world }) }
         ensures error { IfErr result (λ error. error ≡ refused.Memory) }
-        ensures cut { OnErr result (IsSettleCut limit self.old self.new) }
+        ensures cut { OnErr result (IsSettleCut limit self.old.world self.new.world) }
+        ensures crashed { self.new.crashed ≡ self.old.crashed }
     {
         for events in 0..limit {
             let Some(event) = self.next_oldest(0) else {

@@ -1,4 +1,4 @@
-//! An index of the sessions that await an answer: those whose answer may be there are found without looking at the others.
+//! An index of who awaits the answer to a command: those whose answer may be there are found without looking at the others.
 ghost use Rattle.std.specs.Prelude.{◌≡◌, ◌+◌, ◌<◌, ◌≤◌, [], ℕ, Some, true, false, length, replicate, drop, set, slice_get, IfSome, IfNone, IfOk};
 ghost use Rattle.std.specs.BTreeSet.{contains};
 ghost use Rattle.std.specs.Ordering.{nat_cmp};
@@ -14,14 +14,15 @@ use std::alloc::{Allocator, Global};
 use std::collections::{BTreeMap, BTreeSet};
 use std::marker::Model;
 
-/// The sessions that await an answer, by their places, and the commands that they await it to.
+/// Who awaits an answer, by places that the caller counts from 0, and to which commands. `World` has its sessions so, in the
+/// order in which they connected.
 #[derive(Drop)]
-pub(crate) struct Waiting<A: Allocator = Global> {
-    /// The commands that weren't performed by their nodes when these were looked at last, each with the place of its session.
+pub struct Waiting<A: Allocator = Global> {
+    /// The commands that weren't performed by their nodes when these were looked at last, each with the place that awaits it.
     commands: BTreeMap<CommandId, usize, A>,
-    /// The places of the sessions whose answers may be there.
+    /// The places whose answers may be there.
     places: BTreeSet<usize, A>,
-    /// Whether no place is missing. Since there was no memory for one, any session's answer may be there.
+    /// Whether no place is missing. Since there was no memory for one, the answer of any place may be there.
     is_whole: bool,
     /// How many commands each node had performed when it was looked at last.
     heard: Vec<usize, A>,
@@ -57,8 +58,8 @@ fn behind<A: Allocator>(
 }
 
 impl<A: Allocator + Copy> Waiting<A> {
-    /// No session awaits an answer, and so many nodes have performed nothing.
-    pub(crate) fn new(alloc: A, nodes: usize) -> Result<Self, Memory>
+    /// Nobody awaits an answer, and so many nodes have performed nothing.
+    pub fn new(alloc: A, nodes: usize) -> Result<Self, Memory>
         ensures { IfOk result (λ waiting. waiting.heard ≡ replicate nodes 0) }
     {
         let mut heard = Vec::new(alloc);
@@ -72,14 +73,14 @@ impl<A: Allocator + Copy> Waiting<A> {
     }
 
     /// How many nodes there are.
-    pub(crate) fn nodes(&self) -> usize
+    pub fn nodes(&self) -> usize
         ensures { result ≡ length self.now.heard }
     {
         self.heard.len()
     }
 
-    /// The answer that the session at this place awaits may be there. Where there is no memory for the place, any
-    /// session's may from then on.
+    /// The answer that is awaited at this place may be there. Without memory for the place, the answer of any place may from
+    /// then on.
     pub(crate) fn add(&mut self, place: usize)
         ensures own { MayHave self.new place }
         ensures others { (other : ℕ) → MayHave self.old other → MayHave self.new other }
@@ -90,8 +91,9 @@ impl<A: Allocator + Copy> Waiting<A> {
         self.is_whole = self.is_whole && is_added;
     }
 
-    /// The session at this place awaits the answer to a command that its node hasn't performed, as far as it was looked at.
-    pub(crate) fn watch(&mut self, place: usize, id: CommandId)
+    /// At this place the answer to a command is awaited that its node hasn't performed, as far as it was looked at. Without
+    /// memory for it, the answer of any place may be there from then on.
+    pub fn watch(&mut self, place: usize, id: CommandId)
         ensures own { IsWatched self.new place id }
         ensures others { WatchesBut (only_at place) self.old self.new }
     {
@@ -102,8 +104,8 @@ impl<A: Allocator + Copy> Waiting<A> {
         }
     }
 
-    /// The session at this place awaits no answer.
-    pub(crate) fn remove(&mut self, place: usize)
+    /// At this place no answer is awaited that may be there.
+    pub fn remove(&mut self, place: usize)
         ensures others { (other : ℕ) → (other ≡ place → ⊥) → MayHave self.old other → MayHave self.new other }
         ensures commands { self.new.commands ≡ self.old.commands }
         ensures heard { self.new.heard ≡ self.old.heard }
@@ -111,8 +113,8 @@ impl<A: Allocator + Copy> Waiting<A> {
         let _ = self.places.remove(&place);
     }
 
-    /// A node, counted from 0, has performed this command: if it is the node of the command's ticket, the answer may be
-    /// there that the session awaits which waits for it.
+    /// A node, counted from 0, has performed this command: if it is the node of the command's ticket, its answer may be
+    /// there.
     fn hear_one(&mut self, node: usize, id: CommandId)
         ensures own { id.ticket.node ≡ node + 1 → (place : ℕ) → IsWatched self.old place id → MayHave self.new place }
         ensures others { WatchesBut nowhere self.old self.new }
@@ -138,7 +140,7 @@ impl<A: Allocator + Copy> Waiting<A> {
 
     /// A node, counted from 0, has performed these commands since it began, in order. Only those that it hadn't when it
     /// was looked at last are looked at.
-    pub(crate) fn hear(&mut self, node: usize, performed: &[(Slot, SharedCommand<A>)])
+    pub fn hear(&mut self, node: usize, performed: &[(Slot, SharedCommand<A>)])
         ensures heard { self.new.heard ≡ set self.old.heard node (length performed.now) }
         ensures own { (id : CommandId) (count : ℕ) → id.ticket.node ≡ node + 1 → slice_get self.old.heard node ≡ Some count
             → has_identity mail_rules id (drop count performed.now) ≡ true → (place : ℕ) → IsWatched self.old place id → MayHave self.new place }
@@ -162,8 +164,9 @@ impl<A: Allocator + Copy> Waiting<A> {
         }
     }
 
-    /// The first place from this one on of a session whose answer may be there.
-    pub(crate) fn next(&self, from: usize) -> Option<usize>
+    /// The first place from this one on whose answer may be there, which may be one that nobody has. Logarithmic in the
+    /// number of places, but every place since there was no memory for one.
+    pub fn next(&self, from: usize) -> Option<usize>
         ensures some { IfSome result (λ place. (from ≤ place) × NoneMay self.now from place) }
         ensures none { IfNone result (NoneMayFrom self.now from) }
     {

@@ -54,9 +54,9 @@ fn after<A: Allocator + Copy>(
     mut world: World<A>,
     events: Vec<Event<A>, A>,
 ) -> Result<World<A>, Refused>
-    ensures world { IfOk result (λ after. after ≡ ran world events.items) }
-    ensures possible { OnOk result (first_refusal world events.items ≡ None) }
-    ensures refused { IfErr result (λ error. (error ≡ refused.Memory) ⊎ (first_refusal world events.items ≡ Some error)) }
+    ensures world { IfOk result (λ after. after.world ≡ ran world.world events.items) }
+    ensures possible { OnOk result (first_refusal world.world events.items ≡ None) }
+    ensures refused { IfErr result (λ error. (error ≡ refused.Memory) ⊎ (first_refusal world.world events.items ≡ Some error)) }
 {
     for event in events {
         if let Err(error) = world.step(event) {
@@ -69,9 +69,9 @@ fn after<A: Allocator + Copy>(
 impl<A: Allocator + Copy> World<A> {
     /// What a run with this many nodes has brought.
     fn brought(&self, alloc: A, nodes: u8) -> Result<Runs<A>, Memory>
-        requires { nodes ≡ length self.now.service.network.logs }
-        ensures replies { IfOk result (λ runs. map (λ r. (r.0, r.1.items)) runs.replies.items ≡ all_replies self.now.service) }
-        ensures performed { IfOk result (λ runs. map (λ p. p.items) runs.performed.items ≡ all_performed self.now.service) }
+        requires { nodes ≡ length self.now.world.service.network.logs }
+        ensures replies { IfOk result (λ runs. map (λ r. (r.0, r.1.items)) runs.replies.items ≡ all_replies self.now.world.service) }
+        ensures performed { IfOk result (λ runs. map (λ p. p.items) runs.performed.items ≡ all_performed self.now.world.service) }
     {
         Ok(Runs {
             replies: self.all_replies(alloc)?,
@@ -81,7 +81,7 @@ impl<A: Allocator + Copy> World<A> {
 
     /// The bytes of each session's replies, in the order in which the sessions connected.
     fn all_replies(&self, alloc: A) -> Result<Vec<(SessionId, Vec<u8, A>), A>, Memory>
-        ensures { IfOk result (λ replies. map (λ r. (r.0, r.1.items)) replies.items ≡ all_replies self.now.service) }
+        ensures { IfOk result (λ replies. map (λ r. (r.0, r.1.items)) replies.items ≡ all_replies self.now.world.service) }
     {
         let mut replies = Vec::new(alloc);
         for place in 0..self.connections.len() {
@@ -100,8 +100,8 @@ impl<A: Allocator + Copy> World<A> {
         alloc: A,
         nodes: u8,
     ) -> Result<Vec<Vec<(Slot, SharedCommand<A>), A>, A>, Memory>
-        requires { nodes ≡ length self.now.service.network.logs }
-        ensures { IfOk result (λ performed. map (λ p. p.items) performed.items ≡ all_performed self.now.service) }
+        requires { nodes ≡ length self.now.world.service.network.logs }
+        ensures { IfOk result (λ performed. map (λ p. p.items) performed.items ≡ all_performed self.now.world.service) }
     {
         let mut all = Vec::new(alloc);
         for place in 0..nodes {

@@ -1,17 +1,17 @@
 //! A service that takes one event after another.
-ghost use Rattle.std.specs.Prelude.{◌≡◌, ◌≤◌, ℕ, true, Some, None, Err, is_some, option_map, IfOk, IfErr, IfSome, OnOk, OnErr};
+ghost use Rattle.std.specs.Prelude.{◌≡◌, ◌≤◌, ℕ, true, false, replicate, Some, None, Err, is_some, option_map, IfOk, IfErr, IfSome, OnOk, OnErr};
 ghost use Rattle.std.specs.Option.{option_copied};
 ghost use Rattle.ballot.specs.Nodes.{in_cluster};
 ghost use Rattle.runs.specs.Clients.{Client, client_of};
 ghost use Rattle.runs.specs.Decisions.{ChoosesOne, ChoosesSubmitted, IsDecidedFirst, KeepsDecided, TellsChosen, WereSubmitted};
 ghost use Rattle.runs.specs.Interrupted.{IsInterrupted};
 ghost use Rattle.world.specs.Kept.{new_host, new_hosts};
-ghost use Rattle.runs.specs.Messages.{is_up, log_of};
 ghost use Rattle.runs.specs.Projection.{IsProjected};
 ghost use Rattle.runs.specs.Refusals.{step_refusal};
 ghost use Rattle.runs.specs.Services.{opening_of};
 ghost use Rattle.runs.specs.Worlds as spec;
 ghost use Rattle.runs.specs.declared.refused.Refused.{Refused};
+ghost use Rattle.world.specs.Values.{crashed_after, is_known_at, known_ticket};
 
 use crate::act::act;
 use crate::host::Host;
@@ -41,13 +41,13 @@ pub struct World<A: Allocator + Copy = Global> {
 }
 
 impl<A: Allocator + Copy> Model for World<A> {
-    ghost use Rattle.runs.specs.Worlds.{World};
+    ghost use Rattle.world.specs.Values.{WorldValue};
 
-    ghost Value = { World A };
+    ghost Value = { WorldValue A };
 
-    ghost use Rattle.world.specs.Kept.{IsKept, world_of};
+    ghost use Rattle.world.specs.Kept.{IsKept, value_of};
 
-    ghost view = { λ w. world_of w.config w.hosts w.connections.entries w.operations.entries };
+    ghost view = { λ w. value_of w.config w.hosts w.connections.entries w.operations.entries };
 
     ghost use Rattle.world.specs.Waiting.{IsUpToDate};
 
@@ -58,7 +58,8 @@ impl<A: Allocator + Copy> World<A> {
     /// A service that begins so: its nodes have empty maildrops, nothing was sent, and nobody is connected.
     pub fn new(alloc: A, config: Config<A>) -> Result<Self, Memory>
         requires window { (1 ≤ config.window) × (config.window ≤ 1000) }
-        ensures { IfOk result (λ world. world ≡ spec.new_world config) }
+        ensures world { IfOk result (λ it. it.world ≡ spec.new_world config) }
+        ensures crashed { IfOk result (λ it. it.crashed ≡ replicate config.cluster false) }
     {
         let hosts = begin(alloc, &config)?;
         let nodes = hosts.len();
@@ -75,14 +76,17 @@ impl<A: Allocator + Copy> World<A> {
     /// After `Memory` the node or the session that found none is down; a client that connects is as if it hadn't. What is
     /// decided stays so.
     pub fn step(&mut self, event: Event<A>) -> Result<(), Refused>
-        ensures refused { (reason : Refused) → step_refusal self.old.config self.old.service event ≡ Some reason → result ≡ Err reason }
-        ensures unchanged { (reason : Refused) → step_refusal self.old.config self.old.service event ≡ Some reason → self.new ≡ self.old }
-        ensures ok { OnOk result (self.new ≡ spec.stepped self.old event) }
-        ensures memory { step_refusal self.old.config self.old.service event ≡ None → IfErr result (λ error. error ≡ Refused.Memory) }
-        ensures interrupted { step_refusal self.old.config self.old.service event ≡ None → OnErr result (IsInterrupted self.old.config event self.old.service self.new.service) }
-        ensures operations { OnErr result (self.new.operations ≡ self.old.operations) }
-        ensures config { self.new.config ≡ self.old.config }
-        ensures decided { KeepsDecided self.old.config self.old.service self.new.service }
+        ensures refused { (reason : Refused) → step_refusal self.old.world.config self.old.world.service event ≡ Some reason → result ≡ Err reason }
+        ensures unchanged { (reason : Refused) → step_refusal self.old.world.config self.old.world.service event ≡ Some reason → self.new ≡ self.old }
+        ensures ok { OnOk result (self.new.world ≡ spec.stepped self.old.world event) }
+        ensures crashed { OnOk result (self.new.crashed ≡ crashed_after event self.old.crashed) }
+        ensures memory { step_refusal self.old.world.config self.old.world.service event ≡ None → IfErr result (λ error. error ≡ Refused.Memory) }
+        ensures interrupted { step_refusal self.old.world.config self.old.world.service event ≡ None
+            → OnErr result (IsInterrupted self.old.world.config event self.old.world.service self.new.world.service) }
+        ensures uncrashed { OnErr result (self.new.crashed ≡ self.old.crashed) }
+        ensures operations { OnErr result (self.new.world.operations ≡ self.old.world.operations) }
+        ensures config { self.new.world.config ≡ self.old.world.config }
+        ensures decided { KeepsDecided self.old.world.config self.old.world.service self.new.world.service }
     {
         if let Some(reason) = refusal_of(&self.config, &self.hosts, &self.connections, &event) {
             return Err(reason);
@@ -105,8 +109,8 @@ impl<A: Allocator + Copy> World<A> {
     /// are a prefix of what a POP3 server says that has the session's user's maildrop alone: to the session's greeting and
     /// lines, where it performs the user's decided commands in order, each once.
     pub fn replies(&self, session: SessionId) -> Option<&[u8]>
-        ensures value { option_copied result ≡ option_map (λ c. c.replies) (client_of session self.now.service.clients) }
-        ensures projected { (c : Client A) → client_of session self.now.service.clients ≡ Some c → IsProjected self.now.config self.now.service c }
+        ensures value { option_copied result ≡ option_map (λ c. c.replies) (client_of session self.now.world.service.clients) }
+        ensures projected { (c : Client A) → client_of session self.now.world.service.clients ≡ Some c → IsProjected self.now.world.config self.now.world.service c }
     {
         match self.connections.get(session) {
             Some(connection) => Some(connection.replies.get()),
@@ -118,10 +122,10 @@ impl<A: Allocator + Copy> World<A> {
     /// a slot, each Decision among them carries a command that is chosen in its slot, and each command that is chosen was
     /// submitted.
     pub fn sent(&self) -> &[Sent<A>]
-        ensures value { result.now ≡ self.now.service.network.sent }
-        ensures agreement { ChoosesOne self.now.config self.now.service }
-        ensures learning { TellsChosen self.now.config self.now.service }
-        ensures validity { ChoosesSubmitted self.now.config self.now.service }
+        ensures value { result.now ≡ self.now.world.service.network.sent }
+        ensures agreement { ChoosesOne self.now.world.config self.now.world.service }
+        ensures learning { TellsChosen self.now.world.config self.now.world.service }
+        ensures validity { ChoosesSubmitted self.now.world.config self.now.world.service }
     {
         self.hosts.sent()
     }
@@ -129,8 +133,9 @@ impl<A: Allocator + Copy> World<A> {
     /// The outcome of a Mail or a Break that this node was given for the user under this ticket, if it is there and the
     /// node is up. It is given once. Takes no memory.
     pub fn take_outcome(&mut self, node: NodeId, user: Name, ticket: Ticket) -> Option<Outcome<A>>
-        ensures outcome { result ≡ spec.outcome_at self.old node (record { user = user; ticket = ticket }) }
-        ensures world { self.new ≡ spec.without_outcome_at self.old node (record { user = user; ticket = ticket }) }
+        ensures outcome { result ≡ spec.outcome_at self.old.world node (record { user = user; ticket = ticket }) }
+        ensures world { self.new.world ≡ spec.without_outcome_at self.old.world node (record { user = user; ticket = ticket }) }
+        ensures crashed { self.new.crashed ≡ self.old.crashed }
     {
         take_outcome(
             &mut self.hosts,
@@ -140,22 +145,22 @@ impl<A: Allocator + Copy> World<A> {
         )
     }
 
-    /// What a node has performed: each command once, with its slot. None where there is no such node, or want of memory has
-    /// stopped it. It is how the decided order begins, the same for all nodes, and each of its commands was submitted.
+    /// What a node has performed, also one that an event has crashed: each command once, with its slot. It is how the
+    /// decided order begins, the same for all nodes, and each of its commands was submitted. None exactly if there is no such
+    /// node, or want of memory has stopped it.
     pub fn performed(&self, node: NodeId) -> Option<&[(Slot, SharedCommand<A>)]>
-        ensures value { IfSome result (λ performed. spec.performed_by self.now.service node ≡ Some performed.now) }
-        ensures decided { IfSome result (λ performed. IsDecidedFirst self.now.config self.now.service performed.now) }
-        ensures submitted { IfSome result (λ performed. WereSubmitted self.now.service performed.now) }
-        ensures up { is_up (log_of node self.now.service.network.logs) ≡ true → is_some result ≡ true }
+        ensures value { IfSome result (λ performed. spec.performed_by self.now.world.service node ≡ Some performed.now) }
+        ensures known { is_some result ≡ is_known_at self.now node }
+        ensures decided { IfSome result (λ performed. IsDecidedFirst self.now.world.config self.now.world.service performed.now) }
+        ensures submitted { IfSome result (λ performed. WereSubmitted self.now.world.service performed.now) }
     {
         self.hosts.performed(node)
     }
 
-    /// The ticket that a node gave last to the user, if it has given one. None where there is no such node, or want of
-    /// memory has stopped it. Takes no memory.
+    /// The ticket that a node gave last to the user, if it has given one, also a node that an event has crashed. None if
+    /// there is no such node, or want of memory has stopped it. Takes no memory.
     pub fn last_ticket(&self, node: NodeId, user: Name) -> Option<Ticket>
-        ensures value { IfSome result (λ ticket. spec.last_ticket self.now.service node user ≡ Some ticket) }
-        ensures up { is_up (log_of node self.now.service.network.logs) ≡ true → result ≡ spec.last_ticket self.now.service node user }
+        ensures { result ≡ known_ticket self.now node user }
     {
         self.hosts.last_ticket(node, user)
     }

@@ -6,6 +6,6 @@ abbrev pub invariant-loop-event : goal.invariant-loop-event
 invariant-loop-event g l = record {
   can_next : (goal.iterator-loop-event g).can_next l.event-iterator;
   finite : (goal.iterator-loop-event g).is_finite l.event-iterator;
-  so_far : l.world ≡ ran l.initial.world l.yielded;
-  possible : first_refusal l.initial.world l.yielded ≡ None;
+  so_far : l.world.world ≡ ran l.initial.world.world l.yielded;
+  possible : first_refusal l.initial.world.world l.yielded ≡ None;
 }

@@ -1,10 +1,11 @@
-use Rattle.std.proofs.Common.{◌∙◌, ap, ◌++◌}
+use Rattle.std.proofs.Common.{◌∙◌, ap, ◌++◌, sym}
 use Rattle.node.specs.Replay.{sends_of, ticket_of}
 use Rattle.node.specs.declared.log.NodeLog.{NodeLog}
 use Rattle.node.specs.Nodes.{no_ticket_for}
 use Rattle.world.specs.Hosts.{host_of}
 use Rattle.runs.specs.Messages.{newly_sent}
 use Rattle.world.proofs.Hosting.{running, step_logged, step_log, step_has, cut_log, stopped_log}
+use Rattle.world.proofs.Crashes.{step_crash, stopped_crash}
 use Rattle.world.proofs.host.Host.take.Goals as goal
 
 pub invariant_of-self : goal.invariant_of-self
@@ -47,3 +48,19 @@ returns-in-Err-clause-crashed g c =
     let r = running c.self.inside.node c.self.inside.is_cut c.args.self.now c.self.invariant c.self.view_is c.requires in
     ap (λ u. (host_of c.step.new.self u).log) r.whole
     ∙ stopped_log c.self.inside.node c.step.new.self c.args.self.now (no_ticket_for c.self.inside.node.log c.args.input) c.in-Err.field-0 r.log c.in-Err.ensures.err (c.in-Err.ensures.cause r.runs)
+
+pub returns-in-Ok-add_all-clause-input : goal.returns-in-Ok-add_all-clause-input
+returns-in-Ok-add_all-clause-input g c =
+    let r = running c.self.inside.node c.self.inside.is_cut c.args.self.now c.self.invariant c.self.view_is c.requires in
+    ap (λ u. (host_of c.step.new.self u).crashed) r.whole ∙ step_crash c.step.new.self c.args.self.now c.args.input c.in-Ok.ensures.stops r.uncrashed c.requires
+
+pub returns-in-Err-add_all-clause-cut : goal.returns-in-Err-add_all-clause-cut
+returns-in-Err-add_all-clause-cut g c =
+    let r = running c.self.inside.node c.self.inside.is_cut c.args.self.now c.self.invariant c.self.view_is c.requires in
+    sym r.uncrashed
+
+pub returns-in-Err-clause-cut : goal.returns-in-Err-clause-cut
+returns-in-Err-clause-cut g c =
+    let r = running c.self.inside.node c.self.inside.is_cut c.args.self.now c.self.invariant c.self.view_is c.requires in
+    ap (λ u. (host_of c.step.new.self u).crashed) r.whole
+    ∙ stopped_crash c.step.new.self c.self.inside.node.log (no_ticket_for c.self.inside.node.log c.args.input) c.in-Err.field-0 c.in-Err.ensures.err (c.in-Err.ensures.cause r.runs) ∙ sym r.uncrashed

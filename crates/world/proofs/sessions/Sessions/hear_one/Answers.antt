@@ -1,4 +1,6 @@
 use Rattle.std.proofs.Common.{◌<◌, length, sym, subst}
+use Rattle.std.specs.Prelude.{slice_get}
+use Rattle.world.specs.Hosts.{crashes_of}
 use Rattle.world.specs.Waiting.{Sessions, IsBehind, IsHeard, nowhere}
 use Rattle.world.proofs.Hearing.{heard_behind, heard_here, heard_there, down_heard}
 use Rattle.world.proofs.sessions.Sessions.hear_one.Goals as goal
@@ -27,4 +29,4 @@ returns-in-Some-clause-others g c other apart is =
     other apart (subst (λ (s : Sessions g.row.A.Denot). IsHeard c.args.hosts.now s.waiting other) (sym c.self.view_is) is)
 
 pub returns-in_default-clause-own : goal.returns-in_default-clause-own
-returns-in_default-clause-own g c low = down_heard c.args.hosts.now c.args.self.now.waiting c.args.node c.in_default.ensures.up
+returns-in_default-clause-own g c low = down_heard c.args.hosts.now c.args.self.now.waiting c.args.node (slice_get (crashes_of c.args.hosts.now) c.args.node) c.in_default.ensures.known

@@ -1,14 +1,15 @@
-use Rattle.std.proofs.Common.{◌≡◌, ◌∙◌, ℕ, Option, None, sym, subst}
+use Rattle.std.proofs.Common.{◌≡◌, ◌∙◌, ℕ, Option, None, sym, ap, subst}
 use Rattle.world.specs.Connections.{service_of}
 use Rattle.runs.specs.Decisions.{KeepsDecided}
 use Rattle.world.specs.Kept.{IsKept}
 use Rattle.runs.specs.Refusals.{refusal_of}
 use Rattle.runs.specs.Services.{Occurs}
 use Rattle.world.specs.Waiting.{KeepsOthersOf}
-use Rattle.runs.specs.Worlds.{World}
+use Rattle.world.specs.Values.{WorldValue, crashed_after}
 use Rattle.world.proofs.Awaiting.{are_numbered}
 use Rattle.world.proofs.CatchingUp.{acted_untaken, acted_follows, event_behind}
 use Rattle.runs.proofs.Decisions.{reached_nodes, cut_decided, happened_decided}
+use Rattle.world.proofs.Crashes.{crashes_event, on_err_so}
 use Rattle.world.proofs.Keeping.{kept_untaken, kept_new, kept_after, kept_cut, first_none}
 use Rattle.world.proofs.world.World.step.Goals as goal
 
@@ -72,7 +73,7 @@ returns-in_err-acted-clause-decided g c =
     let w = c.self.inside in
     let before = service_of w.hosts w.connections.entries in
     let after = service_of c.act-acted.new.hosts c.act-acted.new.connections.entries in
-    subst (λ (x : World g.row.A.Denot). KeepsDecided x.config x.service (service_of c.act-acted.new.hosts c.catch_up.new.self.entries)) c.self.view_is
+    subst (λ (x : WorldValue g.row.A.Denot). KeepsDecided x.world.config x.world.service (service_of c.act-acted.new.hosts c.catch_up.new.self.entries)) c.self.view_is
     (subst (λ es. KeepsDecided w.config before (service_of c.act-acted.new.hosts es)) (sym c.catch_up.ensures.entries)
     (cut_decided w.config before (reached_nodes w.config before c.self.invariant.0.reached) after c.args.event c.in_err-acted.ensures.err))
 
@@ -81,6 +82,15 @@ returns-clause-decided g c =
     let w = c.self.inside in
     let before = service_of w.hosts w.connections.entries in
     let after = service_of c.act-acted.new.hosts c.act-acted.new.connections.entries in
-    subst (λ (x : World g.row.A.Denot). KeepsDecided x.config x.service (service_of c.act-acted.new.hosts c.catch_up.new.self.entries)) c.self.view_is
+    subst (λ (x : WorldValue g.row.A.Denot). KeepsDecided x.world.config x.world.service (service_of c.act-acted.new.hosts c.catch_up.new.self.entries)) c.self.view_is
     (subst (λ es. KeepsDecided w.config before (service_of c.act-acted.new.hosts es)) (sym c.catch_up.ensures.entries)
     (happened_decided w.config before (reached_nodes w.config before c.self.invariant.0.reached) after (Occurs c.args.event) c.in_ok-acted.ensures.service))
+
+pub returns-clause-crashed : goal.returns-clause-crashed
+returns-clause-crashed g c =
+    let w = c.self.inside in
+    let possible : refusal_of (service_of w.hosts w.connections.entries) c.args.event ≡ None = first_none _ _ (sym c.refusal_of.ensures ∙ c.in_default.is) in
+    c.in_ok-acted.ensures.crashed ∙ crashes_event w.hosts w.connections.entries c.args.event possible ∙ ap (λ (v : WorldValue g.row.A.Denot). crashed_after c.args.event v.crashed) c.self.view_is
+
+pub returns-in_err-acted-clause-uncrashed : goal.returns-in_err-acted-clause-uncrashed
+returns-in_err-acted-clause-uncrashed g c = on_err_so c.from_residual.result (c.in_err-acted.ensures.uncrashed ∙ ap (λ (v : WorldValue g.row.A.Denot). v.crashed) c.self.view_is)
