@@ -21,11 +21,7 @@ fn put<A: Allocator>(out: &mut Vec<u8, A>, start: usize, bytes: &[u8]) -> Result
 }
 
 /// Adds a number in decimal, without leading zeros. After `Memory` as `put`.
-fn put_number<A: Allocator>(
-    out: &mut Vec<u8, A>,
-    start: usize,
-    number: u64,
-) -> Result<(), Memory>
+fn put_number<A: Allocator>(out: &mut Vec<u8, A>, start: usize, number: u64) -> Result<(), Memory>
     ensures { out.new.items ≡ (if is_ok result then out.old.items ++ decimal number else take start out.old.items) }
 {
     let mut buffer = Buffer::new();
