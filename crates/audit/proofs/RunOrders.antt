@@ -29,7 +29,7 @@ use Rattle.audit.specs.Case.{next, after_next, state_at}
 use Rattle.audit.specs.Order.{Awaited, Ends, NothingAwaited, SessionEnds, IsLegalOrder, opening}
 use Rattle.audit.specs.Records.{place_of, inputs_in, number_in, begun_at, RealCase, case_of, AreFit}
 use Rattle.audit.specs.Replays.{runs}
-use Rattle.audit.specs.Runs.{AreOfService, AreItsLines, IsClientOf, IsRunOf, IsTaken, AreCounted, AreSaidAlone, line_tickets}
+use Rattle.audit.specs.Runs.{AreOfService, AreItsLines, IsClientOf, IsRunOf, IsTaken, AreAllSaidAlone, line_tickets}
 use Rattle.audit.specs.Turns.{Turns, turns_from, is_empty, script_of}
 use Rattle.audit.specs.declared.event.Event.{Event}
 use Rattle.audit.proofs.RunClients.{Goes, AwaitsMore, IsDone, StandsFor, StandsAs, at_end}
@@ -46,6 +46,27 @@ take_push : {X : Type 0} (xs : List X) (k : ℕ) (x : X) → slice_get xs k ≡ 
 take_push [] k x e = absurd (cc)
 take_push (y ∷ ys) zero x e = let same : y ≡ x = cc in ap (λ z. z ∷ []) same
 take_push (y ∷ ys) (suc k) x e = ap (λ zs. y ∷ zs) (take_push ys k x e)
+
+module _ {A : Type 0} (cfg : Config A) (stamps : ℕ → Stamp) (logs : List (NodeLog A)) (transcripts : List (Transcript A)) (happenings : List (Happening A)) where
+  its_lines : (t : Transcript A) (lines : List Line) → AreItsLines t lines → IsPrefix lines t.lines
+  its_lines t lines h =
+      ⊎_elim
+      (λ e. ([], append-nil lines ∙ sym e))
+      (λ x. (x.0 ∷ [], sym x.1))
+      h
+
+  -- what sessions wrote and counted is said by a server that has the user's maildrop alone
+  pub bytes_alone : IsRunOf cfg stamps logs transcripts (run_of cfg happenings) → AreAllSaidAlone cfg stamps transcripts (run_of cfg happenings)
+  bytes_alone run i t written its greeting counted =
+      let c = run.clients i t its greeting in (
+        c.0,
+        c.1,
+        λ user is_user.
+            prefix_on written c.0.replies (alone_bytes cfg c.0 user t.lines (line_tickets t.asked) (own_commands cfg (run_of cfg happenings) user))
+            (prefix_on written (concat (told cfg.accounts (stamps i) t).replies) c.0.replies (front_taken cfg.accounts (stamps i) t written counted.said) c.2.replies)
+            (every_projected cfg happenings (suc i) c.0 c.1 user t.lines (line_tickets t.asked) (own_commands cfg (run_of cfg happenings) user) is_user
+            (its_lines t c.0.lines c.2.lines) ([], append-nil c.0.tickets ∙ c.2.tickets) (all_of (own_commands cfg (run_of cfg happenings) user))),
+      )
 
 module _ {A : Type 0} (cfg : Config A) (stamps : ℕ → Stamp) (logs : List (NodeLog A)) (transcripts : List (Transcript A)) (fit : AreFit logs transcripts) (service : AreOfService cfg stamps logs transcripts) where
   abbrev real : RealCase A
@@ -143,27 +164,35 @@ module _ {A : Type 0} (cfg : Config A) (stamps : ℕ → Stamp) (logs : List (No
   ran_occurs [] w c = refl
   ran_occurs (e ∷ es) w c = ran_occurs es (stepped w e) c ∙ ap (λ (k : Config A). fold (occurs cfg) (occurs k w.service e) es) c
 
+  happened : (es : List (run.Event A)) (w : Service A) → fold (happens cfg) w (map (λ e. Occurs e) es) ≡ fold (occurs cfg) w es
+  happened [] w = refl
+  happened (e ∷ es) w = happened es (occurs cfg w e)
+
+  -- the run in which these events happen
+  as_run : (es : List (run.Event A)) → run_of cfg (map (λ e. Occurs e) es) ≡ (ran (new_world cfg) es).service
+  as_run es = happened es (new_service cfg) ∙ sym (ran_occurs es (new_world cfg) refl)
+
   -- the service takes the order
   pub order_taken : (events : List Event) → IsLegalOrder real events → IsTaken cfg stamps logs transcripts events
   order_taken events legal =
       let order = legal.2 in
       let r = steps cfg stamps logs transcripts fit service events (opening real) order.0 (new_service cfg) begun order.1 in
+      let leads : IsRunOf cfg stamps logs transcripts (ran (new_world cfg) r.taken).service =
+          subst (IsRunOf cfg stamps logs transcripts) (sym (ran_occurs r.taken (new_world cfg) refl)) (at_the_end order.0 (fold (occurs cfg) (new_service cfg) r.taken) r.follows order.2) in
       record {
         taken = r.taken;
         same = r.same;
         possible = r.possible;
         unrefused = λ users. r.unrefused users (new_world cfg) refl refl;
-        leads = subst (IsRunOf cfg stamps logs transcripts) (sym (ran_occurs r.taken (new_world cfg) refl)) (at_the_end order.0 (fold (occurs cfg) (new_service cfg) r.taken) r.follows order.2);
+        leads = leads;
+        said = subst (AreAllSaidAlone cfg stamps transcripts) (as_run r.taken)
+            (bytes_alone cfg stamps logs transcripts (map (λ e. Occurs e) r.taken) (subst (IsRunOf cfg stamps logs transcripts) (sym (as_run r.taken)) leads));
       }
-
-  happened : (es : List (run.Event A)) (w : Service A) → fold (happens cfg) w (map (λ e. Occurs e) es) ≡ fold (occurs cfg) w es
-  happened [] w = refl
-  happened (e ∷ es) w = happened es (occurs cfg w e)
 
   pub order_run : (events : List Event) → IsLegalOrder real events → (happenings : List (Happening A)) × IsRunOf cfg stamps logs transcripts (run_of cfg happenings)
   order_run events legal =
       let t = order_taken events legal in
-      (map (λ e. Occurs e) t.taken, subst (IsRunOf cfg stamps logs transcripts) (ran_occurs t.taken (new_world cfg) refl ∙ sym (happened t.taken (new_service cfg))) t.leads)
+      (map (λ e. Occurs e) t.taken, subst (IsRunOf cfg stamps logs transcripts) (sym (as_run t.taken)) t.leads)
 
 module _ {A T E : Type 0} (logs : List (NodeLog A)) (transcripts : List (Transcript A)) (items : T → List Event) where
   -- whoever found a legal order found one that the service takes
@@ -171,24 +200,3 @@ module _ {A T E : Type 0} (logs : List (NodeLog A)) (transcripts : List (Transcr
       → IfOk r (λ x. (cfg : Config A) (stamps : ℕ → Stamp) → AreFit logs transcripts → AreOfService cfg stamps logs transcripts → IsTaken cfg stamps logs transcripts (items x))
   found_taken (Ok x) h = λ cfg stamps fit service. order_taken cfg stamps logs transcripts fit service (items x) (h fit)
   found_taken (Err e) h = tt
-
-module _ {A : Type 0} (cfg : Config A) (stamps : ℕ → Stamp) (logs : List (NodeLog A)) (transcripts : List (Transcript A)) (happenings : List (Happening A)) where
-  its_lines : (t : Transcript A) (lines : List Line) → AreItsLines t lines → IsPrefix lines t.lines
-  its_lines t lines h =
-      ⊎_elim
-      (λ e. ([], append-nil lines ∙ sym e))
-      (λ x. (x.0 ∷ [], sym x.1))
-      h
-
-  pub bytes_alone : IsRunOf cfg stamps logs transcripts (run_of cfg happenings) → (i : ℕ) (t : Transcript A) (written : List ℕ) → slice_get transcripts i ≡ Some t → (t.greeting ≡ [] → ⊥) → AreCounted cfg (stamps i) t written
-      → (c : Client A) × (client_of (suc i) (run_of cfg happenings).clients ≡ Some c) × AreSaidAlone cfg (run_of cfg happenings) c t written
-  bytes_alone run i t written its greeting counted =
-      let c = run.clients i t its greeting in (
-        c.0,
-        c.1,
-        λ user is_user.
-            prefix_on written c.0.replies (alone_bytes cfg c.0 user t.lines (line_tickets t.asked) (own_commands cfg (run_of cfg happenings) user))
-            (prefix_on written (concat (told cfg.accounts (stamps i) t).replies) c.0.replies (front_taken cfg.accounts (stamps i) t written counted.said) c.2.replies)
-            (every_projected cfg happenings (suc i) c.0 c.1 user t.lines (line_tickets t.asked) (own_commands cfg (run_of cfg happenings) user) is_user
-            (its_lines t c.0.lines c.2.lines) ([], append-nil c.0.tickets ∙ c.2.tickets) (all_of (own_commands cfg (run_of cfg happenings) user))),
-      )

@@ -107,15 +107,6 @@ module _ {A : Type 0} where
   pub record AreForUsers (cfg : Config A) (logs : List (NodeLog A)) : Type 0 where
     pub each : (n : ℕ) (log : NodeLog A) (k : ℕ) (user : List ℕ) (op : Op A) → slice_get logs n ≡ Some log → slice_get log.inputs k ≡ Some (Submit user op) → is_of_lock op ≡ false → is_some (account_named cfg.accounts user) ≡ true
 
-  -- The service takes these events one after another. Each can happen where it stands, and a caller is refused none, but
-  -- for messages and breaks for users without an account. What comes of it is what these logs and transcripts tell.
-  pub record IsTaken (cfg : Config A) (stamps : ℕ → Stamp) (logs : List (NodeLog A)) (transcripts : List (Transcript A)) (events : List Event) : Type 0 where
-    pub taken : List (run.Event A)
-    pub same : AreFor stamps events taken
-    pub possible : CanHappen cfg (new_service cfg) taken
-    pub unrefused : AreForUsers cfg logs → first_refusal (new_world cfg) taken ≡ None
-    pub leads : IsRunOf cfg stamps logs transcripts (ran (new_world cfg) taken).service
-
   -- of a session with this transcript these bytes were written, and counted
   pub record AreCounted (cfg : Config A) (stamp : Stamp) (t : Transcript A) (written : List ℕ) : Type 0 where
     pub count : t.count ≡ length written
@@ -125,3 +116,20 @@ module _ {A : Type 0} where
   -- where what its lines asked has its tickets, taking the user's decided commands in order, each once.
   abbrev pub AreSaidAlone : Config A → Service A → Client A → Transcript A → List ℕ → Type 0
   AreSaidAlone cfg w c t written = (user : List ℕ) → IsUserOf cfg c user → IsPrefix written (alone_bytes cfg c user t.lines (line_tickets t.asked) (own_commands cfg w user))
+
+  -- So is all that sessions with a greeting wrote and counted. Session i is client i + 1.
+  abbrev pub AreAllSaidAlone : Config A → (ℕ → Stamp) → List (Transcript A) → Service A → Type 0
+  AreAllSaidAlone cfg stamps transcripts w =
+      (i : ℕ) (t : Transcript A) (written : List ℕ) → slice_get transcripts i ≡ Some t → (t.greeting ≡ [] → ⊥) → AreCounted cfg (stamps i) t written
+      → (c : Client A) × (client_of (suc i) w.clients ≡ Some c) × AreSaidAlone cfg w c t written
+
+  -- The service takes these events one after another. Each can happen where it stands, and a caller is refused none, but
+  -- for messages and breaks for users without an account. What comes of it is what these logs and transcripts tell.
+  pub record IsTaken (cfg : Config A) (stamps : ℕ → Stamp) (logs : List (NodeLog A)) (transcripts : List (Transcript A)) (events : List Event) : Type 0 where
+    pub taken : List (run.Event A)
+    pub same : AreFor stamps events taken
+    pub possible : CanHappen cfg (new_service cfg) taken
+    pub unrefused : AreForUsers cfg logs → first_refusal (new_world cfg) taken ≡ None
+    pub leads : IsRunOf cfg stamps logs transcripts (ran (new_world cfg) taken).service
+    -- what its sessions wrote and counted is said by a server that has the user's maildrop alone
+    pub said : AreAllSaidAlone cfg stamps transcripts (ran (new_world cfg) taken).service

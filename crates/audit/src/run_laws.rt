@@ -2,16 +2,15 @@
 //!
 //! A legal order of logs and transcripts is a run: what nodes logged and what sessions were told is what came of it. So
 //! what holds of every run holds of what was audited, to each byte that a session counted.
-ghost use Rattle.std.specs.Prelude.{◌≡◌, ◌<◌, ◌≤◌, ℕ, suc, length, List, [], Some, true, slice_get};
+ghost use Rattle.std.specs.Prelude.{◌≡◌, ◌<◌, ◌≤◌, ℕ, length, List, true};
 ghost use Rattle.apop.specs.Stamp.{Stamp};
 ghost use Rattle.node.specs.declared.log.NodeLog.{NodeLog};
 ghost use Rattle.session.specs.declared.transcript.Transcript.{Transcript};
-ghost use Rattle.runs.specs.Clients.{Client, client_of};
 ghost use Rattle.runs.specs.Services.{Happening, opening_of, run_of};
 ghost use Rattle.runs.specs.declared.config.Config.{Config};
 ghost use Rattle.audit.specs.Order.{IsLegalOrder};
 ghost use Rattle.audit.specs.Records.{is_fit, AreFit, case_of};
-ghost use Rattle.audit.specs.Runs.{AreInOrder, AreOfService, IsRunOf, IsTaken, AreCounted, AreSaidAlone};
+ghost use Rattle.audit.specs.Runs.{AreInOrder, AreOfService, IsRunOf, IsTaken, AreAllSaidAlone};
 ghost use Rattle.audit.specs.declared.event.Event.{Event};
 
 use std::alloc::Allocator;
@@ -49,7 +48,5 @@ pub fn a_legal_order_is_taken<A: Allocator>()
 pub fn counted_bytes_are_projected<A: Allocator>()
     ensures { (config : Config A) (stamps : ℕ → Stamp) (logs : List (NodeLog A)) (transcripts : List (Transcript A)) (happenings : List (Happening A)) →
         IsRunOf config stamps logs transcripts (run_of config happenings)
-        → (session : ℕ) (transcript : Transcript A) (written : List ℕ) → slice_get transcripts session ≡ Some transcript → (transcript.greeting ≡ [] → ⊥)
-        → AreCounted config (stamps session) transcript written
-        → (c : Client A) × (client_of (suc session) (run_of config happenings).clients ≡ Some c) × AreSaidAlone config (run_of config happenings) c transcript written }
+        → AreAllSaidAlone config stamps transcripts (run_of config happenings) }
 {}

@@ -36,7 +36,8 @@ fn put_command<A: Allocator>(
     ticket: Ticket,
 ) -> Result<(), Memory>
     requires { start ≤ length out.old.items }
-    ensures { out.new.items ≡ (if is_ok result then out.old.items ++ spec.command_text user.now ticket else take start out.old.items) }
+    ensures { out.new.items
+        ≡ (if is_ok result then out.old.items ++ spec.command_text user.now ticket else take start out.old.items) }
 {
     let (node, seq) = ticket.get();
     put(out, start, user.get())?;
@@ -53,7 +54,8 @@ fn put_outcome_text<A: Allocator, B: Allocator>(
     outcome: &Outcome<B>,
 ) -> Result<(), Memory>
     requires { start ≤ length out.old.items }
-    ensures { out.new.items ≡ (if is_ok result then out.old.items ++ spec.outcome_text outcome.now else take start out.old.items) }
+    ensures { out.new.items
+        ≡ (if is_ok result then out.old.items ++ spec.outcome_text outcome.now else take start out.old.items) }
 {
     match outcome {
         Outcome::NoSuchUser => put(out, start, b"no such user"),
@@ -158,7 +160,8 @@ fn put_reply_line<A: Allocator>(
     line: &[u8],
 ) -> Result<(), Memory>
     requires { start ≤ length out.old.items }
-    ensures { out.new.items ≡ (if is_ok result then out.old.items ++ spec.reply_line session line.now else take start out.old.items) }
+    ensures { out.new.items
+        ≡ (if is_ok result then out.old.items ++ spec.reply_line session line.now else take start out.old.items) }
 {
     put(out, start, b"s")?;
     put_number(out, start, u64::from(session))?;

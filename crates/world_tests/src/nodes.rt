@@ -21,6 +21,8 @@ pub struct Nodes<A: Allocator + Copy> {
     pub seat: usize,
     /// How many operations it is asked before it crashes.
     pub lives: u32,
+    /// Whether sessions are told `NotHolder` when it answers `Done`.
+    pub lies: bool,
     alloc: A,
 }
 
@@ -31,6 +33,7 @@ pub fn new_nodes<A: Allocator + Copy>(alloc: A, count: u8, lives: u32) -> Result
         waiting: VecDeque::new(alloc),
         seat: 0,
         lives,
+        lies: false,
         alloc,
     };
     nodes.take(0, Input::Campaign).ok_or("no leader")?;
@@ -106,6 +109,14 @@ impl<A: Allocator + Copy> Nodes<A> {
     }
 }
 
+/// What a session is told.
+fn told<A: Allocator>(outcome: Outcome<A>, lies: bool) -> Outcome<A> {
+    if lies && matches!(&outcome, Outcome::Done) {
+        return Outcome::NotHolder;
+    }
+    outcome
+}
+
 impl<A: Allocator + Copy> Desk<Op<A>, Outcome<A>> for Nodes<A> {
     ghost gives = { λ _ _ _. Unit {0} };
 
@@ -119,7 +130,7 @@ impl<A: Allocator + Copy> Desk<Op<A>, Outcome<A>> for Nodes<A> {
             None => None,
         };
         match answer {
-            Some(outcome) => Ok((ticket, outcome)),
+            Some(outcome) => Ok((ticket, told(outcome, self.lies))),
             None => Err(DeskStopped {
                 ticket: Some(ticket),
             }),

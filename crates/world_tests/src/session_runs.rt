@@ -62,11 +62,21 @@ fn transcripts_of<A: Allocator + Copy>(
     Ok(transcripts)
 }
 
-pub fn play<A: Allocator + Copy>(alloc: A, plan: Plan) -> Result<Run<A>, Fail> {
+fn played<A: Allocator + Copy>(alloc: A, plan: Plan, lies: bool) -> Result<Run<A>, Fail> {
     let mut nodes = new_nodes(alloc, plan.nodes, plan.lives)?;
+    nodes.lies = lies;
     let transcripts = transcripts_of(alloc, &mut nodes, plan.sessions)?;
     let logs = nodes.into_logs(alloc)?;
     Ok(Run { logs, transcripts })
+}
+
+pub fn play<A: Allocator + Copy>(alloc: A, plan: Plan) -> Result<Run<A>, Fail> {
+    played(alloc, plan, false)
+}
+
+/// Sessions are told `NotHolder` when a node answers `Done`.
+pub fn play_with_lies<A: Allocator + Copy>(alloc: A, plan: Plan) -> Result<Run<A>, Fail> {
+    played(alloc, plan, true)
 }
 
 /// Why an audit gives no events, if it doesn't.

@@ -1,7 +1,7 @@
 //! What an audit finds if logs or transcripts were changed.
 
 use crate::changes::{Change, make_change};
-use crate::session_runs::{LINES, Plan, Run, audited, play};
+use crate::session_runs::{LINES, Plan, Run, audited, play, play_with_lies};
 use audit::AuditError::{self, NoOrder, WrongAnswer};
 use samples::{check, node};
 use std::alloc::Global;
@@ -95,4 +95,12 @@ fn an_audit_finds_what_was_changed(rt: HostRuntime) -> Result<(), Fail> {
         (ALONE, Some(Change::OtherOutcome), Some(WrongAnswer(0))),
     ];
     check_rows(rt.alloc(), rows.as_slice())
+}
+
+/// A session is told `NotHolder` although its node answered `Done`.
+#[test]
+fn an_audit_finds_a_false_desk(rt: HostRuntime) -> Result<(), Fail> {
+    let alloc = rt.alloc();
+    let run = play_with_lies(alloc, ALONE)?;
+    check(audited(alloc, &run) == Some(WrongAnswer(0)), "another finding")
 }
