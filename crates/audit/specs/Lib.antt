@@ -13,6 +13,7 @@ pub mod Events
 pub mod Written
 pub mod Runs
 pub mod RunExamples
+pub mod TwoServices
 pub mod TwoNodes
 pub mod Audits
 pub mod Nodes
