@@ -178,7 +178,7 @@ module _ {A : Type 0} (cfg : Config A) (stamps : ℕ → Stamp) (logs : List (No
       let order = legal.2 in
       let r = steps cfg stamps logs transcripts fit service events (opening real) order.0 (new_service cfg) begun order.1 in
       let leads : IsRunOf cfg stamps logs transcripts (ran (new_world cfg) r.taken).service =
-          subst (IsRunOf cfg stamps logs transcripts) (sym (ran_occurs r.taken (new_world cfg) refl)) (at_the_end order.0 (fold (occurs cfg) (new_service cfg) r.taken) r.follows order.2) in
+      subst (IsRunOf cfg stamps logs transcripts) (sym (ran_occurs r.taken (new_world cfg) refl)) (at_the_end order.0 (fold (occurs cfg) (new_service cfg) r.taken) r.follows order.2) in
       record {
         taken = r.taken;
         same = r.same;

@@ -14,6 +14,7 @@ pub mod Written
 pub mod Runs
 pub mod RunExamples
 pub mod TwoServices
+pub mod OrderExamples
 pub mod TwoNodes
 pub mod Audits
 pub mod Nodes

@@ -60,9 +60,9 @@ module _ (A : Type 0) (limits : Limits) where
 
   abbrev first : Service A
   first = run_of one_node (
-    logs_in ++ Occurs (event.Campaign 1) ∷ arrive 0 ∷ arrive 1 ∷ arrive 2 ∷ arrive 3 ∷ arrive 4 ∷ arrive 5 ∷ []
-    ++ quits ++ arrive 6 ∷ arrive 7 ∷ arrive 8 ∷ arrive 9 ∷ collects ∷ []
-  )
+      logs_in ++ Occurs (event.Campaign 1) ∷ arrive 0 ∷ arrive 1 ∷ arrive 2 ∷ arrive 3 ∷ arrive 4 ∷ arrive 5 ∷ []
+      ++ quits ++ arrive 6 ∷ arrive 7 ∷ arrive 8 ∷ arrive 9 ∷ collects ∷ []
+      )
 
   -- bob's mail comes in at node 2, and node 1 leads: nodes 1 and 2 decide it before alice logs in
   abbrev mail_for_bob : List (Happening A)
@@ -72,9 +72,9 @@ module _ (A : Type 0) (limits : Limits) where
 
   abbrev second : Service A
   second = run_of three_nodes (
-    mail_for_bob ++ logs_in ++ arrive 16 ∷ arrive 19 ∷ arrive 20 ∷ arrive 22 ∷ arrive 23 ∷ arrive 24 ∷ []
-    ++ quits ++ arrive 27 ∷ arrive 30 ∷ arrive 31 ∷ arrive 33 ∷ arrive 34 ∷ arrive 35 ∷ collects ∷ []
-  )
+      mail_for_bob ++ logs_in ++ arrive 16 ∷ arrive 19 ∷ arrive 20 ∷ arrive 22 ∷ arrive 23 ∷ arrive 24 ∷ []
+      ++ quits ++ arrive 27 ∷ arrive 30 ∷ arrive 31 ∷ arrive 33 ∷ arrive 34 ∷ arrive 35 ∷ collects ∷ []
+      )
 
   abbrev ticket : ℕ → Ticket
   ticket number = record { node = 1; seq = number }
