@@ -65,7 +65,7 @@ found_same : {X : Type 0} (a b : CommandId) (es : List (CommandId × X)) → a �
 found_same a b es e = ap (λ (i : CommandId). lookup (same_id i) es) e
 
 -- a new entry behind others
-found_last : (id other : CommandId) (x : Bool) (es : List (CommandId × Bool)) (y : Bool) → lookup (same_id other) (es ++ (id, x) ∷ []) ≡ Some y
+pub found_last : (id other : CommandId) (x : Bool) (es : List (CommandId × Bool)) (y : Bool) → lookup (same_id other) (es ++ (id, x) ∷ []) ≡ Some y
     → (lookup (same_id other) es ≡ Some y) ⊎ ((other ≡ id) × (x ≡ y))
 found_last id other x [] y e =
     go (same_id other id) refl e
@@ -95,7 +95,7 @@ none_last id other x es apart none =
         (found_last id other x es y q)
 
 -- where the entry of an identity is written, the others stay
-set_other : (id other : CommandId) (es : List (CommandId × Bool)) → (other ≡ id → ⊥) → lookup (same_id other) (set_value (same_id id) es true) ≡ lookup (same_id other) es
+pub set_other : (id other : CommandId) (es : List (CommandId × Bool)) → (other ≡ id → ⊥) → lookup (same_id other) (set_value (same_id id) es true) ≡ lookup (same_id other) es
 set_other id other [] apart = refl
 set_other id other (e ∷ es) apart =
     go (same_id id e.0) refl (set_other id other es apart)
@@ -107,7 +107,7 @@ set_other id other (e ∷ es) apart =
         rw (no) refl
     go false q ih = ap (λ o. cond (same_id other e.0) (Some e.1) o) ih
 
-set_own : (id : CommandId) (es : List (CommandId × Bool)) (x : Bool) → lookup (same_id id) es ≡ Some x → lookup (same_id id) (set_value (same_id id) es true) ≡ Some true
+pub set_own : (id : CommandId) (es : List (CommandId × Bool)) (x : Bool) → lookup (same_id id) es ≡ Some x → lookup (same_id id) (set_value (same_id id) es true) ≡ Some true
 set_own id [] x e = absurd (cc)
 set_own id (y ∷ es) x e =
     go (same_id id y.0) refl e (set_own id es x)
@@ -128,7 +128,7 @@ set_same id (y ∷ es) x e =
     go false q ih = ap (λ ys. y ∷ ys) (ih q)
 
 -- two identities are one or differ
-one_or_other : (a b : CommandId) → (a ≡ b) ⊎ (a ≡ b → ⊥)
+pub one_or_other : (a b : CommandId) → (a ≡ b) ⊎ (a ≡ b → ⊥)
 one_or_other a b =
     go (same_id a b) refl
   where
