@@ -102,5 +102,8 @@ fn an_audit_finds_what_was_changed(rt: HostRuntime) -> Result<(), Fail> {
 fn an_audit_finds_a_false_desk(rt: HostRuntime) -> Result<(), Fail> {
     let alloc = rt.alloc();
     let run = play_with_lies(alloc, ALONE)?;
-    check(audited(alloc, &run) == Some(WrongAnswer(0)), "another finding")
+    check(
+        audited(alloc, &run) == Some(WrongAnswer(0)),
+        "another finding",
+    )
 }
