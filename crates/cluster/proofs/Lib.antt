@@ -3,3 +3,5 @@ pub mod Statuses
 pub mod Tickets
 pub mod AsLogged
 pub mod Bests
+pub mod Zips
+pub mod Jobs

@@ -2,6 +2,7 @@ pub mod Patience
 pub mod Fits
 pub mod Starts
 pub mod Members
+pub mod Jobs
 pub mod Users
 pub mod Ends
 pub mod Bests

@@ -353,10 +353,12 @@ impl<
     /// in the order in which these were started, with what is kept of the maildrops: as a log leaves them than which none has
     /// performed more, or without a node as the setup has them. From then on their desks answer that they have stopped. If a
     /// link's `send` doesn't return, neither does this. Takes no memory, but for a node that has stopped without memory, whose
-    /// log is replayed, and for a cluster without a node: `kept` is `Memory` if there is none for that.
-    pub fn stop(self) -> Ended
-        ensures logs { All (λ log. IsLogOf D.setup log.opening.me log) result.logs.items }
-        ensures kept { IfOk result.kept (λ kept. IsLeftBy D.setup result.logs.items kept) }
+    /// log is replayed, and for a cluster without a node: `kept` is `Memory` if there is none for that. `None` if the state of
+    /// a node isn't under its lock: only this call and letting the cluster go take it away.
+    pub fn stop(self) -> Option<Ended>
+        ensures nodes { IfSome result (λ ended. map (λ log. log.opening.me) ended.logs.items ≡ self) }
+        ensures logs { IfSome result (λ ended. All (λ log. IsLogOf D.setup log.opening.me log) ended.logs.items) }
+        ensures kept { IfSome result (λ ended. IfOk ended.kept (λ kept. IsLeftBy D.setup ended.logs.items kept)) }
     {
         let Cluster {
             rt,
@@ -369,8 +371,8 @@ impl<
             logs,
         } = self;
         end_threads(&rt, alloc, &hub, threads);
-        let closed = retire_all(&rt, &nodes, closed);
-        end_all(alloc, kept.get(), closed, logs)
+        let closed = retire_all(&rt, &nodes, closed)?;
+        Some(end_all(alloc, kept.get(), closed, logs))
     }
 }
 
@@ -417,20 +419,23 @@ fn end_threads<R: Threads + Wait>(rt: &R, alloc: Global, hub: &Hub, threads: Vec
     }
 }
 
-/// Takes the nodes away, and closes them. Takes no memory.
+/// Takes all nodes away, and closes them, in their order. `None` if one isn't under its lock. Takes no memory.
 fn retire_all<D: Deployment, R: Wait, L: Link>(
     rt: &R,
     nodes: &[NodeHandle<D, L>],
     mut closed: Vec<Closed<D>>,
-) -> Vec<Closed<D>>
+) -> Option<Vec<Closed<D>>>
     requires none { closed.items ≡ [] }
     requires room { length nodes.now ≤ vec_capacity closed }
-    ensures few { vec_len result ≤ length nodes.now }
+    ensures few { IfSome result (λ closed. vec_len closed ≤ length nodes.now) }
+    ensures all { IfSome result (λ closed. map (λ log. log.opening.me) closed.items ≡ nodes.now) }
 {
+    let mut is_whole = true;
     for node in nodes {
-        if let Some(node) = node.retire(rt) {
-            closed.push_reserved(node);
+        match node.retire(rt) {
+            Some(node) => closed.push_reserved(node),
+            None => is_whole = false,
         }
     }
-    closed
+    if is_whole { Some(closed) } else { None }
 }

@@ -34,6 +34,7 @@ pub(crate) fn end_all<D: Deployment>(
     requires opened { opened.now ≡ D.setup.kept }
     requires none { logs.items ≡ [] }
     requires room { vec_len closed ≤ vec_capacity logs }
+    ensures all { result.logs.items ≡ closed.items }
     ensures logs { All (λ log. IsLogOf D.setup log.opening.me log) result.logs.items }
     ensures kept { IfOk result.kept (λ kept. IsLeftBy D.setup result.logs.items kept) }
 {

@@ -9,9 +9,9 @@ use std::sync::{Arc, RwLock, Wait};
 /// Where the thread of a node takes its envelopes from.
 pub(crate) type Inbox = Receiver<Envelope<SharedCommand>>;
 
-/// The end of an inbox that envelopes are put into.
+/// The end of a node's inbox that envelopes are put into.
 #[derive(Drop)]
-struct Slit {
+struct NodeSender {
     node: NodeId,
     sender: Sender<Envelope<SharedCommand>>,
 }
@@ -20,14 +20,14 @@ struct Slit {
 /// inbox, and with it the thread that takes from it.
 #[derive(Drop)]
 pub(crate) struct Hub {
-    slits: RwLock<Vec<Slit>>,
+    senders: RwLock<Vec<NodeSender>>,
 }
 
 impl Hub {
     /// A hub without inboxes.
     pub(crate) fn new(alloc: Global) -> Result<Arc<Hub>, Memory> {
-        let slits = RwLock::new(Vec::new(alloc));
-        Ok(Arc::new(alloc, Hub { slits })?)
+        let senders = RwLock::new(Vec::new(alloc));
+        Ok(Arc::new(alloc, Hub { senders })?)
     }
 
     /// Opens an inbox for a node.
@@ -38,28 +38,28 @@ impl Hub {
         node: NodeId,
     ) -> Result<Inbox, Memory> {
         let (sender, inbox) = unbounded(alloc)?;
-        self.slits.write(rt).push(Slit { node, sender })?;
+        self.senders.write(rt).push(NodeSender { node, sender })?;
         Ok(inbox)
     }
 
-    /// Puts an envelope into its addressee's inbox. Gives whether it is in there: not where that node doesn't run here, its
-    /// thread has ended, or without memory.
+    /// Puts an envelope into its addressee's inbox. Returns whether it is in there: not if that node doesn't run here, its
+    /// thread has ended, or there is no memory.
     pub(crate) fn deliver<R: Wait>(&self, rt: &R, envelope: Envelope<SharedCommand>) -> bool {
-        let slits = self.slits.read(rt);
-        match slits.iter().find(|slit| slit.node == envelope.to) {
+        let senders = self.senders.read(rt);
+        match senders.iter().find(|end| end.node == envelope.to) {
             None => false,
-            Some(slit) => slit.sender.send(rt, envelope).is_ok(),
+            Some(end) => end.sender.send(rt, envelope).is_ok(),
         }
     }
 
     /// Whether an envelope lies in an inbox that its node has not heard.
     pub(crate) fn has_unheard<R: Wait>(&self, rt: &R) -> bool {
-        let slits = self.slits.read(rt);
-        slits.iter().any(|slit| !slit.sender.is_empty())
+        let senders = self.senders.read(rt);
+        senders.iter().any(|end| !end.sender.is_empty())
     }
 
     /// Closes all inboxes: who takes from one finds what is left in it, and then its end. Takes no memory.
     pub(crate) fn close<R: Wait>(&self, rt: &R, alloc: Global) {
-        *self.slits.write(rt) = Vec::new(alloc);
+        *self.senders.write(rt) = Vec::new(alloc);
     }
 }

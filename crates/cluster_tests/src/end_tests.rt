@@ -4,7 +4,7 @@ ghost use Rattle.maildrop.specs.Name.{are_different};
 
 use crate::clients::{Course, Talk, new_pages, serve};
 use crate::services::{DeskOf, Nodes, desk_of, end_watch, setup_of, start_watch};
-use cluster::{Deployment, Setup};
+use cluster::{Deployment, Ended, Setup};
 use maildrop::Op;
 use node::NodeLog;
 use samples::{alice, check, node};
@@ -74,6 +74,11 @@ fn check_logs(logs: &[NodeLog]) -> Result<(), Fail> {
     check(!second.inputs.is_empty(), "an input is missing")
 }
 
+fn check_ended(ended: &Ended) -> Result<(), Fail> {
+    check_logs(&ended.logs)?;
+    check(ended.kept.is_ok(), "nothing is kept")
+}
+
 /// A cluster of which something is asked ends: it stops, or is let go.
 fn end<
     D: Deployment + Send + Sync + 'static,
@@ -87,7 +92,7 @@ fn end<
 ) -> Result<(), Fail> {
     if stops {
         desk.tick();
-        check_logs(&cluster.stop().logs)?;
+        check_ended(&cluster.stop().ok_or("a node is missing")?)?;
     } else {
         check_served(rt, alloc, &cluster)?;
         check_crash(&cluster)?;

@@ -97,6 +97,7 @@ fn hears_all<
     check_logs(
         &asked::<D, R>(rt, alloc, setup, sent.clone()?, &free)?
             .stop()
+            .ok_or("a node is missing")?
             .logs,
     )?;
     check_answers(&rt, &answers)?;

@@ -180,9 +180,9 @@ pub fn lives<
     let pages = new_pages(alloc, plan.talks)?;
     let cluster = Nodes::<D, R>::start(rt, alloc, setup)?;
     let outcome = play_watched(rt, alloc, &cluster, plan, &pages);
-    let logs = cluster.stop().logs;
+    let ended = cluster.stop().ok_or("a node is missing")?;
     Ok(Remains {
-        logs,
+        logs: ended.logs,
         transcripts: outcome?,
         pages,
     })

@@ -10,6 +10,7 @@ invariant-loop-node g l = record {
   finite : (goal.iterator-loop-node g).is_finite l.node-iterator;
   count : vec_len l.logs ≡ length l.yielded;
   room : vec_capacity l.logs ≡ vec_capacity l.initial.logs;
+  same : l.logs.items ≡ l.yielded;
   own : All (λ log. IsLogOf g.D.Deployment.setup log.opening.me log) l.logs.items;
   best : IfOk l.best (λ best. IsBestOf l.logs.items best);
 }
