@@ -1,15 +1,24 @@
 -- What is told of a run once it has ended.
-use Rattle.std.specs.Prelude.{◌≡◌, ℕ, List, [], ◌++◌, Some, None, codes}
+use Rattle.std.specs.Prelude.{◌≡◌, ℕ, List, [], ◌++◌, map, Some, None, true, codes, slice_get}
 use Rattle.std.specs.Fmt.{decimal}
+use Rattle.std.specs.declared.alloc.Global.{Global}
+use Rattle.apop.specs.Accounts.{Account, name_of}
+use Rattle.apop.specs.Stamp.{Stamp}
+use Rattle.maildrop.specs.Limits.{Limits}
 use Rattle.node.specs.declared.log.NodeLog.{NodeLog}
 use Rattle.session.specs.declared.transcript.Transcript.{Transcript}
+use Rattle.runs.specs.declared.config.Config.{Config}
 use Rattle.audit.specs.Audits.{IsWhole, IsStuckAt}
 use Rattle.audit.specs.Order.{IsLegalOrder}
-use Rattle.audit.specs.Records.{AreFit, case_of}
+use Rattle.audit.specs.Records.{is_fit, AreFit, case_of}
+use Rattle.audit.specs.Runs.{AreOfService, AreCounted}
 use Rattle.audit.specs.Wrong.{first_wrong}
 use Rattle.audit.specs.declared.audit_error.AuditError.{AuditError}
 use Rattle.audit.specs.declared.audit_error.AuditError.TheVariants as error
 use Rattle.audit.specs.declared.event.Event.{Event}
+use Rattle.cluster.specs.Members.{opening_of}
+use Rattle.cluster.specs.Starts.{all_nodes}
+use Rattle.cluster.specs.declared.setup.Setup.{Setup}
 use Rattle.service.specs.declared.verdict.Verdict.{Verdict}
 use Rattle.service.specs.declared.verdict.Verdict.TheVariants.{Legal, NoOrder, WrongAnswer, Memory}
 
@@ -41,3 +50,48 @@ module _ {A : Type 0} (logs : List (NodeLog A)) (transcripts : List (Transcript 
   IsVerdict (NoOrder number) = IsStuckAt (case_of logs transcripts) number × ((events : List Event) → IsLegalOrder (case_of logs transcripts) events → ⊥)
   IsVerdict (WrongAnswer session) = IsWhole (case_of logs transcripts) × (first_wrong (case_of logs transcripts) 0 [] (case_of logs transcripts).scripts ≡ Some session)
   IsVerdict Memory = Unit {0}
+
+-- These are logs of all nodes of a service, and transcripts of sessions, each of which was served over the service's accounts
+-- after the greeting of its stamp, and counts the bytes that were written. They have a legal order.
+pub record IsLegal (config : Config Global) (logs : List (NodeLog Global)) (transcripts : List (Transcript Global)) : Type 0 where
+  pub nodes : map (λ log. log.opening.me) logs ≡ all_nodes config.cluster
+  pub stamps : ℕ → Stamp
+  pub service : AreOfService config stamps logs transcripts
+  pub fit : AreFit logs transcripts
+  pub counted : (i : ℕ) (t : Transcript Global) → slice_get transcripts i ≡ Some t → (written : List ℕ) × AreCounted config (stamps i) t written
+  pub events : List Event
+  pub order : IsLegalOrder (case_of logs transcripts) events
+
+-- what a service begins with that has these accounts and whose nodes begin so
+abbrev pub config_of : List Account → Setup → Config Global
+config_of accounts setup = record {
+  accounts = accounts;
+  limits = setup.limits;
+  kept = setup.kept;
+  keys = setup.keys;
+  cluster = setup.cluster;
+  window = setup.window;
+}
+
+-- nodes can begin so, for these accounts
+pub record CanServe (accounts : List Account) (setup : Setup) : Type 0 where
+  pub names : setup.names ≡ map name_of accounts
+  pub fit : is_fit (opening_of setup 1) ≡ true
+
+-- logs of all nodes of a service and transcripts of all its sessions have a legal order
+abbrev pub WasLegal : Config Global → Type 0
+WasLegal config = (logs : List (NodeLog Global)) × (transcripts : List (Transcript Global)) × IsLegal config logs transcripts
+
+-- what a service begins with that has so many nodes, this window and these limits, and whose maildrops open empty
+pub record IsConfigFor (nodes slots : ℕ) (limits : Limits) (config : Config Global) : Type 0 where
+  pub cluster : config.cluster ≡ nodes
+  pub window : config.window ≡ slots
+  pub maildrops : config.limits ≡ limits
+  pub empty : config.kept ≡ []
+
+-- The audit of such a service found a legal order of all that its nodes and its sessions did. There are such logs and
+-- transcripts; no clause can name those that threads left, as what lies under a lock is known by its type only. Which were
+-- audited the code shows: `verdict_at_end` has the logs from `Cluster::stop` and the transcripts from their lock, and
+-- `Transcripts::verdict` judges just these.
+abbrev pub FoundLegal : ℕ → ℕ → Limits → Type 0
+FoundLegal nodes slots limits = (config : Config Global) × IsConfigFor nodes slots limits config × WasLegal config

@@ -4,6 +4,7 @@
 mod arrivals;
 mod asking;
 mod bounded_reader;
+mod brand;
 mod connection;
 mod counters;
 mod ctl;
@@ -40,6 +41,7 @@ mod requests;
 mod say;
 mod serve;
 mod served_node;
+mod served_sessions;
 mod session_bounds;
 mod session_desk;
 mod session_facts;

@@ -1,11 +1,13 @@
 //! POP3 connections.
 
 use crate::bounded_reader::BoundedReader;
+use crate::brand::Service;
 use crate::handler::Handler;
 use crate::login_gate::LoginGate;
 use crate::open_sessions::OpenSession;
 use crate::reply_writer::ReplyWriter;
 use crate::served_node::ServedNode;
+use crate::served_sessions::ServedSessions;
 use crate::session_bounds::WRITE_SECONDS;
 use crate::session_desk::SessionDesk;
 use crate::session_facts::{SessionFacts, SharedFacts, ending_of};
@@ -13,7 +15,7 @@ use crate::state::ServiceState;
 use apop::Stamp;
 use ballot::{Memory, NodeId};
 use maildrop::{Op, Outcome};
-use session::{Desk, End, Transcript, serve};
+use session::{Desk, End};
 use std::alloc::Global;
 use std::io::BufWriter;
 use std::net::{SocketAddr, TcpStream};
@@ -26,7 +28,7 @@ const GATHERED: usize = 4_096;
 
 /// Serves POP3 sessions (RFC 1939) at a node.
 #[derive(Drop)]
-pub(crate) struct PopHandler<R, N: ServedNode> {
+pub(crate) struct PopHandler<D: Service, R, N: ServedNode> {
     /// The system: random bytes, waits and the clock.
     pub rt: R,
     /// Where its memory comes from.
@@ -37,6 +39,8 @@ pub(crate) struct PopHandler<R, N: ServedNode> {
     pub own: Option<NodeId>,
     /// What all threads of the service see.
     pub state: Arc<ServiceState>,
+    /// What its sessions are served over, and leave.
+    pub sessions: Arc<ServedSessions<D>>,
 }
 
 /// The node that a session asks: the one of this number if it is up, or else one that leads, or else any that is up.
@@ -58,10 +62,11 @@ pub(crate) fn node_for<N: ServedNode>(nodes: &[N], own: Option<u8>) -> Option<&N
     chosen
 }
 
-impl<R: RandomSource + Wait + Clock + Copy, N: ServedNode + Desk<Op, Outcome> + Drop> PopHandler<
-    R,
-    N,
-> {
+impl<
+    D: Service,
+    R: RandomSource + Wait + Clock + Copy,
+    N: ServedNode + Desk<Op, Outcome> + Drop,
+> PopHandler<D, R, N> {
     /// A desk of the node that a session asks, if a node is up.
     fn node(&self) -> Option<N> {
         let own = match &self.own {
@@ -94,7 +99,7 @@ impl<R: RandomSource + Wait + Clock + Copy, N: ServedNode + Desk<Op, Outcome> + 
         Ok(facts)
     }
 
-    /// Serves a session to its end. Returns what it left, unless there is no memory to begin it.
+    /// Serves a session to its end. Returns how it ended, unless there is no memory to begin it.
     fn converse(
         &self,
         stream: &TcpStream,
@@ -102,24 +107,18 @@ impl<R: RandomSource + Wait + Clock + Copy, N: ServedNode + Desk<Op, Outcome> + 
         desk: &mut SessionDesk<R, N>,
         facts: &Mutex<SessionFacts>,
         gate: &mut LoginGate<'_, R>,
-    ) -> Option<Transcript> {
+    ) -> Option<End> {
         let Ok(writer) = BufWriter::with_capacity(self.alloc, GATHERED, stream) else {
             return None;
         };
         let mut reader = BoundedReader::new(self.rt, stream, facts, self.state.idle_seconds());
         let mut writer = ReplyWriter::new(self.rt, writer, facts, self.state.refusal());
-        let transcript = serve(
-            self.alloc,
-            &mut reader,
-            &mut writer,
-            self.state.accounts(),
-            stamp,
-            desk,
-            gate,
-        );
+        let end = self
+            .sessions
+            .serve(&self.rt, &mut reader, &mut writer, stamp, desk, gate);
         // Nothing is written after a write that failed.
         writer.discard();
-        Some(transcript)
+        end
     }
 
     /// Serves a session at a node to its end.
@@ -142,11 +141,10 @@ impl<R: RandomSource + Wait + Clock + Copy, N: ServedNode + Desk<Op, Outcome> + 
             node: me,
             peer,
         };
-        let transcript = self.converse_at(node, stamp, stream, &facts, &mut gate);
+        let end = self.converse_at(node, stamp, stream, &facts, &mut gate);
         self.state.sessions().remove(&self.rt, number);
-        if let Some(transcript) = transcript {
-            self.report(me, peer, &facts, transcript.end);
-            self.state.keep(&self.rt, transcript);
+        if let Some(end) = end {
+            self.report(me, peer, &facts, end);
         }
     }
 
@@ -158,7 +156,7 @@ impl<R: RandomSource + Wait + Clock + Copy, N: ServedNode + Desk<Op, Outcome> + 
         stream: &TcpStream,
         facts: &SharedFacts,
         gate: &mut LoginGate<'_, R>,
-    ) -> Option<Transcript> {
+    ) -> Option<End> {
         let shared = Arc::try_clone(facts).ok()?;
         let mut desk = SessionDesk {
             rt: self.rt,
@@ -179,9 +177,11 @@ impl<R: RandomSource + Wait + Clock + Copy, N: ServedNode + Desk<Op, Outcome> + 
     }
 }
 
-impl<R: RandomSource + Wait + Clock + Copy, N: ServedNode + Desk<Op, Outcome> + Drop> Handler<
-    TcpStream,
-> for PopHandler<R, N> {
+impl<
+    D: Service,
+    R: RandomSource + Wait + Clock + Copy,
+    N: ServedNode + Desk<Op, Outcome> + Drop,
+> Handler<TcpStream> for PopHandler<D, R, N> {
     fn serve(&mut self, stream: &Arc<TcpStream>, peer: SocketAddr) {
         // What is written goes out at once, and a client that takes nothing isn't waited for without an end.
         let _slower = stream.set_nodelay(true);
@@ -201,12 +201,14 @@ impl<R: RandomSource + Wait + Clock + Copy, N: ServedNode + Desk<Op, Outcome> + 
     fn share(&self) -> Result<Self, Memory> {
         let nodes = Arc::try_clone(&self.nodes)?;
         let state = Arc::try_clone(&self.state)?;
+        let sessions = Arc::try_clone(&self.sessions)?;
         Ok(PopHandler {
             rt: self.rt,
             alloc: self.alloc,
             nodes,
             own: self.own,
             state,
+            sessions,
         })
     }
 

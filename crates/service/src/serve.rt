@@ -1,25 +1,30 @@
 //! `maildropd serve`: nodes, sessions and an operator's port in one process.
 ghost use Rattle.std.specs.Prelude.{◌≡◌, ◌≤◌, ◌++◌, ◌∷◌, [], ◌⊎◌, Ok, Some, IsTrue, IsErrOf, IfOk, IfErr, OnOk, map};
+ghost use Rattle.std.specs.Arc.{arc_value};
 ghost use Rattle.std.specs.Io.KnownBytes.{Appends};
 ghost use Rattle.service.specs.Options as spec;
 ghost use Rattle.service.specs.Faults as faults;
 ghost use Rattle.service.specs.Verdicts as verdicts;
+ghost use Rattle.service.specs.Verdicts.{CanServe, FoundLegal, WasLegal, config_of};
 ghost use Rattle.service.specs.declared.verdict.Verdict.TheVariants.{Legal};
 ghost use Rattle.apop.specs.Accounts as table;
 ghost use Rattle.apop.specs.Accounts.{name_of};
+ghost use Rattle.cluster.specs.Starts.{all_nodes};
 ghost use Rattle.maildrop.specs.Name.{are_different};
 
+use crate::brand::Service;
 use crate::event_log::EventLog;
 use crate::fault::Fault;
 use crate::file::read_file;
 use crate::operator_socket::remove_socket;
 use crate::options::{ServeOptions, Settings, settings_of};
 use crate::say::say;
+use crate::served_sessions::ServedSessions;
 use crate::state::ServiceState;
 use crate::system::System;
 use crate::threads;
 use crate::threads::{Ports, ServiceThreads, join_all};
-use crate::verdict::{Verdict, verdict_of};
+use crate::verdict::Verdict;
 use apop::{Accounts, AccountsError};
 use ballot::{Items, NodeId};
 use cluster::{Cluster, Deployment, Ended, InboxLink, NodeDesk, Setup, StartError};
@@ -29,6 +34,7 @@ use std::fs::File;
 use std::io::{Eprint, Write};
 use std::marker::Brand;
 use std::rt::Files;
+use std::sync::ledger::Blank;
 use std::sync::{Arc, Wait};
 use std::thread::JoinHandle;
 use std::time::Clock;
@@ -73,7 +79,9 @@ fn setup_of(alloc: Global, settings: &Settings, accounts: &Accounts) -> Result<S
     ensures kept { IfOk result (λ setup. setup.kept ≡ []) }
     ensures names { IfOk result (λ setup. setup.names ≡ map name_of accounts.now) }
     ensures different { IfOk result (λ setup. IsTrue (are_different setup.names)) }
+    ensures some { IfOk result (λ setup. 1 ≤ setup.cluster) }
 {
+    prove!(1 <= settings.cluster.get());
     let names = Vec::from_slice(alloc, accounts.names())?;
     let kept = Shared::new(alloc, Kept::new(alloc))?;
     Ok(Setup {
@@ -112,16 +120,20 @@ struct RunEnd {
 }
 
 /// Runs the nodes and their sessions until an operator stops them, or they have been without a majority for too long.
-fn serve_cluster<D: Deployment + Send + Sync + 'static, R: System>(
+fn serve_cluster<D: Service + Send + Sync + 'static, R: System>(
     rt: R,
     alloc: Global,
     setup: &Setup,
     settings: &Settings,
     ports: &Ports,
     state: &Arc<ServiceState>,
+    sessions: &Arc<ServedSessions<D>>,
 ) -> Result<RunEnd, Fault>
     requires deployment { setup.now ≡ D.setup }
-    requires names { IsTrue (are_different setup.now.names) }
+    requires names { setup.now.names ≡ map name_of D.accounts }
+    requires different { IsTrue (are_different setup.now.names) }
+    requires some { 1 ≤ setup.now.cluster }
+    ensures { IfOk result (λ end. end.verdict ≡ Legal → WasLegal (config_of D.accounts D.setup)) }
 {
     let cluster = match Cluster::<D, R, InboxLink<R>>::start(rt, alloc, setup) {
         Ok(cluster) => cluster,
@@ -132,8 +144,8 @@ fn serve_cluster<D: Deployment + Send + Sync + 'static, R: System>(
     if let Some(leader) = NodeId::new(FIRST_LEADER) {
         cluster.campaign(leader);
     }
-    let (threads, started) = threads::start(rt, alloc, &desks, ports, state, settings);
-    let verdict = verdict_at_end(rt, alloc, cluster, threads, ports, state);
+    let (threads, started) = threads::start(rt, alloc, &desks, ports, state, sessions, settings);
+    let verdict = verdict_at_end(rt, alloc, cluster, threads, ports, state, sessions);
     started?;
     let fault = if state.stages().lacks_majority(&rt) {
         Some(Fault::NoMajority)
@@ -145,29 +157,51 @@ fn serve_cluster<D: Deployment + Send + Sync + 'static, R: System>(
 
 /// Waits until the service has ended, and returns the verdict on all that was done. Operators who wait for the verdict are
 /// told it.
-fn verdict_at_end<D: Deployment + Send + Sync + 'static, R: System>(
+fn verdict_at_end<D: Service + Send + Sync + 'static, R: System>(
     rt: R,
     alloc: Global,
     cluster: Cluster<D, R, InboxLink<R>>,
     threads: ServiceThreads,
     ports: &Ports,
     state: &ServiceState,
-) -> Verdict {
+    served: &ServedSessions<D>,
+) -> Verdict
+    requires service { CanServe D.accounts D.setup }
+    requires nodes { cluster ≡ all_nodes D.setup.cluster }
+    ensures { result ≡ Legal → WasLegal (config_of D.accounts D.setup) }
+{
     let ServiceThreads {
         sessions,
         nodes,
         operators,
     } = threads;
     end_sessions(&rt, sessions, nodes, ports, state);
-    let Ended { logs, kept } = cluster.stop();
-    drop(kept);
-    let verdict = match state.take_transcripts(&rt, alloc) {
-        Some(kept) => kept.numbered(verdict_of(alloc, &logs, kept.get())),
-        None => Verdict::Memory,
-    };
+    let verdict = verdict_on(&rt, alloc, cluster, served);
     state.verdicts().announce(&rt, &verdict);
     join_all(&rt, operators);
     verdict
+}
+
+/// Stops the nodes of a service whose sessions have ended, and returns the verdict on all that was done. It is `Memory` if a
+/// node left no log, or the transcript of a session is missing.
+fn verdict_on<D: Service + Send + Sync + 'static, R: System>(
+    rt: &R,
+    alloc: Global,
+    cluster: Cluster<D, R, InboxLink<R>>,
+    served: &ServedSessions<D>,
+) -> Verdict
+    requires service { CanServe D.accounts D.setup }
+    requires nodes { cluster ≡ all_nodes D.setup.cluster }
+    ensures { result ≡ Legal → WasLegal (config_of D.accounts D.setup) }
+{
+    let Some(Ended { logs, kept }) = cluster.stop() else {
+        return Verdict::Memory;
+    };
+    drop(kept);
+    match served.take(rt) {
+        Some(transcripts) => transcripts.verdict(alloc, &logs),
+        None => Verdict::Memory,
+    }
 }
 
 /// Waits until the service stops and its sessions have ended. Then no operator comes any more, and the nodes need no more
@@ -193,10 +227,11 @@ fn state_of<R: System + Files<File = File>>(
     alloc: Global,
     options: &ServeOptions<'_>,
     settings: &Settings,
-    accounts: Accounts,
+    accounts: &Arc<Accounts>,
 ) -> Result<Arc<ServiceState>, Fault> {
     let log = EventLog::open(rt, alloc, options.log)?;
     let host = settings.host.copy()?;
+    let accounts = Arc::try_clone(accounts)?;
     let state = ServiceState::new(rt, alloc, accounts, host, settings.idle_seconds, log)?;
     Ok(Arc::new(alloc, state)?)
 }
@@ -208,18 +243,30 @@ fn note_fault<R: Wait + Clock>(rt: &R, alloc: Global, log: &EventLog, fault: Fau
     }
 }
 
-/// Runs a service with these settings.
-fn run_with<R: System + Files<File = File>>(
+/// Runs a service with these settings and accounts, whose sessions' transcripts are kept by this book.
+fn run_service<D: Service + Send + Sync + 'static, R: System + Files<File = File>>(
     rt: R,
     alloc: Global,
     options: &ServeOptions<'_>,
     settings: &Settings,
-) -> Result<RunEnd, Fault> {
-    let accounts = accounts_of(&rt, alloc, options.accounts)?;
-    let setup = setup_of(alloc, settings, &accounts)?;
-    let state = state_of(&rt, alloc, options, settings, accounts)?;
+    setup: &Setup,
+    accounts: Arc<Accounts>,
+    book: Blank,
+) -> Result<RunEnd, Fault>
+    requires deployment { setup.now ≡ D.setup }
+    requires accounts { arc_value accounts ≡ D.accounts }
+    requires name { book.name ≡ D.name }
+    requires parts { book.parts ≡ D.parts }
+    requires names { setup.now.names ≡ map name_of D.accounts }
+    requires different { IsTrue (are_different setup.now.names) }
+    requires some { 1 ≤ setup.now.cluster }
+    ensures { IfOk result (λ end. end.verdict ≡ Legal → WasLegal (config_of D.accounts D.setup)) }
+{
+    let state = state_of(&rt, alloc, options, settings, &accounts)?;
+    let (book, _) = book.open::<D>();
+    let sessions = Arc::new(alloc, ServedSessions::new(alloc, accounts, book))?;
     let ports = Ports::open(&rt, alloc, settings, options.ctl_socket)?;
-    let end = serve_cluster::<Brand, R>(rt, alloc, &setup, settings, &ports, &state);
+    let end = serve_cluster::<D, R>(rt, alloc, setup, settings, &ports, &state, &sessions);
     if let Some(path) = options.ctl_socket {
         remove_socket(&rt, path);
     }
@@ -229,12 +276,29 @@ fn run_with<R: System + Files<File = File>>(
     end
 }
 
+/// Runs a service with these settings.
+fn run_with<R: System + Files<File = File>>(
+    rt: R,
+    alloc: Global,
+    options: &ServeOptions<'_>,
+    settings: &Settings,
+) -> Result<RunEnd, Fault>
+    ensures { IfOk result (λ end. end.verdict ≡ Legal → FoundLegal settings.now.cluster settings.now.window settings.now.limits) }
+{
+    let accounts = accounts_of(&rt, alloc, options.accounts)?;
+    let setup = setup_of(alloc, settings, &accounts)?;
+    let accounts = Arc::new(alloc, accounts)?;
+    let book = Blank::new(1);
+    run_service::<Brand, R>(rt, alloc, options, settings, &setup, accounts, book)
+}
+
 fn run<R: System + Files<File = File>>(
     rt: R,
     alloc: Global,
     options: &ServeOptions<'_>,
 ) -> Result<RunEnd, Fault>
     ensures values { (¬ spec.AreGood options.now) → IsErrOf result Fault.Value }
+    ensures legal { IfOk result (λ end. end.verdict ≡ Legal → FoundLegal options.now.nodes options.now.window (spec.limits_of options.now)) }
 {
     match settings_of(alloc, options) {
         Ok(settings) => run_with(rt, alloc, options, &settings),
@@ -280,6 +344,9 @@ pub fn serve_run<R: System + Files<File = File> + Eprint, W: Write>(
 
     // The status 0 comes only after the line which reports that an audit found all in order.
     ensures told { result ≡ 0 → Appends (W.contents writer.old) (W.contents writer.new) (verdicts.text_of Legal ++ 10 ∷ []) }
+
+    // It comes only if the logs of all nodes and the transcripts of all sessions have a legal order.
+    ensures legal { result ≡ 0 → FoundLegal options.now.nodes options.now.window (spec.limits_of options.now) }
 {
     let fault = match run(rt, alloc, options) {
         Ok(end) => match report(alloc, writer, &end) {

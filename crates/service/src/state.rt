@@ -7,31 +7,27 @@ use crate::event_log::EventLog;
 use crate::lock_breaker::LockBreaker;
 use crate::open_sessions::OpenSessions;
 use crate::stages::Stages;
-use crate::transcripts::{KeptTranscripts, Transcripts};
 use crate::verdicts::Verdicts;
 use apop::{Accounts, Stamp, stamp};
 use ballot::{Items, Memory};
 use pop3_wire::Reply;
-use session::Transcript;
 use std::alloc::Global;
 use std::random::RandomSource;
-use std::sync::{Mutex, Wait};
+use std::sync::{Arc, Mutex, Wait};
 use std::time::Clock;
 
-/// What all threads of a service share: who may log in, how far the service has come, which sessions are open, and what
-/// those left that have ended.
+/// What all threads of a service share: who may log in, how far the service has come, and which sessions are open.
 #[derive(Drop)]
 pub(crate) struct ServiceState {
-    accounts: Accounts,
+    accounts: Arc<Accounts>,
     host: Items<u8>,
     /// What a login that is refused is told.
     refusal: Items<u8>,
     idle_seconds: u64,
     stages: Stages,
     verdicts: Verdicts,
-    /// How many sessions were greeted.
-    greeted: Mutex<u64>,
-    transcripts: Mutex<Transcripts>,
+    /// The number of the last session.
+    last_number: Mutex<u64>,
     sessions: OpenSessions,
     counters: Counters,
     log: EventLog,
@@ -52,7 +48,7 @@ impl ServiceState {
     pub(crate) fn new<R: Clock>(
         rt: &R,
         alloc: Global,
-        accounts: Accounts,
+        accounts: Arc<Accounts>,
         host: Items<u8>,
         idle_seconds: u64,
         log: EventLog,
@@ -65,8 +61,7 @@ impl ServiceState {
             idle_seconds,
             stages: Stages::new(),
             verdicts: Verdicts::new(),
-            greeted: Mutex::new(0),
-            transcripts: Mutex::new(Transcripts::new(alloc)),
+            last_number: Mutex::new(0),
             sessions: OpenSessions::new(alloc),
             counters: Counters::new(rt),
             log,
@@ -150,23 +145,9 @@ impl ServiceState {
 
     /// The number of a new session.
     fn next_number<R: Wait>(&self, rt: &R) -> u64 {
-        let mut greeted = self.greeted.lock(rt);
-        let number = greeted.wrapping_add(1);
-        *greeted = number;
+        let mut last_number = self.last_number.lock(rt);
+        let number = last_number.wrapping_add(1);
+        *last_number = number;
         number
-    }
-
-    /// Keeps what a session left.
-    pub(crate) fn keep<R: Wait>(&self, rt: &R, transcript: Transcript) {
-        self.transcripts.lock(rt).add(transcript);
-    }
-
-    /// The transcripts of the sessions that have ended, or nothing if there was no memory for one of them.
-    pub(crate) fn take_transcripts<R: Wait>(
-        &self,
-        rt: &R,
-        alloc: Global,
-    ) -> Option<KeptTranscripts> {
-        self.transcripts.lock(rt).take(alloc)
     }
 }

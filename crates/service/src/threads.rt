@@ -2,6 +2,7 @@
 ghost use Rattle.std.specs.Prelude.{◌≡◌, Some, IfErr};
 ghost use Rattle.service.specs.Faults.{IsFaultAt, IsPopFault, IsPortFault};
 
+use crate::brand::Service;
 use crate::fault::Fault;
 use crate::handler::Handler;
 use crate::listener::{Port, listen_at, start_reserve, start_serving, start_taking};
@@ -10,6 +11,7 @@ use crate::operator_stream::{OperatorListener, OperatorStream};
 use crate::options::Settings;
 use crate::pop::PopHandler;
 use crate::served_node::ServedNode;
+use crate::served_sessions::ServedSessions;
 use crate::state::ServiceState;
 use crate::system::System;
 use crate::{majority, ticker};
@@ -145,12 +147,17 @@ pub(crate) struct ServiceThreads {
 
 /// Starts all threads of a service, and then has connections taken. If a thread can't be had, the service is stopped before
 /// it takes any.
-pub(crate) fn start<R: System, N: ServedNode + Desk<Op, Outcome> + Send + Sync + Drop + 'static>(
+pub(crate) fn start<
+    D: Service + Send + Sync + 'static,
+    R: System,
+    N: ServedNode + Desk<Op, Outcome> + Send + Sync + Drop + 'static,
+>(
     rt: R,
     alloc: Global,
     nodes: &Arc<Vec<N>>,
     ports: &Ports,
     state: &Arc<ServiceState>,
+    sessions: &Arc<ServedSessions<D>>,
     settings: &Settings,
 ) -> (ServiceThreads, Result<(), Fault>) {
     let mut threads = ServiceThreads {
@@ -158,7 +165,7 @@ pub(crate) fn start<R: System, N: ServedNode + Desk<Op, Outcome> + Send + Sync +
         nodes: Vec::new(alloc),
         operators: Vec::new(alloc),
     };
-    let started = start_all(rt, alloc, nodes, ports, state, settings, &mut threads);
+    let started = threads.start_all(rt, alloc, nodes, ports, state, sessions, settings);
     if started.is_ok() {
         state.stages().begin(&rt);
     } else {
@@ -167,32 +174,39 @@ pub(crate) fn start<R: System, N: ServedNode + Desk<Op, Outcome> + Send + Sync +
     (threads, started)
 }
 
-fn start_all<R: System, N: ServedNode + Desk<Op, Outcome> + Send + Sync + Drop + 'static>(
-    rt: R,
-    alloc: Global,
-    nodes: &Arc<Vec<N>>,
-    ports: &Ports,
-    state: &Arc<ServiceState>,
-    settings: &Settings,
-    threads: &mut ServiceThreads,
-) -> Result<(), Fault> {
-    start_nodes(rt, alloc, nodes, state, settings, &mut threads.nodes)?;
-    for pop in &ports.pop {
-        start_pop(rt, alloc, nodes, pop, state, &mut threads.sessions)?;
+impl ServiceThreads {
+    fn start_all<
+        D: Service + Send + Sync + 'static,
+        R: System,
+        N: ServedNode + Desk<Op, Outcome> + Send + Sync + Drop + 'static,
+    >(
+        &mut self,
+        rt: R,
+        alloc: Global,
+        nodes: &Arc<Vec<N>>,
+        ports: &Ports,
+        state: &Arc<ServiceState>,
+        sessions: &Arc<ServedSessions<D>>,
+        settings: &Settings,
+    ) -> Result<(), Fault> {
+        start_nodes(rt, alloc, nodes, state, settings, &mut self.nodes)?;
+        for pop in &ports.pop {
+            start_pop(rt, alloc, nodes, pop, state, sessions, &mut self.sessions)?;
+        }
+        start_operators(
+            rt,
+            alloc,
+            nodes,
+            &ports.ctl,
+            state,
+            settings,
+            &mut self.operators,
+        )?;
+        for pop in &ports.pop {
+            start_taking(rt, &pop.port, state, &mut self.sessions)?;
+        }
+        start_taking(rt, &ports.ctl, state, &mut self.operators)
     }
-    start_operators(
-        rt,
-        alloc,
-        nodes,
-        &ports.ctl,
-        state,
-        settings,
-        &mut threads.operators,
-    )?;
-    for pop in &ports.pop {
-        start_taking(rt, &pop.port, state, &mut threads.sessions)?;
-    }
-    start_taking(rt, &ports.ctl, state, &mut threads.operators)
 }
 
 /// Starts what looks after the nodes.
@@ -214,12 +228,17 @@ fn start_nodes<R: System, N: ServedNode + Send + Sync + Drop + 'static>(
 }
 
 /// Starts what serves the sessions of a port.
-fn start_pop<R: System, N: ServedNode + Desk<Op, Outcome> + Send + Sync + Drop + 'static>(
+fn start_pop<
+    D: Service + Send + Sync + 'static,
+    R: System,
+    N: ServedNode + Desk<Op, Outcome> + Send + Sync + Drop + 'static,
+>(
     rt: R,
     alloc: Global,
     nodes: &Arc<Vec<N>>,
     pop: &PopPort,
     state: &Arc<ServiceState>,
+    sessions: &Arc<ServedSessions<D>>,
     threads: &mut Vec<JoinHandle<()>>,
 ) -> Result<(), Fault> {
     let handler = PopHandler {
@@ -228,6 +247,7 @@ fn start_pop<R: System, N: ServedNode + Desk<Op, Outcome> + Send + Sync + Drop +
         nodes: Arc::try_clone(nodes)?,
         own: pop.own,
         state: Arc::try_clone(state)?,
+        sessions: Arc::try_clone(sessions)?,
     };
     start_serving(rt, alloc, &pop.port, handler, threads)
 }

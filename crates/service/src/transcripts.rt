@@ -1,123 +1,181 @@
-//! What the sessions leave that have ended.
-ghost use Rattle.std.specs.Prelude.{◌≡◌, ◌≢◌, ◌++◌, ◌∷◌, [], false, true};
+//! The transcripts of a service's sessions, as they lie under their lock.
+ghost use Rattle.std.specs.Prelude.{◌≡◌, ◌+◌, ◌++◌, ◌∷◌, [], List, map, true, false, length, OnOk};
+ghost use Rattle.std.specs.List.{All};
+ghost use Rattle.std.specs.declared.alloc.Global.{Global};
+ghost use Rattle.session.specs.declared.transcript.Transcript.{Transcript};
+ghost use Rattle.cluster.specs.Members.{IsLogOf};
+ghost use Rattle.cluster.specs.Starts.{all_nodes};
 ghost use Rattle.service.specs.Transcripts as spec;
+ghost use Rattle.service.specs.Transcripts.{AreEnded, IsServed, WereServed};
+ghost use Rattle.service.specs.Verdicts.{CanServe, IsLegal, WasLegal, config_of};
+ghost use Rattle.service.specs.declared.verdict.Verdict.TheVariants.{Legal};
 
-use crate::verdict::Verdict;
+use crate::brand::Service;
+use crate::verdict::{Verdict, verdict_of};
+use node::NodeLog;
 use session::Transcript;
 use std::alloc::Global;
+use std::marker::Model;
+use std::sync::ledger::Book;
 
-/// The transcripts of sessions that asked something, and the number of each among all sessions, counted from 0 in the
-/// order in which they ended.
+/// A session that was greeted and whose transcript is still to come. It can't be let go: `Transcripts::add` takes it.
+pub(crate) struct Greeted {
+    counted: (),
+}
+
+impl Greeted {
+    /// Its transcript comes too late: the service has ended.
+    pub(crate) fn lose(self) {
+        let Greeted { counted: () } = self;
+    }
+}
+
+/// The transcripts of the sessions that have ended, and how many were greeted. A session that asked nothing leaves only its
+/// number, so what a client that isn't logged in sends takes no memory once it has gone.
 #[derive(Drop)]
-pub(crate) struct KeptTranscripts {
-    transcripts: Vec<Transcript>,
+pub(crate) struct Transcripts<D: Service> {
+    /// Those of sessions that asked something, in the order in which these ended.
+    kept: Vec<Transcript>,
+    /// The number of each of these sessions among all, counted from 0 in the order in which they ended.
     numbers: Vec<usize>,
-}
-
-impl KeptTranscripts {
-    /// The transcripts.
-    pub(crate) fn get(&self) -> &[Transcript]
-        ensures { result.now ≡ self.now.transcripts.items }
-    {
-        self.transcripts.as_slice()
-    }
-
-    /// The same verdict, with the number of a session among all sessions in place of the place of its transcript here.
-    pub(crate) fn numbered(&self, verdict: Verdict) -> Verdict
-        ensures { result ≡ spec.numbered self.now.numbers.items verdict }
-    {
-        match verdict {
-            Verdict::WrongAnswer(place) => Verdict::WrongAnswer(self.number_at(place)),
-            Verdict::Legal | Verdict::NoOrder(_) | Verdict::Memory => verdict,
-        }
-    }
-
-    /// The number of the session whose transcript is at this place.
-    fn number_at(&self, place: usize) -> usize
-        ensures { result ≡ spec.number_at self.now.numbers.items place }
-    {
-        match self.numbers.get(place) {
-            Some(number) => *number,
-            None => place,
-        }
-    }
-}
-
-/// The transcripts of the sessions that have ended. One that asked nothing leaves none, so what a client that isn't logged
-/// in sends takes no memory once it has gone.
-#[derive(Drop)]
-pub(crate) struct Transcripts {
-    kept: KeptTranscripts,
+    /// How many sessions were greeted.
+    greeted: usize,
     /// How many sessions have ended.
     ended: usize,
-    /// Whether there was no memory for one.
+    /// Whether there was no room for something.
     is_short: bool,
+    /// A service has one book, so there are no other transcripts of it.
+    book: Book<D>,
 }
 
-impl Transcripts {
-    /// Of no sessions. Takes no memory.
-    pub(crate) fn new(alloc: Global) -> Self
-        ensures transcripts { result.kept.transcripts.items ≡ [] }
-        ensures numbers { result.kept.numbers.items ≡ [] }
-        ensures ended { result.ended ≡ 0 }
-        ensures enough { result.is_short ≡ false }
+impl<D: Service> Model for Transcripts<D> {
+    ghost use Rattle.service.specs.Transcripts.{TranscriptsValue, KeepsServed};
+
+    ghost Value = { TranscriptsValue };
+
+    ghost view = { λ t. record { kept = t.kept.items; numbers = t.numbers.items; greeted = t.greeted; ended = t.ended; is_short = t.is_short } };
+
+    ghost invariant = { λ t. KeepsServed D.accounts
+        (record { kept = t.kept.items; numbers = t.numbers.items; greeted = t.greeted; ended = t.ended; is_short = t.is_short }) };
+}
+
+impl<D: Service> Transcripts<D> {
+    /// Of a service that has greeted nobody. Takes no memory.
+    pub(crate) fn new(alloc: Global, book: Book<D>) -> Self
+        ensures { result ≡ spec.no_transcripts }
     {
         Transcripts {
-            kept: none(alloc),
+            kept: Vec::new(alloc),
+            numbers: Vec::new(alloc),
+            greeted: 0,
             ended: 0,
             is_short: false,
+            book,
         }
     }
 
-    /// A session has ended.
-    pub(crate) fn add(&mut self, transcript: Transcript)
-        ensures ended { self.new.ended ≡ spec.one_more self.old.ended }
-        ensures silent { transcript.asked ≡ [] → (self.new.kept ≡ self.old.kept) × (self.new.is_short ≡ self.old.is_short) }
-        ensures transcripts { transcript.asked ≢ [] → self.new.is_short ≡ false →
-            self.new.kept.transcripts.items ≡ self.old.kept.transcripts.items ++ transcript ∷ [] }
-        ensures numbers { transcript.asked ≢ [] → self.new.is_short ≡ false →
-            self.new.kept.numbers.items ≡ self.old.kept.numbers.items ++ self.old.ended ∷ [] }
-        ensures short { self.new.is_short ≡ false → self.old.is_short ≡ false }
+    /// A session is greeted.
+    pub(crate) fn greet(&mut self) -> Greeted
+        ensures greeted { self.new.is_short ≡ false → self.new.greeted ≡ self.old.greeted + 1 }
+        ensures ended { (all : List (Transcript Global)) → AreEnded self.old all → AreEnded self.new all }
     {
-        let number = self.ended;
-        self.ended = number.saturating_add(1);
-        if transcript.asked.is_empty() {
-            return;
-        }
-        self.is_short = self.is_short | !self.kept.add(number, transcript);
+        let is_counted = count_one(&mut self.greeted);
+        self.is_short = self.is_short | !is_counted;
+        Greeted { counted: () }
     }
 
-    /// The transcripts, or nothing if there was no memory for one. From then on there are none.
-    pub(crate) fn take(&mut self, alloc: Global) -> Option<KeptTranscripts> {
-        if self.is_short {
-            return None;
+    /// A session that was greeted has ended, and left this transcript.
+    pub(crate) fn add(&mut self, greeted: Greeted, transcript: Transcript)
+        requires { IsServed D.accounts transcript }
+        ensures ended { (all : List (Transcript Global)) → AreEnded self.old all → AreEnded self.new (all ++ transcript ∷ []) }
+        ensures greeted { self.new.greeted ≡ self.old.greeted }
+    {
+        let Greeted { counted: () } = greeted;
+        let is_added = add_to(
+            &mut self.kept,
+            &mut self.numbers,
+            &mut self.ended,
+            transcript,
+        );
+        self.is_short = self.is_short | !is_added;
+    }
+
+    /// What an audit says of all that the service's nodes and sessions did, by the logs of all nodes. `Memory` if the transcript
+    /// of a session that was greeted is missing.
+    pub(crate) fn verdict(&self, alloc: Global, logs: &[NodeLog]) -> Verdict
+        requires service { CanServe D.accounts D.setup }
+        requires nodes { map (λ log. log.opening.me) logs.now ≡ all_nodes D.setup.cluster }
+        requires began { All (λ log. IsLogOf D.setup log.opening.me log) logs.now }
+        ensures counted { result ≡ Legal → self.now.ended ≡ self.now.greeted }
+        ensures legal { result ≡ Legal → (all : List (Transcript Global)) → AreEnded self.now all → WereServed D.accounts all
+            → IsLegal (config_of D.accounts D.setup) logs.now all }
+        ensures found { result ≡ Legal → WasLegal (config_of D.accounts D.setup) }
+    {
+        if self.is_short || self.ended != self.greeted {
+            return Verdict::Memory;
         }
-        Some(std::mem::replace(&mut self.kept, none(alloc)))
+        let verdict = verdict_of(alloc, logs, self.kept.as_slice());
+        numbered(&self.numbers, verdict)
     }
 }
 
-impl KeptTranscripts {
-    /// Adds the transcript of a session. Returns whether there was memory for it.
-    fn add(&mut self, number: usize, transcript: Transcript) -> bool
-        ensures transcripts { result ≡ true → self.new.transcripts.items ≡ self.old.transcripts.items ++ transcript ∷ [] }
-        ensures numbers { result ≡ true → self.new.numbers.items ≡ self.old.numbers.items ++ number ∷ [] }
-    {
-        if self.transcripts.reserve(1).is_err() || self.numbers.reserve(1).is_err() {
-            return false;
-        }
-        self.transcripts.push_reserved(transcript);
-        self.numbers.push_reserved(number);
-        true
-    }
-}
-
-/// No transcripts. Takes no memory.
-fn none(alloc: Global) -> KeptTranscripts
-    ensures transcripts { result.transcripts.items ≡ [] }
-    ensures numbers { result.numbers.items ≡ [] }
+/// Counts one more. Returns false if no number is left.
+fn count_one(count: &mut usize) -> bool
+    ensures { result ≡ true → count.new ≡ count.old + 1 }
 {
-    KeptTranscripts {
-        transcripts: Vec::new(alloc),
-        numbers: Vec::new(alloc),
+    match count.checked_add(1) {
+        Some(more) => {
+            *count = more;
+            true
+        }
+        None => false,
+    }
+}
+
+/// Adds what a session left to the transcripts, and its number to the numbers, or only counts it if it asked nothing. Returns
+/// whether there was room for it.
+fn add_to(
+    kept: &mut Vec<Transcript>,
+    numbers: &mut Vec<usize>,
+    ended: &mut usize,
+    transcript: Transcript,
+) -> bool
+    ensures silent { result ≡ true → spec.has_asked transcript ≡ false → (kept.new.items ≡ kept.old.items) × (numbers.new.items ≡ numbers.old.items) }
+    ensures kept { result ≡ true → spec.has_asked transcript ≡ true → kept.new.items ≡ kept.old.items ++ transcript ∷ [] }
+    ensures numbers { result ≡ true → spec.has_asked transcript ≡ true → numbers.new.items ≡ numbers.old.items ++ ended.old ∷ [] }
+    ensures ended { result ≡ true → ended.new ≡ ended.old + 1 }
+{
+    let number = *ended;
+    if !count_one(ended) {
+        return false;
+    }
+    if transcript.asked.is_empty() {
+        return true;
+    }
+    if kept.reserve(1).is_err() || numbers.reserve(1).is_err() {
+        return false;
+    }
+    kept.push_reserved(transcript);
+    numbers.push_reserved(number);
+    true
+}
+
+/// The same verdict, with the number of a session among all sessions in place of the place of its transcript.
+fn numbered(numbers: &[usize], verdict: Verdict) -> Verdict
+    ensures { result ≡ spec.numbered numbers.now verdict }
+{
+    match verdict {
+        Verdict::WrongAnswer(place) => Verdict::WrongAnswer(number_at(numbers, place)),
+        Verdict::Legal | Verdict::NoOrder(_) | Verdict::Memory => verdict,
+    }
+}
+
+/// The number of the session whose transcript is at this place.
+fn number_at(numbers: &[usize], place: usize) -> usize
+    ensures { result ≡ spec.number_at numbers.now place }
+{
+    match numbers.get(place) {
+        Some(number) => *number,
+        None => place,
     }
 }
