@@ -78,7 +78,7 @@ pub record CanServe (accounts : List Account) (setup : Setup) : Type 0 where
   pub names : setup.names ≡ map name_of accounts
   pub fit : is_fit (opening_of setup 1) ≡ true
 
--- logs of all nodes of a service and transcripts of all its sessions have a legal order
+-- there are logs of all nodes of such a service, and transcripts of sessions, that have a legal order
 abbrev pub WasLegal : Config Global → Type 0
 WasLegal config = (logs : List (NodeLog Global)) × (transcripts : List (Transcript Global)) × IsLegal config logs transcripts
 
@@ -89,9 +89,9 @@ pub record IsConfigFor (nodes slots : ℕ) (limits : Limits) (config : Config Gl
   pub maildrops : config.limits ≡ limits
   pub empty : config.kept ≡ []
 
--- The audit of such a service found a legal order of all that its nodes and its sessions did. There are such logs and
--- transcripts; no clause can name those that threads left, as what lies under a lock is known by its type only. Which were
--- audited the code shows: `verdict_at_end` has the logs from `Cluster::stop` and the transcripts from their lock, and
--- `Transcripts::verdict` judges just these.
+-- There are logs of all nodes of such a service, and transcripts of sessions, that have a legal order. That is true of an idle
+-- service, so this says little by itself: what lies under a lock is known by its type only, and no clause here names what
+-- threads left. Which are judged the code shows: `verdict_on` has the logs from `Cluster::stop` and the transcripts from their
+-- lock, and `Transcripts::verdict` says of just these that they have a legal order.
 abbrev pub FoundLegal : ℕ → ℕ → Limits → Type 0
 FoundLegal nodes slots limits = (config : Config Global) × IsConfigFor nodes slots limits config × WasLegal config

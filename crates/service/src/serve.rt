@@ -345,7 +345,8 @@ pub fn serve_run<R: System + Files<File = File> + Eprint, W: Write>(
     // The status 0 comes only after the line which reports that an audit found all in order.
     ensures told { result ≡ 0 → Appends (W.contents writer.old) (W.contents writer.new) (verdicts.text_of Legal ++ 10 ∷ []) }
 
-    // It comes only if the logs of all nodes and the transcripts of all sessions have a legal order.
+    // There are logs of all nodes, and transcripts of sessions, that have a legal order. Those that were audited have one, by
+    // `Transcripts::verdict`.
     ensures legal { result ≡ 0 → FoundLegal options.now.nodes options.now.window (spec.limits_of options.now) }
 {
     let fault = match run(rt, alloc, options) {

@@ -18,7 +18,8 @@ use std::alloc::Global;
 use std::marker::Model;
 use std::sync::ledger::Book;
 
-/// A session that was greeted and whose transcript is still to come. It can't be let go: `Transcripts::add` takes it.
+/// A session that was greeted and whose transcript is still to come. It can't be
+/// dropped: `Transcripts::add` takes it, or `lose` once the service has ended.
 pub(crate) struct Greeted {
     counted: (),
 }
