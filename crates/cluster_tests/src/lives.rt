@@ -180,10 +180,11 @@ pub fn lives<
     let pages = new_pages(alloc, plan.talks)?;
     let cluster = Nodes::<D, R>::start(rt, alloc, setup)?;
     let outcome = play_watched(rt, alloc, &cluster, plan, &pages);
-    let ended = cluster.stop().ok_or("a node is missing")?;
+    let ended = cluster.stop();
+    let transcripts = outcome?;
     Ok(Remains {
-        logs: ended.logs,
-        transcripts: outcome?,
+        logs: ended.ok_or("a node is missing")?.logs,
+        transcripts,
         pages,
     })
 }
