@@ -1,4 +1,5 @@
 //! What the sessions of a service are served over, and what they leave.
+ghost use Rattle.std.specs.Prelude.{◌≡◌};
 ghost use Rattle.std.specs.Arc.{arc_value};
 ghost use Rattle.service.specs.Transcripts.{IsServed};
 
