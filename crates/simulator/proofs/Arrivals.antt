@@ -1,6 +1,6 @@
 -- What was sent stays, and arrives more and more often.
-use Rattle.std.proofs.Common.{◌≡◌, ℕ, zero, suc, ◌+◌, ◌-◌, ◌≤◌, List, [], ◌∷◌, ◌++◌, Bool, true, false, Option, Some, None, refl, sym, ap, ◌∙◌, subst, ⊎_elim, arith, cond, set, length}
-use Rattle.std.specs.Prelude.{slice_get, Result, Ok, Err, OnOk, OnErr}
+use Rattle.std.proofs.Common.{◌≡◌, ℕ, zero, suc, ◌+◌, ◌-◌, ◌≤◌, List, [], ◌∷◌, ◌++◌, Bool, true, false, Option, Some, None, refl, sym, ap, ◌∙◌, subst, inl, inr, arith, cond, set, length}
+use Rattle.std.specs.Prelude.{◌⊎◌, slice_get, Result, Ok, Err, OnOk, OnErr}
 use Rattle.node.specs.Nodes.{logged}
 use Rattle.node.specs.Replay.{sends_of}
 use Rattle.node.specs.declared.input.Input.{Input}
@@ -13,7 +13,7 @@ use Rattle.runs.specs.Refusals.{step_refusal}
 use Rattle.runs.specs.Worlds.{World, stepped}
 use Rattle.runs.specs.declared.refused.Refused.{Refused}
 use Rattle.runs.specs.Services as service
-use Rattle.runs.specs.Services.{Service, Happening, Occurs, Lost}
+use Rattle.runs.specs.Services.{Service, Happening, Occurs, Lost, happens}
 use Rattle.runs.specs.declared.config.Config.{Config}
 use Rattle.runs.specs.declared.event.Event.{Event}
 use Rattle.runs.specs.declared.event.Event.TheVariants as event
@@ -120,26 +120,35 @@ module _ {A : Type 0} where
   follows_grow : (cfg : Config A) (w later : Service A) (h : Happening A) → later ≡ service.happens cfg w h → Grows w.network.sent later.network.sent
   follows_grow cfg w later h is = subst (λ (v : Service A). Grows w.network.sent v.network.sent) (sym is) (happening_grows cfg w h)
 
-  its_grow : (cfg : Config A) (w later : Service A) (c : Option (Client A)) → IsItsCrashed cfg c w later → Grows w.network.sent later.network.sent
-  its_grow cfg w later None is = absurd is
-  its_grow cfg w later (Some c) is = follows_grow cfg w later (Occurs (event.Crash c.node)) is
+  -- a service stays where it was, or goes where one happening leads
+  abbrev pub Moves : Config A → Service A → Service A → Type 0
+  Moves cfg w later = (later ≡ w) ⊎ ((h : Happening A) × (later ≡ happens cfg w h))
 
-  addressee_grow : (cfg : Config A) (w later : Service A) (s : Option (Sent A)) → IsAddresseeCrashed cfg s w later → Grows w.network.sent later.network.sent
-  addressee_grow cfg w later None is = absurd is
-  addressee_grow cfg w later (Some s) is = follows_grow cfg w later (Occurs (event.Crash s.envelope.to)) is
+  its_moves : (cfg : Config A) (w later : Service A) (c : Option (Client A)) → IsItsCrashed cfg c w later → Moves cfg w later
+  its_moves cfg w later None is = absurd is
+  its_moves cfg w later (Some c) is = inr (Occurs (event.Crash c.node), is)
 
-  pub interrupted_grow : (cfg : Config A) (e : Event A) (w later : Service A) → IsInterrupted cfg e w later → Grows w.network.sent later.network.sent
-  interrupted_grow cfg (event.Connect session node stamp) w later is = subst (λ (v : Service A). Grows w.network.sent v.network.sent) (sym is) (unmoved w.network.sent)
-  interrupted_grow cfg (event.Line session line) w later is =
-      ⊎_elim (λ lost. follows_grow cfg w later (Lost session) lost) (λ crashed. its_grow cfg w later (client_of session w.clients) crashed) is
-  interrupted_grow cfg (event.Hangup session) w later is = its_grow cfg w later (client_of session w.clients) is
-  interrupted_grow cfg (event.Collect session) w later is = follows_grow cfg w later (Lost session) is
-  interrupted_grow cfg (event.Mail node user text key) w later is = follows_grow cfg w later (Occurs (event.Crash node)) is
-  interrupted_grow cfg (event.Break node user) w later is = follows_grow cfg w later (Occurs (event.Crash node)) is
-  interrupted_grow cfg (event.Arrive which) w later is = addressee_grow cfg w later (slice_get w.network.sent which) is
-  interrupted_grow cfg (event.Tick node) w later is = follows_grow cfg w later (Occurs (event.Crash node)) is
-  interrupted_grow cfg (event.Campaign node) w later is = follows_grow cfg w later (Occurs (event.Crash node)) is
-  interrupted_grow cfg (event.Crash node) w later is = follows_grow cfg w later (Occurs (event.Crash node)) is
+  addressee_moves : (cfg : Config A) (w later : Service A) (s : Option (Sent A)) → IsAddresseeCrashed cfg s w later → Moves cfg w later
+  addressee_moves cfg w later None is = absurd is
+  addressee_moves cfg w later (Some s) is = inr (Occurs (event.Crash s.envelope.to), is)
+
+  -- where an event found no memory
+  pub interrupted_moves : (cfg : Config A) (e : Event A) (w later : Service A) → IsInterrupted cfg e w later → Moves cfg w later
+  interrupted_moves cfg (event.Connect session node stamp) w later is = inl is
+  interrupted_moves cfg (event.Line session line) w later (inl lost) = inr (Lost session, lost)
+  interrupted_moves cfg (event.Line session line) w later (inr crashed) = its_moves cfg w later (client_of session w.clients) crashed
+  interrupted_moves cfg (event.Hangup session) w later is = its_moves cfg w later (client_of session w.clients) is
+  interrupted_moves cfg (event.Collect session) w later is = inr (Lost session, is)
+  interrupted_moves cfg (event.Mail node user text key) w later is = inr (Occurs (event.Crash node), is)
+  interrupted_moves cfg (event.Break node user) w later is = inr (Occurs (event.Crash node), is)
+  interrupted_moves cfg (event.Arrive which) w later is = addressee_moves cfg w later (slice_get w.network.sent which) is
+  interrupted_moves cfg (event.Tick node) w later is = inr (Occurs (event.Crash node), is)
+  interrupted_moves cfg (event.Campaign node) w later is = inr (Occurs (event.Crash node), is)
+  interrupted_moves cfg (event.Crash node) w later is = inr (Occurs (event.Crash node), is)
+
+  moved_grow : (cfg : Config A) (w later : Service A) → Moves cfg w later → Grows w.network.sent later.network.sent
+  moved_grow cfg w later (inl same) = subst (λ (v : Service A). Grows w.network.sent v.network.sent) (sym same) (unmoved w.network.sent)
+  moved_grow cfg w later (inr one) = follows_grow cfg w later one.0 one.1
 
   -- whatever an event came to, messages stay
   pub step_grows : (w later : World A) (e : Event A) (result : Result (Unit {0}) Refused) → ((reason : Refused) → step_refusal w.config w.service e ≡ Some reason → later ≡ w)
@@ -155,4 +164,4 @@ module _ {A : Type 0} where
           → (step_refusal w.config w.service e ≡ None → OnErr r (IsInterrupted w.config e w.service later.service)) → moves later
       go (Some reason) is r a b = subst moves (sym (unchanged reason is)) (unmoved w.service.network.sent)
       go None is (Ok done) a b = subst moves (sym a) (occurs_grow w.config w.service e)
-      go None is (Err error) a b = interrupted_grow w.config e w.service later.service (b is)
+      go None is (Err error) a b = moved_grow w.config w.service later.service (interrupted_moves w.config e w.service later.service (b is))

@@ -1,8 +1,11 @@
 pub mod FirstLine
 pub mod Parts
+pub mod Telling
+pub mod Flushing
 pub mod Playing
 pub mod Ending
-pub mod Telling
 pub mod Places
 pub mod Arrivals
 pub mod Marks
+pub mod Following
+pub mod Stepping

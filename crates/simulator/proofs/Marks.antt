@@ -68,6 +68,9 @@ module _ {A : Type 0} where
         subst (λ (y : Sent A). is_next route y ≡ false) same (still_not route here.0 x.now x.same x.often (h.each k here.0 low here.1));
   }
 
+  pub no_marks : (sent : List (Sent A)) → AreMarks sent []
+  no_marks sent = record { each = λ k mark at. absurd (cc at) }
+
   pub later_marks : (old new : List (Sent A)) (marks : List Mark) → Grows old new → AreMarks old marks → AreMarks new marks
   later_marks old new marks g h = record { each = λ k mark at. later_arrived mark.route mark.place old new g (h.each k mark at) }
 

@@ -1,40 +1,31 @@
--- How lines that are played leave the first fault where it is.
-use Rattle.std.proofs.Common.{◌≡◌, ◌<◌, ◌⊎◌, inl, inr, ℕ, ◌+◌, Bool, true, false, nat_lt, Option, None, Some, List, [], ◌∷◌, length, Ok, Err, sym, ap, subst, ◌∙◌, arith}
+-- How lines that are played leave the first fault where it is, and what is written as it was to be.
+use Rattle.std.proofs.Common.{◌≡◌, ◌<◌, ◌⊎◌, inl, inr, ℕ, ◌+◌, Bool, true, false, nat_lt, Option, None, Some, List, [], ◌∷◌, ◌++◌, length, Ok, Err, sym, ap, subst, ◌∙◌, arith}
 use Rattle.std.specs.Io.BufRead.{take_through, drop_through}
 use Rattle.std.specs.Str.Lines.{lines}
 use Rattle.std.proofs.lemmas.Bool.{ltb-true, ltb-false}
-use Rattle.std.proofs.lemmas.List.{nil_from_length}
-use Rattle.script.specs.Scripts.{Script, read_line}
+use Rattle.std.proofs.lemmas.List.{append-nil, nil_from_length}
+use Rattle.script.specs.Scripts.{read_line}
 use Rattle.script.specs.declared.command.Command.{Command}
 use Rattle.script.specs.declared.fault.ScriptFault.{ScriptFault}
 use Rattle.script.specs.declared.fault.ScriptFault.TheVariants.{Memory, NoStatement, LateSetting, NameTwice}
-use Rattle.simulator.specs.Reading.{IsRead, IsPlayed, IsPlayedLine, IsStopAt}
+use Rattle.simulator.specs.Reading.{IsFlushed, IsRead, IsPlayed, IsPlayedLine, IsStopAt, left_of}
+use Rattle.simulator.specs.Runs.{Run, line_told, lines_told, told_by}
 use Rattle.simulator.specs.Statuses.{fault_at, fault_from, fault_by}
+use Rattle.simulator.specs.Told.{IsWritten, Told}
 use Rattle.simulator.specs.declared.fault.Fault.{Fault}
+use Rattle.simulator.specs.declared.fault.Fault.TheVariants as fault
 use Rattle.simulator.specs.declared.fault.Fault.TheVariants.{Line}
 use Rattle.simulator.proofs.FirstLine.{one_line, nothing_left}
+use Rattle.simulator.proofs.Flushing.{flushed_as, flushed_on}
+use Rattle.simulator.proofs.Telling.{further}
 
--- the first fault of bytes is looked for in their first line
-at_first : (line bytes content more : List ℕ) (number : ℕ) (script : Script) → line ≡ take_through 10 bytes → 0 < length line → lines line ≡ content ∷ lines more → fault_from (lines bytes) number script ≡ fault_by (fault_from (lines (drop_through 10 bytes)) (number + 1)) number (read_line script content)
-at_first line bytes content more number script is some found =
+-- the lines of bytes are their first one and those of the rest
+at_first : (line bytes content more : List ℕ) → line ≡ take_through 10 bytes → 0 < length line → lines line ≡ content ∷ lines more → lines bytes ≡ content ∷ lines (drop_through 10 bytes)
+at_first line bytes content more is some found =
     let one = one_line bytes (subst (λ l. 0 < length l) is some) in
     let both : content ∷ lines more ≡ one.line ∷ [] = sym found ∙ ap lines is ∙ one.taken in
     let same : content ≡ one.line = cc both in
-    ap (λ ls. fault_from ls number script) one.all ∙ ap (λ l. fault_by (fault_from (lines (drop_through 10 bytes)) (number + 1)) number (read_line script l)) (sym same)
-
-pub plays_line : (line content more : List ℕ) (number : ℕ) (script later : Script) (command : Option Command) → lines line ≡ content ∷ lines more → read_line script content ≡ Ok (command, later) → IsPlayedLine line number script later
-plays_line line content more number script later command found read = record {
-  same = λ bytes is some. at_first line bytes content more number script is some found ∙ ap (fault_by (fault_from (lines (drop_through 10 bytes)) (number + 1)) number) read;
-}
-
--- there is no line without bytes alone
-pub plays_nothing : (line : List ℕ) (number : ℕ) (script : Script) → lines line ≡ [] → IsPlayedLine line number script script
-plays_nothing line number script none = record {
-  same = λ bytes is some.
-      let one = one_line bytes (subst (λ l. 0 < length l) is some) in
-      let both : [] ≡ one.line ∷ [] = sym none ∙ ap lines is ∙ one.taken in
-      absurd (cc both);
-}
+    one.all ∙ ap (λ l. l ∷ lines (drop_through 10 bytes)) (sym same)
 
 by_fault : (number told : ℕ) (fault : ScriptFault) → fault_at number fault ≡ Line told → Some number ≡ Some told
 by_fault number told Memory is = absurd (cc is)
@@ -42,16 +33,10 @@ by_fault number told NoStatement is = cc is
 by_fault number told LateSetting is = cc is
 by_fault number told NameTwice is = cc is
 
--- a line that was refused is at fault
-pub stops_at : (line content more : List ℕ) (number : ℕ) (script : Script) (error : ScriptFault) → lines line ≡ content ∷ lines more → (error ≡ Memory) ⊎ (read_line script content ≡ Err error) → IsStopAt line number script (fault_at number error)
-stops_at line content more number script error found (inl memory) = record {
-  here = λ bytes told is some line_told.
-      let other : fault_at number Memory ≡ Line told = sym (ap (fault_at number) memory) ∙ line_told in
-      absurd (cc other);
-}
-stops_at line content more number script error found (inr refused) = record {
-  here = λ bytes told is some line_told. at_first line bytes content more number script is some found ∙ ap (fault_by (fault_from (lines (drop_through 10 bytes)) (number + 1)) number) refused ∙ by_fault number told error line_told;
-}
+-- a fault of memory or of reading is at no line
+pub no_line : {P : Type 0} (error : Fault) (number : ℕ) → (error ≡ fault.Memory) ⊎ (error ≡ fault.Read) → error ≡ Line number → P
+no_line error number (inl memory) line = absurd (cc (sym memory ∙ line))
+no_line error number (inr read) line = absurd (cc (sym read ∙ line))
 
 -- a line was read
 pub there_is : (line : List ℕ) (there : Bool) → there ≡ nat_lt 0 (length line) → there ≡ true → 0 < length line
@@ -60,21 +45,85 @@ there_is line there tested is = ltb-true 0 (length line) (sym tested ∙ is)
 pub empty : (line : List ℕ) → nat_lt 0 (length line) ≡ false → line ≡ []
 empty line none = nil_from_length line (omega (arith, ltb-false 0 (length line) none))
 
-module _ {bytes : List ℕ} {script later : Script} {now : Option (List ℕ)} {number : ℕ} (played : IsPlayed bytes 1 script now number later) where
-  -- behind the last line there is no fault
-  pub ends : (line : List ℕ) (new : Option (List ℕ)) (there : Bool) → IsRead played.rest line new there → there ≡ false → fault_from (lines bytes) 1 script ≡ None
-  ends line new there read is =
-      let none : line ≡ [] = empty line (sym read.more ∙ is) in
-      played.same ∙ ap (λ bs. fault_from (lines bs) number later) (nothing_left played.rest (sym read.first ∙ none))
-
-  -- one line more is played
-  pub goes_on : (line : List ℕ) (new : Option (List ℕ)) (there : Bool) (last : Script) → IsRead played.rest line new there → there ≡ true → IsPlayedLine line number later last → IsPlayed bytes 1 script new (number + 1) last
-  goes_on line new there last read is one = record {
-    rest = drop_through 10 played.rest;
-    known = read.rest;
-    same = played.same ∙ one.same played.rest read.first (there_is line there read.more is);
+module _ {A : Type 0} where
+  pub plays_line : (line content more : List ℕ) (number : ℕ) (run later : Run A) (before after : List ℕ) (command : Option Command) → lines line ≡ content ∷ lines more → read_line run.script content ≡ Ok (command, later.script)
+      → IsWritten (line_told run.play (command, later.script)) later before after → IsPlayedLine line number run before later after
+  plays_line line content more number run later before after command found read written = record {
+    same = λ bytes is some.
+        ap (λ ls. fault_from ls number run.script) (at_first line bytes content more is some found) ∙ ap (fault_by (fault_from (lines (drop_through 10 bytes)) (number + 1)) number) read;
+    told = λ bytes is some.
+        ap (λ ls. before ++ (lines_told ls run).text) (at_first line bytes content more is some found)
+        ∙ ap (λ r. before ++ (told_by (lines_told (lines (drop_through 10 bytes))) run r).text) read
+        ∙ ap (λ (t : Told (Run A)). t.text) (sym (further (line_told run.play (command, later.script)) (lines_told (lines (drop_through 10 bytes))) later before after written));
   }
 
-  -- the first fault is in this line
-  pub stopped : (line : List ℕ) (new : Option (List ℕ)) (there : Bool) (error : Fault) (told : ℕ) → IsRead played.rest line new there → there ≡ true → IsStopAt line number later error → error ≡ Line told → fault_from (lines bytes) 1 script ≡ Some told
-  stopped line new there error told read is stop line_told = played.same ∙ stop.here played.rest told read.first (there_is line there read.more is) line_told
+  -- there is no line without bytes alone
+  pub plays_nothing : (line : List ℕ) (number : ℕ) (run : Run A) (report : List ℕ) → lines line ≡ [] → IsPlayedLine line number run report run report
+  plays_nothing line number run report none = record {
+    same = λ bytes is some. absurd (never bytes is some);
+    told = λ bytes is some. absurd (never bytes is some);
+  } where
+    never : (bytes : List ℕ) → line ≡ take_through 10 bytes → 0 < length line → ⊥
+    never bytes is some =
+        let one = one_line bytes (subst (λ l. 0 < length l) is some) in
+        let both : [] ≡ one.line ∷ [] = sym none ∙ ap lines is ∙ one.taken in
+        absurd (cc both)
+
+  -- a line that was refused is at fault
+  pub stops_at : (line content more : List ℕ) (number : ℕ) (run : Run A) (before after : List ℕ) (error : ScriptFault) → lines line ≡ content ∷ lines more
+      → (error ≡ Memory) ⊎ ((read_line run.script content ≡ Err error) × (after ≡ before)) → IsStopAt line number run before after (fault_at number error)
+  stops_at line content more number run before after error found (inl memory) = record {
+    here = λ bytes told is some line_told. absurd (cc (sym (ap (fault_at number) memory) ∙ line_told));
+    told = λ bytes told is some line_told. absurd (cc (sym (ap (fault_at number) memory) ∙ line_told));
+  }
+  stops_at line content more number run before after error found (inr refused) = record {
+    here = λ bytes told is some line_told.
+        ap (λ ls. fault_from ls number run.script) (at_first line bytes content more is some found)
+        ∙ ap (fault_by (fault_from (lines (drop_through 10 bytes)) (number + 1)) number) refused.0 ∙ by_fault number told error line_told;
+    told = λ bytes told is some line_told.
+        ap (λ ls. before ++ (lines_told ls run).text) (at_first line bytes content more is some found)
+        ∙ ap (λ r. before ++ (told_by (lines_told (lines (drop_through 10 bytes))) run r).text) refused.0 ∙ append-nil before ∙ sym refused.1;
+  }
+
+  -- some of what is reported was written
+  pub flushes : {bytes : List ℕ} {number later : ℕ} {run run_now : Run A} {contents contents_now contents_then : Option (List ℕ)} {report report_now report_then : List ℕ} {now : Option (List ℕ)}
+      → IsPlayed bytes number run contents report now later run_now contents_now report_now → IsFlushed contents_now contents_then report_now report_then
+      → IsPlayed bytes number run contents report now later run_now contents_then report_then
+  flushes {run_now = run_now} {contents = contents} {contents_now = contents_now} {contents_then = contents_then} {report_now = report_now} {report_then = report_then} played flushed = record {
+    rest = played.rest;
+    known = played.known;
+    same = played.same;
+    told = flushed_on contents contents_now contents_then _ report_now report_then (left_of played.rest run_now) played.told flushed;
+  }
+
+  module _ {bytes : List ℕ} {run later : Run A} {contents contents_now : Option (List ℕ)} {report report_now : List ℕ} {now : Option (List ℕ)} {number : ℕ} (played : IsPlayed bytes 1 run contents report now number later contents_now report_now) where
+    -- behind the last line there is no fault, and all is reported
+    pub ends : (line : List ℕ) (new : Option (List ℕ)) (there : Bool) → IsRead played.rest line new there → there ≡ false
+        → (fault_from (lines bytes) 1 run.script ≡ None) × IsFlushed contents contents_now (report ++ left_of bytes run) report_now
+    ends line new there read is =
+        let none : line ≡ [] = empty line (sym read.more ∙ is) in
+        let left : played.rest ≡ [] = nothing_left played.rest (sym read.first ∙ none) in (
+          played.same ∙ ap (λ bs. fault_from (lines bs) number later.script) left,
+          flushed_as contents contents_now (report ++ left_of bytes run) (report_now ++ left_of played.rest later) report_now played.told
+              (ap (λ bs. report_now ++ left_of bs later) left ∙ append-nil report_now),
+        )
+
+    -- one line more is played
+    pub goes_on : (line : List ℕ) (new : Option (List ℕ)) (there : Bool) (last : Run A) (report_last : List ℕ) → IsRead played.rest line new there → there ≡ true → IsPlayedLine line number later report_now last report_last
+        → IsPlayed bytes 1 run contents report new (number + 1) last contents_now report_last
+    goes_on line new there last report_last read is one = record {
+      rest = drop_through 10 played.rest;
+      known = read.rest;
+      same = played.same ∙ one.same played.rest read.first (there_is line there read.more is);
+      told = flushed_as contents contents_now (report ++ left_of bytes run) (report_now ++ left_of played.rest later) (report_last ++ left_of (drop_through 10 played.rest) last) played.told
+          (one.told played.rest read.first (there_is line there read.more is));
+    }
+
+    -- the first fault is in this line, and all before it is reported
+    pub stopped : (line : List ℕ) (new : Option (List ℕ)) (there : Bool) (error : Fault) (report_last : List ℕ) (told : ℕ) → IsRead played.rest line new there → there ≡ true → IsStopAt line number later report_now report_last error → error ≡ Line told
+        → (fault_from (lines bytes) 1 run.script ≡ Some told) × IsFlushed contents contents_now (report ++ left_of bytes run) report_last
+    stopped line new there error report_last told read is stop line_told = (
+      played.same ∙ stop.here played.rest told read.first (there_is line there read.more is) line_told,
+      flushed_as contents contents_now (report ++ left_of bytes run) (report_now ++ left_of played.rest later) report_last played.told
+          (stop.told played.rest told read.first (there_is line there read.more is) line_told),
+    )

@@ -1,32 +1,43 @@
 -- How what is told of parts is told of the whole.
-use Rattle.std.proofs.Common.{◌≡◌, ℕ, suc, ◌+◌, ◌-◌, ◌<◌, ◌≤◌, Bool, true, false, inl, inr, List, ◌++◌, length, position, Option, Some, None, refl, sym, ap, subst, ◌∙◌, append_assoc, arith}
+use Rattle.std.proofs.Common.{◌≡◌, ℕ, suc, ◌+◌, ◌-◌, ◌<◌, ◌≤◌, true, false, List, ◌++◌, length, position, Option, Some, None, refl, sym, ap, subst, ◌∙◌, append_assoc, arith, cond}
 use Rattle.std.specs.Option.{option_or, option_map}
-use Rattle.std.proofs.lemmas.List.{drop_all}
+use Rattle.std.proofs.lemmas.List.{append-nil, drop_all}
 use Rattle.maildrop.specs.declared.command.Command as maildrop
-use Rattle.script.specs.Output.{refusal_line}
 use Rattle.script.specs.declared.command.Command.{Command}
 use Rattle.script.specs.declared.command.Command.TheVariants as command
-use Rattle.script.specs.declared.refusal.Refusal.TheVariants.{Down}
-use Rattle.simulator.specs.Plays.{Play, Told, IsWritten, Tells, AreOutcomesTold, IsOrderTold, IsDone, IsDoneToTheEnd, Performs, SettlesBy, Settles, followed, text_before, given, collected, collected_by, all_collected}
-use Rattle.simulator.specs.Reports.{order_lines}
-use Rattle.runs.specs.Messages.{log_of, is_up}
+use Rattle.simulator.specs.Plays.{Play, collected, collected_by, done_to_the_end, given, happened, outcomes, performed, performed_at, settled, settled_by}
+use Rattle.simulator.specs.Told.{IsWritten, Told, followed, silent}
 use Rattle.runs.specs.Services.{Service}
 use Rattle.runs.specs.Worlds.{next_answer, next_oldest, may_arrive, performed_by}
 use Rattle.runs.specs.declared.event.Event.{Event}
 use Rattle.runs.specs.declared.event.Event.TheVariants as event
+use Rattle.world.specs.Values.{WorldValue, is_known_at}
 
-not_true : (t : Bool) → (t ≡ true → ⊥) → t ≡ false
-not_true true never = absurd (never refl)
-not_true false never = refl
+module _ {S : Type 0} where
+  -- what was written before it, and what is told
+  abbrev pub text_before : List ℕ → Told S → Told S
+  text_before text t = record { state = t.state; text = text ++ t.text }
+
+  -- one more, and then the rest
+  pub further : (t : Told S) (next : S → Told S) (now : S) (before after : List ℕ) → IsWritten t now before after → text_before after (next now) ≡ text_before before (followed t next)
+  further t next now before after written =
+      ap (λ s. text_before after (next s)) written.0 ∙ ap (λ text. text_before text (next t.state)) written.1
+      ∙ ap (λ text. record { state = (next t.state).state; text = text }) (append_assoc before t.text (next t.state).text)
+
+  -- what is written last is the rest of the whole
+  pub ended : (t all : Told S) (now : S) (first before after : List ℕ) → IsWritten t now before after → text_before before t ≡ text_before first all → IsWritten all now first after
+  ended t all now first before after written same =
+      (written.0 ∙ ap (λ (u : Told S). u.state) same, written.1 ∙ ap (λ (u : Told S). u.text) same)
+
+  -- the rest is nothing
+  pub ended_so : (all : Told S) (now : S) (first after : List ℕ) → text_before after (silent now) ≡ text_before first all → IsWritten all now first after
+  ended_so all now first after same = ended (silent now) all now first after after (refl, sym (append-nil after)) same
+
+  -- one after the other
+  pub both_written : (t : Told S) (next : S → Told S) (between now : S) (first second third : List ℕ) → IsWritten t between first second → IsWritten (next between) now second third → IsWritten (followed t next) now first third
+  both_written t next between now first second third one two = ended (next between) (followed t next) now first second third two (further t next between first second one)
 
 module _ {A : Type 0} where
-  -- one more, and then the rest
-  pub further : (t : Told A) (next : Play A → Told A) (now : Play A) (before after : List ℕ) → IsWritten t now before after
-      → text_before after (next now) ≡ text_before before (followed t next)
-  further t next now before after written =
-      ap (λ p. text_before after (next p)) written.0 ∙ ap (λ text. text_before text (next t.play)) written.1
-      ∙ ap (λ text. record { play = (next t.play).play; text = text }) (append_assoc before t.text (next t.play).text)
-
   -- no message stands behind the last one
   pub answers_alone : (w : Service A) (behind : ℕ) → behind ≡ length w.network.sent → next_oldest w behind ≡ next_answer w
   answers_alone w behind is =
@@ -52,93 +63,85 @@ module _ {A : Type 0} where
       ∙ ap (λ m. text_before before (collected m p)) count
       ∙ so
 
-  -- Of a settling this is left: with what it brings, what is written is what the whole brings.
-  pub record IsSettledTo (next : Play A → Option (Event A)) (limit left : ℕ) (start now : Play A) (before after : List ℕ) : Type 0 where
-    pub text : List ℕ
-    pub written : after ≡ before ++ text
-    pub all : (more : Told A) → Settles next left now more → Settles next limit start (text_before text more)
+  -- no session is left whose answer is there
+  pub collects_none : (n k : ℕ) (start p : Play A) (first before : List ℕ)
+      → k < n
+      → text_before before (collected (n - k) p) ≡ text_before first (collected n start)
+      → next_answer p.world.service ≡ None
+      → IsWritten (collected n start) p first before
+  collects_none n k start p first before more so none =
+      let count : n - k ≡ suc (n - (k + 1)) = omega (arith, more) in
+      ended_so (collected n start) p first before
+      (ap (λ o. text_before before (collected_by (collected (n - (k + 1))) p o)) (sym none) ∙ ap (λ m. text_before before (collected m p)) (sym count) ∙ so)
 
-  pub settles_more : (next : Play A → Option (Event A)) (limit left : ℕ) (start p told now : Play A) (event : Event A) (first before between after : List ℕ)
-      → IsSettledTo next limit (suc left) start p first before
-      → Tells (AreOutcomesTold p) told before between
+  -- one event more happens
+  pub settles_more : (next : Play A → Option (Event A)) (n k : ℕ) (start p told now : Play A) (event : Event A) (first before between after : List ℕ)
+      → k < n
+      → text_before before (settled next (n - k) p) ≡ text_before first (settled next n start)
+      → IsWritten (outcomes p) told before between
       → next told ≡ Some event
       → IsWritten (given told event) now between after
-      → IsSettledTo next limit left start now first after
-  settles_more next limit left start p told now event first before between after so outcomes comes written =
-      let t = outcomes.0 in
-      let at : told ≡ t.play = outcomes.2.0 in
-      let here : next t.play ≡ Some event = subst (λ q. next q ≡ Some event) at comes in
-      let given_there : IsWritten (given t.play event) now between after = subst (λ q. IsWritten (given q event) now between after) at written in
-      let u = followed t (λ q. given q event) in
-      record {
-        text = so.text ++ u.text;
-        written = given_there.1 ∙ ap (λ x. x ++ (given t.play event).text) (outcomes.2.1 ∙ ap (λ x. x ++ t.text) so.written)
-            ∙ append_assoc (first ++ so.text) t.text (given t.play event).text ∙ append_assoc first so.text u.text;
-        all = λ more settles.
-            let rest : Settles next left u.play more = subst (λ q. Settles next left q more) given_there.0 settles in
-            subst (λ x. Settles next limit start (record { play = more.play; text = x })) (sym (append_assoc so.text u.text more.text))
-            (so.all (text_before u.text more) (t, outcomes.1, subst (λ o. SettlesBy (Settles next left) t o (text_before u.text more)) (sym here) (more, rest, refl)));
-      }
-
-  all_text : (text : List ℕ) (t : Told A) (first before after : List ℕ) → before ≡ first ++ text → after ≡ before ++ t.text → after ≡ first ++ (text ++ t.text)
-  all_text text t first before after one two = two ∙ ap (λ x. x ++ t.text) one ∙ append_assoc first text t.text
+      → text_before after (settled next (n - (k + 1)) now) ≡ text_before first (settled next n start)
+  settles_more next n k start p told now event first before between after more so written comes happened =
+      let count : suc (n - (k + 1)) ≡ n - k = omega (arith, more) in
+      let rest : Play A → Told (Play A) = settled next (n - (k + 1)) in
+      let here : next (outcomes p).state ≡ Some event = subst (λ q. next q ≡ Some event) written.0 comes in
+      further (given told event) rest now between after happened
+      ∙ further (outcomes p) (λ q. followed (given q event) rest) told before between written
+      ∙ ap (λ o. text_before before (settled_by rest (outcomes p) o)) (sym here)
+      ∙ ap (λ m. text_before before (settled next m p)) count
+      ∙ so
 
   -- nothing comes next
-  pub settles_none : (next : Play A → Option (Event A)) (limit left : ℕ) (start p told : Play A) (first before after : List ℕ)
-      → IsSettledTo next limit (suc left) start p first before
-      → Tells (AreOutcomesTold p) told before after
+  pub settles_none : (next : Play A → Option (Event A)) (n k : ℕ) (start p told : Play A) (first before after : List ℕ)
+      → k < n
+      → text_before before (settled next (n - k) p) ≡ text_before first (settled next n start)
+      → IsWritten (outcomes p) told before after
       → next told ≡ None
-      → Tells (Settles next limit start) told first after
-  settles_none next limit left start p told first before after so outcomes none =
-      let t = outcomes.0 in
-      let here : next t.play ≡ None = subst (λ q. next q ≡ None) outcomes.2.0 none in
-      (text_before so.text t, so.all t (t, outcomes.1, subst (λ o. SettlesBy (Settles next left) t o t) (sym here) refl), (outcomes.2.0, all_text so.text t first before after so.written outcomes.2.1))
+      → IsWritten (settled next n start) told first after
+  settles_none next n k start p told first before after more so written none =
+      let count : n - k ≡ suc (n - (k + 1)) = omega (arith, more) in
+      let rest : Play A → Told (Play A) = settled next (n - (k + 1)) in
+      let here : next (outcomes p).state ≡ None = subst (λ q. next q ≡ None) written.0 none in
+      ended (outcomes p) (settled next n start) told first before after written
+      (ap (λ o. text_before before (settled_by rest (outcomes p) o)) (sym here) ∙ ap (λ m. text_before before (settled next m p)) (sym count) ∙ so)
 
-  -- a command is done, then outcomes are told, and then answers are taken
-  pub done_to_the_end : (IsDone : Told A → Type 0) (IsAll : Told A → Type 0) (done outcomes now : Play A) (first second third fourth : List ℕ)
-      → Tells IsDone done first second
-      → Tells (AreOutcomesTold done) outcomes second third
-      → IsWritten (all_collected outcomes) now third fourth
-      → ((t : Told A) → IsDone t → (u : Told A) → AreOutcomesTold t.play u → IsAll (text_before t.text (followed u all_collected)))
-      → Tells IsAll now first fourth
-  done_to_the_end IsDone IsAll done outcomes now first second third fourth one two three all =
-      let t = one.0 in
-      let u = two.0 in
-      let there : AreOutcomesTold t.play u = subst (λ q. AreOutcomesTold q u) one.2.0 two.1 in
-      let last : IsWritten (all_collected u.play) now third fourth = subst (λ q. IsWritten (all_collected q) now third fourth) two.2.0 three in
-      let v = all_collected u.play in (
-        text_before t.text (followed u all_collected),
-        all t one.1 u there,
-        (
-          last.0,
-          last.1 ∙ ap (λ x. x ++ v.text) (two.2.1 ∙ ap (λ x. x ++ u.text) one.2.1)
-              ∙ append_assoc (first ++ t.text) u.text v.text ∙ append_assoc first t.text (u.text ++ v.text),
-        ),
-      )
+  -- as many events have happened as may
+  pub settles_all : (next : Play A → Option (Event A)) (n k : ℕ) (start p told : Play A) (first before after : List ℕ)
+      → n ≤ k
+      → text_before before (settled next (n - k) p) ≡ text_before first (settled next n start)
+      → IsWritten (outcomes p) told before after
+      → IsWritten (settled next n start) told first after
+  settles_all next n k start p told first before after most so written =
+      let none : n - k ≡ 0 = omega (arith, most) in
+      ended (outcomes p) (settled next n start) told first before after written (ap (λ m. text_before before (settled next m p)) (sym none) ∙ so)
 
-  -- what a node has performed is told
-  pub order_written : (node : ℕ) (p : Play A) (performed : List (ℕ × maildrop.Command A)) (before after : List ℕ)
-      → performed_by p.world.service node ≡ Some performed → after ≡ before ++ order_lines node performed → Tells (IsOrderTold node p) p before after
-  order_written node p performed before after there written = (record { play = p; text = order_lines node performed }, inl (performed, there, refl), (refl, written))
+  -- what a node has performed, by what a world says
+  same_performed : (node : ℕ) (v : WorldValue A) (p : Play A) → v.world ≡ p.world → v.crashed ≡ p.crashed → performed_at node p ≡ cond (is_known_at v node) (performed_by v.world.service node) None
+  same_performed node v p world crashed =
+      ap (λ w. cond (is_known_at (record { world = w; crashed = p.crashed }) node) (performed_by w.service node) None) (sym world)
+      ∙ ap (λ c. cond (is_known_at (record { world = v.world; crashed = c }) node) (performed_by v.world.service node) None) (sym crashed)
 
-  -- the node is down
-  pub order_refused : (node : ℕ) (p : Play A) (before after : List ℕ)
-      → (is_up (log_of node p.world.service.network.logs) ≡ true → ⊥) → after ≡ before ++ refusal_line Down → Tells (IsOrderTold node p) p before after
-  order_refused node p before after down written = (record { play = p; text = refusal_line Down }, inr (not_true _ down, refl), (refl, written))
+  pub order_known : (node : ℕ) (v : WorldValue A) (p : Play A) (performed : List (ℕ × maildrop.Command A)) → v.world ≡ p.world → v.crashed ≡ p.crashed → performed_by v.world.service node ≡ Some performed
+      → true ≡ is_known_at v node → performed_at node p ≡ Some performed
+  order_known node v p performed world crashed there known =
+      same_performed node v p world crashed ∙ ap (λ t. cond t (performed_by v.world.service node) None) (sym known) ∙ there
+
+  pub order_unknown : (node : ℕ) (v : WorldValue A) (p : Play A) → v.world ≡ p.world → v.crashed ≡ p.crashed → false ≡ is_known_at v node → performed_at node p ≡ None
+  order_unknown node v p world crashed unknown = same_performed node v p world crashed ∙ ap (λ t. cond t (performed_by v.world.service node) None) (sym unknown)
 
   -- a command that is neither of these
-  pub performs_other : (host : List ℕ) (it : Command) (p : Play A) (told : Told A) → ((limit : ℕ) → it ≡ command.Settle limit → ⊥) → ((copies limit : ℕ) → it ≡ command.Storm copies limit → ⊥)
-      → IsDoneToTheEnd host it p told → Performs host it p told
-  performs_other host (command.Mail node user key written) p told settle storm done = done
-  performs_other host (command.Break node user) p told settle storm done = done
-  performs_other host (command.Connect session node nonce) p told settle storm done = done
-  performs_other host (command.Line session line) p told settle storm done = done
-  performs_other host (command.Hangup session) p told settle storm done = done
-  performs_other host (command.Tick node) p told settle storm done = done
-  performs_other host (command.Campaign node) p told settle storm done = done
-  performs_other host (command.Crash node) p told settle storm done = done
-  performs_other host (command.Deliver from to kind) p told settle storm done = done
-  performs_other host (command.Settle limit) p told settle storm done = absurd (settle limit refl)
-  performs_other host (command.Storm copies limit) p told settle storm done = absurd (storm copies limit refl)
-  performs_other host command.Lose p told settle storm done = done
-  performs_other host (command.Order node) p told settle storm done = done
+  pub performs_other : (host : List ℕ) (it : Command) (p : Play A) → ((limit : ℕ) → it ≡ command.Settle limit → ⊥) → ((copies limit : ℕ) → it ≡ command.Storm copies limit → ⊥) → done_to_the_end host it p ≡ performed host it p
+  performs_other host (command.Mail node user key written) p settle storm = refl
+  performs_other host (command.Break node user) p settle storm = refl
+  performs_other host (command.Connect session node nonce) p settle storm = refl
+  performs_other host (command.Line session line) p settle storm = refl
+  performs_other host (command.Hangup session) p settle storm = refl
+  performs_other host (command.Tick node) p settle storm = refl
+  performs_other host (command.Campaign node) p settle storm = refl
+  performs_other host (command.Crash node) p settle storm = refl
+  performs_other host (command.Deliver from to kind) p settle storm = refl
+  performs_other host (command.Settle limit) p settle storm = absurd (settle limit refl)
+  performs_other host (command.Storm copies limit) p settle storm = absurd (storm copies limit refl)
+  performs_other host command.Lose p settle storm = refl
+  performs_other host (command.Order node) p settle storm = refl

@@ -1,4 +1,4 @@
--- The commands of a script that are events of the service.
+-- The commands of a script that are events of the service, and the events that are Mails or Breaks.
 use Rattle.std.specs.Prelude.{ℕ, List, Option, Some, None}
 use Rattle.script.specs.Written.{lines_of}
 use Rattle.script.specs.declared.command.Command.{Command}
@@ -18,3 +18,9 @@ module _ {A : Type 0} where
   event_of host (command.Campaign node) = Some (event.Campaign node)
   event_of host (command.Crash node) = Some (event.Crash node)
   event_of host command = None
+
+  -- the node and the user of a Mail or a Break
+  abbrev pub operation_in : Event A → Option (ℕ × List ℕ)
+  operation_in (event.Mail node user text key) = Some (node, user)
+  operation_in (event.Break node user) = Some (node, user)
+  operation_in event = None

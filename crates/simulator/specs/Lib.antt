@@ -1,9 +1,12 @@
+pub mod Told
 pub mod Statuses
-pub mod Reading
 pub mod Reports
 pub mod Undelivered
 pub mod Events
 pub mod Refusals
-pub mod Subjects
+pub mod Outcomes
 pub mod Plays
+pub mod Runs
+pub mod Reading
+pub mod Following
 pub mod Examples

@@ -1,8 +1,9 @@
--- Lines that are read from a reader whose bytes are known. Only private contracts cite this.
+-- Lines that are read from a reader whose bytes are known, and what is written of them. Only private contracts cite this.
 use Rattle.std.specs.Prelude.{◌≡◌, ℕ, ◌+◌, ◌<◌, List, ◌++◌, length, nat_lt, Bool, if◌then◌else◌, Option, Some}
 use Rattle.std.specs.Io.BufRead.{take_through, drop_through}
 use Rattle.std.specs.Str.Lines.{lines}
-use Rattle.script.specs.Scripts.{Script}
+use Rattle.std.specs.Io.KnownBytes.{Appends}
+use Rattle.simulator.specs.Runs.{Run, lines_told}
 use Rattle.simulator.specs.Statuses.{fault_from}
 use Rattle.simulator.specs.declared.fault.Fault.{Fault}
 use Rattle.simulator.specs.declared.fault.Fault.TheVariants.{Line}
@@ -33,16 +34,31 @@ pub record IsBegun (bytes line : List ℕ) (now : Option (List ℕ)) : Type 0 wh
   pub taken : take_through 10 bytes ≡ line ++ take_through 10 rest
   pub dropped : drop_through 10 bytes ≡ drop_through 10 rest
 
--- as far as the first fault goes, these bytes, from a line and a script on, are the same as those
-pub record IsPlayed (bytes : List ℕ) (number : ℕ) (script : Script) (now : Option (List ℕ)) (later : ℕ) (script_now : Script) : Type 0 where
-  pub rest : List ℕ
-  pub known : now ≡ Some rest
-  pub same : fault_from (lines bytes) number script ≡ fault_from (lines rest) later script_now
+-- so many bytes were written of a report, and the others are left
+pub record IsFlushed (contents contents_now : Option (List ℕ)) (report report_now : List ℕ) : Type 0 where
+  pub written : List ℕ
+  pub appended : Appends contents contents_now written
+  pub all : written ++ report_now ≡ report
 
--- where this is the first line of bytes, it has no fault
-pub record IsPlayedLine (line : List ℕ) (number : ℕ) (script later : Script) : Type 0 where
-  pub same : (bytes : List ℕ) → line ≡ take_through 10 bytes → 0 < length line → fault_from (lines bytes) number script ≡ fault_from (lines (drop_through 10 bytes)) (number + 1) later
+module _ {A : Type 0} where
+  -- what a run still writes of these lines
+  abbrev pub left_of : List ℕ → Run A → List ℕ
+  left_of bytes run = (lines_told (lines bytes) run).text
 
--- where this is the first line of bytes, the fault is in it
-pub record IsStopAt (line : List ℕ) (number : ℕ) (script : Script) (fault : Fault) : Type 0 where
-  pub here : (bytes : List ℕ) (told : ℕ) → line ≡ take_through 10 bytes → 0 < length line → fault ≡ Line told → fault_from (lines bytes) number script ≡ Some told
+  -- As far as the first fault goes, these bytes, from a line and a run on, are the same as those. What is written and reported,
+  -- and what the rest brings, is what the whole brings.
+  pub record IsPlayed (bytes : List ℕ) (number : ℕ) (run : Run A) (contents : Option (List ℕ)) (report : List ℕ) (now : Option (List ℕ)) (later : ℕ) (run_now : Run A) (contents_now : Option (List ℕ)) (report_now : List ℕ) : Type 0 where
+    pub rest : List ℕ
+    pub known : now ≡ Some rest
+    pub same : fault_from (lines bytes) number run.script ≡ fault_from (lines rest) later run_now.script
+    pub told : IsFlushed contents contents_now (report ++ left_of bytes run) (report_now ++ left_of rest run_now)
+
+  -- where this is the first line of bytes, it has no fault, and what comes of it is reported
+  pub record IsPlayedLine (line : List ℕ) (number : ℕ) (run : Run A) (report : List ℕ) (later : Run A) (report_now : List ℕ) : Type 0 where
+    pub same : (bytes : List ℕ) → line ≡ take_through 10 bytes → 0 < length line → fault_from (lines bytes) number run.script ≡ fault_from (lines (drop_through 10 bytes)) (number + 1) later.script
+    pub told : (bytes : List ℕ) → line ≡ take_through 10 bytes → 0 < length line → report ++ left_of bytes run ≡ report_now ++ left_of (drop_through 10 bytes) later
+
+  -- where this is the first line of bytes, the fault is in it, and nothing comes of it
+  pub record IsStopAt (line : List ℕ) (number : ℕ) (run : Run A) (report report_now : List ℕ) (fault : Fault) : Type 0 where
+    pub here : (bytes : List ℕ) (told : ℕ) → line ≡ take_through 10 bytes → 0 < length line → fault ≡ Line told → fault_from (lines bytes) number run.script ≡ Some told
+    pub told : (bytes : List ℕ) (told : ℕ) → line ≡ take_through 10 bytes → 0 < length line → fault ≡ Line told → report ++ left_of bytes run ≡ report_now

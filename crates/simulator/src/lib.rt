@@ -13,7 +13,6 @@ mod run;
 mod service;
 mod sessions;
 mod sim;
-mod subject;
 mod undelivered;
 
 pub use sim::sim_run;

@@ -1,90 +1,129 @@
 //! The Mails and Breaks of a script, until their outcomes are written.
+ghost use Rattle.std.specs.Prelude.{◌≡◌, ◌≤◌, ◌<◌, ℕ, List, [], ◌∷◌, ◌++◌, length, replicate, slice_get, Some, IfNone, IfOk, IfSome, OnOk, vec_len, vec_capacity};
+ghost use Rattle.std.specs.declared.alloc.Global.{Global};
+ghost use Rattle.maildrop.specs.CommandId.{CommandId};
+ghost use Rattle.simulator.specs.Following.{IsCurrent, IsFollowed, IsHeard};
+ghost use Rattle.simulator.specs.Outcomes.{outcome_told, outcomes_told};
+ghost use Rattle.simulator.specs.Told.{IsWritten};
+ghost use Rattle.world.specs.Waiting.{MayHave, NoneMay, WatchesBut, IsWatched, only_at};
 
+use crate::report::Report;
 use ballot::{LAST_NODE, Memory, NodeId};
-use maildrop::{CommandId, Name};
+use maildrop::CommandId;
 use std::alloc::Global;
-use std::collections::BTreeMap;
-use world::World;
+use world::{Waiting, World};
 
-/// The Mails and Breaks whose outcomes aren't written yet. An outcome is there once the node has performed the command,
-/// so only what nodes have newly performed is looked at.
+/// The Mails and Breaks that a service was given, in order, with an index of those whose outcomes may be there. An outcome is
+/// there once its node has performed the command, so only what nodes have newly performed is looked at.
 #[derive(Drop)]
 pub(crate) struct Operations {
-    /// Which Mail or Break of the script each is.
-    awaited: BTreeMap<CommandId, u64>,
-    /// How many Mails and Breaks there were.
-    count: u64,
-    /// How many performed commands of each node were looked at, from node 1 on.
-    seen: [usize; LAST_NODE as usize],
+    /// The commands that the Mails and Breaks have become.
+    pub ids: Vec<CommandId>,
+    /// Each awaits its outcome at its place among them.
+    pub waiting: Waiting,
 }
 
 impl Operations {
-    /// None. Takes no memory.
-    pub(crate) fn new(alloc: Global) -> Self {
-        Operations {
-            awaited: BTreeMap::new(alloc),
-            count: 0,
-            seen: [0; LAST_NODE as usize],
-        }
+    /// None, of a service of so many nodes.
+    pub(crate) fn new(alloc: Global, nodes: usize) -> Result<Self, Memory>
+        ensures ids { IfOk result (λ operations. operations.ids.items ≡ []) }
+        ensures heard { IfOk result (λ operations. operations.waiting.heard ≡ replicate nodes 0) }
+    {
+        Ok(Operations {
+            ids: Vec::new(alloc),
+            waiting: Waiting::new(alloc, nodes)?,
+        })
     }
 
-    /// A Mail or a Break for the user was submitted to the node just now.
-    pub(crate) fn add(&mut self, world: &World, node: NodeId, user: Name) -> Result<(), Memory> {
-        let Some(ticket) = world.last_ticket(node, user) else {
-            return Ok(());
-        };
-        self.count = self.count.saturating_add(1);
-        let _ = self
-            .awaited
-            .insert(CommandId::new(user, ticket), self.count)?;
-        Ok(())
+    /// One more, which its node hasn't performed yet. There is room for it.
+    pub(crate) fn add(&mut self, id: CommandId)
+        requires { vec_len self.old.ids < vec_capacity self.old.ids }
+        ensures ids { self.new.ids.items ≡ self.old.ids.items ++ id ∷ [] }
+        ensures own { IsWatched self.new.waiting (length self.old.ids.items) id }
+        ensures others { WatchesBut (only_at (length self.old.ids.items)) self.old.waiting self.new.waiting }
+    {
+        self.waiting.watch(self.ids.len(), id);
+        self.ids.push_reserved(id);
     }
+}
 
-    /// Moves those that the node has newly performed to `performed`.
-    fn take_performed(
-        &mut self,
-        world: &World,
-        node: NodeId,
-        performed: &mut Vec<(u64, CommandId)>,
-    ) -> Result<(), Memory> {
-        let commands = world.performed(node).unwrap_or(&[]);
-        let Some(seen) = self.seen.get_mut(usize::from(node.get()) - 1) else {
-            return Ok(());
-        };
-        for (_, command) in commands.get(*seen..).unwrap_or(&[]) {
-            let command = command.get();
-            let id = command.id();
-            if command.ticket.get().0 != node {
-                continue;
-            }
-            if let Some(number) = self.awaited.remove(&id) {
-                performed.push((number, id))?;
-            }
-        }
-        *seen = commands.len();
-        Ok(())
+/// Looks at what the node of this number has performed since that was looked at last.
+fn hear_one(world: &World, waiting: &mut Waiting, number: u8)
+    ensures followed { (ids : List CommandId) → IsFollowed world.now.world ids waiting.old → IsFollowed world.now.world ids waiting.new }
+    ensures own { (ids : List CommandId) → IsFollowed world.now.world ids waiting.old → 1 ≤ number → number ≤ 9 → IsHeard world.now.world ids waiting.new number }
+    ensures others { (place : ℕ) → MayHave waiting.old place → MayHave waiting.new place }
+{
+    let Some(node) = NodeId::new(number) else {
+        return;
+    };
+    if let Some(performed) = world.performed(node) {
+        waiting.hear(usize::from(number) - 1, performed);
     }
+}
 
-    /// Those whose outcomes are there since this was asked last, in the order in which the script submitted them.
-    pub(crate) fn take_due(
-        &mut self,
-        alloc: Global,
-        world: &World,
-    ) -> Result<Vec<CommandId>, Memory> {
-        let mut due = Vec::new(alloc);
-        if self.awaited.is_empty() {
-            return Ok(due);
-        }
-        let mut performed = Vec::new(alloc);
-        for number in 1..=LAST_NODE {
-            if let Some(node) = NodeId::new(number) {
-                self.take_performed(world, node, &mut performed)?;
-            }
-        }
-        performed.sort_by_key(|(number, _)| *number)?;
-        for (_, id) in &performed {
-            due.push(*id)?;
-        }
-        Ok(due)
+/// Looks at what nodes have performed since that was looked at last.
+fn hear(world: &World, waiting: &mut Waiting)
+    ensures followed { (ids : List CommandId) → IsFollowed world.now.world ids waiting.old → IsFollowed world.now.world ids waiting.new }
+    ensures current { (ids : List CommandId) → IsFollowed world.now.world ids waiting.old → IsCurrent world.now.world ids waiting.new }
+{
+    for number in 1..=LAST_NODE {
+        hear_one(world, waiting, number);
     }
+}
+
+/// The first place of one of these operations, from a place on, whose outcome may be there.
+fn next(ids: &[CommandId], waiting: &Waiting, from: usize) -> Option<usize>
+    ensures some { IfSome result (λ place. (from ≤ place) × (place < length ids.now) × NoneMay waiting.now from place) }
+    ensures none { IfNone result (NoneMay waiting.now from (length ids.now)) }
+{
+    let place = waiting.next(from)?;
+    if place < ids.len() { Some(place) } else { None }
+}
+
+/// Writes the outcome of the operation at this place, if it is there.
+fn write_outcome(
+    world: &mut World,
+    waiting: &mut Waiting,
+    place: usize,
+    id: CommandId,
+    report: &mut Report,
+) -> Result<(), Memory>
+    ensures written { OnOk result (IsWritten (outcome_told id world.old.world) world.new.world report.old report.new) }
+    ensures service { world.new.world.service ≡ world.old.world.service }
+    ensures crashed { world.new.crashed ≡ world.old.crashed }
+    ensures followed { (ids : List CommandId) → slice_get ids place ≡ Some id → IsFollowed world.old.world ids waiting.old → IsFollowed world.new.world ids waiting.new }
+    ensures current { (ids : List CommandId) → slice_get ids place ≡ Some id → IsFollowed world.old.world ids waiting.old → IsCurrent world.old.world ids waiting.old
+        → IsCurrent world.new.world ids waiting.new }
+{
+    let (user, ticket) = id.get();
+    let (node, _) = ticket.get();
+    match world.take_outcome(node, user, ticket) {
+        Some(outcome) => {
+            waiting.remove(place);
+            report.outcome(&user, ticket, &outcome)
+        }
+        None => Ok(()),
+    }
+}
+
+/// Writes the outcomes that are there and weren't written, in the order in which the service was given the Mails and Breaks.
+pub(crate) fn write_outcomes(
+    world: &mut World,
+    operations: &mut Operations,
+    report: &mut Report,
+) -> Result<(), Memory>
+    requires { IsFollowed world.old.world operations.old.ids.items operations.old.waiting }
+    ensures written { OnOk result (IsWritten (outcomes_told operations.old.ids.items world.old.world) world.new.world report.old report.new) }
+    ensures service { world.new.world.service ≡ world.old.world.service }
+    ensures crashed { world.new.crashed ≡ world.old.crashed }
+    ensures followed { IsFollowed world.new.world operations.new.ids.items operations.new.waiting }
+{
+    hear(world, &mut operations.waiting);
+    let mut place = 0;
+    while let Some(at) = next(operations.ids.as_slice(), &operations.waiting, place) {
+        let id = operations.ids[at];
+        write_outcome(world, &mut operations.waiting, at, id, report)?;
+        place = at + 1;
+    }
+    Ok(())
 }

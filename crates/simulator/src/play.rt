@@ -1,19 +1,18 @@
 //! A service that a script drives.
 ghost use Rattle.std.specs.Prelude.{◌≡◌, OnOk, IfOk};
 ghost use Rattle.simulator.specs.Plays as spec;
+ghost use Rattle.simulator.specs.Told.{IsWritten};
 ghost use Rattle.runs.specs.Clients.{client_of};
 
 use crate::events::event_of;
-use crate::operations::Operations;
 use crate::refusal::refusal_of;
 use crate::report::Report;
 use crate::service::Service;
 use crate::sessions::Sessions;
-use crate::subject::{Subject, subject_of};
 use crate::undelivered::Route;
 use apop::Accounts;
 use ballot::{Memory, NodeId};
-use maildrop::{CommandId, Kept, Shared};
+use maildrop::{Kept, Shared};
 use script::{Command, Refusal, Settings};
 use std::alloc::Global;
 use std::marker::Model;
@@ -23,7 +22,6 @@ use world::{Config, Event, SessionId};
 #[derive(Drop)]
 pub(crate) struct Play {
     service: Service,
-    operations: Operations,
     sessions: Sessions,
     /// `settle` and `storm` look at messages from this place on.
     first: usize,
@@ -35,7 +33,7 @@ impl Model for Play {
 
     ghost Value = { Play Global };
 
-    ghost view = { λ p. record { world = p.service; shown = p.sessions; first = p.first } };
+    ghost view = { λ p. record { world = p.service.world; crashed = p.service.crashed; shown = p.sessions; first = p.first } };
 }
 
 impl Play {
@@ -56,7 +54,6 @@ impl Play {
         };
         Ok(Play {
             service: Service::new(alloc, config)?,
-            operations: Operations::new(alloc),
             sessions: Sessions::new(alloc),
             first: 0,
         })
@@ -64,7 +61,7 @@ impl Play {
 
     /// Writes what a session was told and is not written yet.
     fn tell_replies(&mut self, session: SessionId, report: &mut Report) -> Result<(), Memory>
-        ensures { OnOk result (spec.IsWritten (spec.replies_told session self.old (client_of session self.old.world.service.clients)) self.new report.old report.new) }
+        ensures { OnOk result (IsWritten (spec.replies_told session self.old (client_of session self.old.world.service.clients)) self.new report.old report.new) }
     {
         match self.service.world().replies(session) {
             Some(replies) => self.sessions.write_replies(session, replies, report),
@@ -72,60 +69,37 @@ impl Play {
         }
     }
 
-    /// Writes what an event has brought.
-    fn tell(&mut self, subject: Subject, report: &mut Report) -> Result<(), Memory>
-        ensures { OnOk result (spec.IsWritten (spec.told_of subject self.old) self.new report.old report.new) }
+    /// Writes what an event has brought to the session that it is about, if it is about one.
+    fn tell(&mut self, session: Option<SessionId>, report: &mut Report) -> Result<(), Memory>
+        ensures { OnOk result (IsWritten (spec.told_of session self.old) self.new report.old report.new) }
     {
-        match subject {
-            Subject::Session(session) => self.tell_replies(session, report),
-            Subject::Operation(node, user) => self.operations.add(self.service.world(), node, user),
-            Subject::Nodes => Ok(()),
+        match session {
+            Some(session) => self.tell_replies(session, report),
+            None => Ok(()),
         }
     }
 
     /// Hands the service an event. Writes why it is refused, or else what its session is told.
     fn give(&mut self, event: Event, report: &mut Report) -> Result<(), Memory>
-        ensures { OnOk result (spec.IsWritten (spec.given self.old event) self.new report.old report.new) }
+        ensures { OnOk result (IsWritten (spec.given self.old event) self.new report.old report.new) }
     {
-        let subject = subject_of(&event);
+        let session = event.session();
         match self.service.step(event) {
-            Ok(()) => self.tell(subject, report),
+            Ok(()) => self.tell(session, report),
             Err(refused) => report.refusal(refusal_of(refused)?),
         }
     }
 
-    /// Writes the outcome of a Mail or a Break, if it is there.
-    fn write_outcome(&mut self, id: CommandId, report: &mut Report) -> Result<(), Memory>
-        ensures { OnOk result (spec.IsWritten (spec.outcome_told id self.old) self.new report.old report.new) }
+    /// Writes the outcomes that are there and weren't written, in the order in which the script submitted the operations.
+    fn write_outcomes(&mut self, report: &mut Report) -> Result<(), Memory>
+        ensures { OnOk result (IsWritten (spec.outcomes self.old) self.new report.old report.new) }
     {
-        let (user, ticket) = id.get();
-        let (node, _) = ticket.get();
-        match self.service.take_outcome(node, user, ticket) {
-            Some(outcome) => report.outcome(&user, ticket, &outcome),
-            None => Ok(()),
-        }
-    }
-
-    fn write_each(&mut self, ids: &[CommandId], report: &mut Report) -> Result<(), Memory>
-        ensures { OnOk result (spec.IsWritten (spec.outcomes_told ids.now self.old) self.new report.old report.new) }
-    {
-        for id in ids {
-            self.write_outcome(*id, report)?;
-        }
-        Ok(())
-    }
-
-    /// Writes the outcomes that are there, in the order in which the script submitted them.
-    fn write_outcomes(&mut self, alloc: Global, report: &mut Report) -> Result<(), Memory>
-        ensures { OnOk result (spec.Tells (spec.AreOutcomesTold self.old) self.new report.old report.new) }
-    {
-        let due = self.operations.take_due(alloc, self.service.world())?;
-        self.write_each(due.as_slice(), report)
+        self.service.write_outcomes(report)
     }
 
     /// Has sessions take the answers that are there, in the order in which they connected.
     fn collect(&mut self, report: &mut Report) -> Result<(), Memory>
-        ensures { OnOk result (spec.IsWritten (spec.all_collected self.old) self.new report.old report.new) }
+        ensures { OnOk result (IsWritten (spec.all_collected self.old) self.new report.old report.new) }
     {
         for _ in 0..self.sessions.len() {
             let world = self.service.world();
@@ -140,43 +114,37 @@ impl Play {
     }
 
     /// The oldest event that is due happens, at most so many times.
-    fn settle(&mut self, alloc: Global, limit: u64, report: &mut Report) -> Result<(), Memory>
-        ensures { OnOk result (spec.Tells (spec.Settles spec.oldest limit self.old) self.new report.old report.new) }
+    fn settle(&mut self, limit: u64, report: &mut Report) -> Result<(), Memory>
+        ensures { OnOk result (IsWritten (spec.settled spec.oldest limit self.old) self.new report.old report.new) }
     {
         for _ in 0..limit {
-            self.write_outcomes(alloc, report)?;
+            self.write_outcomes(report)?;
             let Some(event) = self.service.world().next_oldest(self.first) else {
                 return Ok(());
             };
             self.give(event, report)?;
         }
-        self.write_outcomes(alloc, report)
+        self.write_outcomes(report)
     }
 
     /// The newest message that came fewer than so many times arrives, or an answer that is there is taken, at most so
     /// many times.
-    fn storm(
-        &mut self,
-        alloc: Global,
-        copies: u64,
-        limit: u64,
-        report: &mut Report,
-    ) -> Result<(), Memory>
-        ensures { OnOk result (spec.Tells (spec.Settles (spec.newest copies) limit self.old) self.new report.old report.new) }
+    fn storm(&mut self, copies: u64, limit: u64, report: &mut Report) -> Result<(), Memory>
+        ensures { OnOk result (IsWritten (spec.settled (spec.newest copies) limit self.old) self.new report.old report.new) }
     {
         for _ in 0..limit {
-            self.write_outcomes(alloc, report)?;
+            self.write_outcomes(report)?;
             let Some(event) = self.service.world().next_newest(self.first, copies) else {
                 return Ok(());
             };
             self.give(event, report)?;
         }
-        self.write_outcomes(alloc, report)
+        self.write_outcomes(report)
     }
 
     /// The first message of the route that never arrived arrives.
     fn deliver(&mut self, route: Route, report: &mut Report) -> Result<(), Memory>
-        ensures { OnOk result (spec.IsWritten (spec.delivered self.old route) self.new report.old report.new) }
+        ensures { OnOk result (IsWritten (spec.delivered self.old route) self.new report.old report.new) }
     {
         match self.service.first_undelivered(route) {
             Some(place) => self.give(Event::Arrive(place), report),
@@ -184,9 +152,9 @@ impl Play {
         }
     }
 
-    /// Writes what a node has performed.
+    /// Writes what a node has performed, or that it is down, if there is no such node.
     fn order(&self, node: NodeId, report: &mut Report) -> Result<(), Memory>
-        ensures { OnOk result (spec.Tells (spec.IsOrderTold node self.now) self.now report.old report.new) }
+        ensures { OnOk result (IsWritten (spec.order node self.now) self.now report.old report.new) }
     {
         match self.service.world().performed(node) {
             Some(performed) => report.order(node, performed),
@@ -209,7 +177,7 @@ impl Play {
         command: Command<'_>,
         report: &mut Report,
     ) -> Result<(), Memory>
-        ensures { OnOk result (spec.IsWritten (spec.happened settings.now.host command.entry self.old) self.new report.old report.new) }
+        ensures { OnOk result (IsWritten (spec.happened settings.now.host command.entry self.old) self.new report.old report.new) }
     {
         match event_of(alloc, settings.host(), command)? {
             Some(event) => self.give(event, report),
@@ -225,7 +193,7 @@ impl Play {
         command: Command<'_>,
         report: &mut Report,
     ) -> Result<(), Memory>
-        ensures { OnOk result (spec.Tells (spec.IsDone settings.now.host command.entry self.old) self.new report.old report.new) }
+        ensures { OnOk result (IsWritten (spec.done settings.now.host command.entry self.old) self.new report.old report.new) }
     {
         match &command {
             Command::Lose => {
@@ -253,10 +221,10 @@ impl Play {
         command: Command<'_>,
         report: &mut Report,
     ) -> Result<(), Memory>
-        ensures { OnOk result (spec.Tells (spec.IsDoneToTheEnd settings.now.host command.entry self.old) self.new report.old report.new) }
+        ensures { OnOk result (IsWritten (spec.done_to_the_end settings.now.host command.entry self.old) self.new report.old report.new) }
     {
         self.act(alloc, settings, command, report)?;
-        self.write_outcomes(alloc, report)?;
+        self.write_outcomes(report)?;
         self.collect(report)
     }
 
@@ -268,11 +236,11 @@ impl Play {
         command: Command<'_>,
         report: &mut Report,
     ) -> Result<(), Memory>
-        ensures { OnOk result (spec.Tells (spec.Performs settings.now.host command.entry self.old) self.new report.old report.new) }
+        ensures { OnOk result (IsWritten (spec.performed settings.now.host command.entry self.old) self.new report.old report.new) }
     {
         match &command {
-            Command::Settle { limit } => self.settle(alloc, *limit, report),
-            Command::Storm { copies, limit } => self.storm(alloc, *copies, *limit, report),
+            Command::Settle { limit } => self.settle(*limit, report),
+            Command::Storm { copies, limit } => self.storm(*copies, *limit, report),
             _ => self.act_to_the_end(alloc, settings, command, report),
         }
     }

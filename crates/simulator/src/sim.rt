@@ -1,9 +1,11 @@
 //! Plays a script, from a reader to a writer.
-ghost use Rattle.std.specs.Prelude.{◌≡◌, ◌≤◌, ℕ, List, [], None, Some, OnOk, IfErr, IfSome, is_some, true};
+ghost use Rattle.std.specs.Prelude.{◌≡◌, ◌≤◌, ◌++◌, ℕ, List, [], None, Some, OnOk, IfErr, IfSome, is_some, true};
+ghost use Rattle.std.specs.declared.alloc.Global.{Global};
 ghost use Rattle.std.specs.Io.Buffered.{reader_remaining};
 ghost use Rattle.std.specs.Io.KnownBytes.{Appends};
 ghost use Rattle.std.specs.Str.Lines.{lines};
-ghost use Rattle.simulator.specs.Reading.{IsPlayedLine, IsStopAt};
+ghost use Rattle.simulator.specs.Reading.{IsFlushed, IsPlayedLine, IsStopAt, left_of};
+ghost use Rattle.simulator.specs.Runs.{output, run_of};
 ghost use Rattle.simulator.specs.Statuses as spec;
 
 use crate::fault::Fault;
@@ -37,7 +39,8 @@ fn write_out<W: Write>(writer: &mut W, report: &mut Report) -> Result<(), Fault>
 
 /// Writes what is still to be written, before more input is awaited or if it is much.
 fn write_due<W: Write>(writer: &mut W, report: &mut Report, is_awaited: bool) -> Result<(), Fault>
-    ensures { IfErr result (λ fault. fault ≡ Fault.Write) }
+    ensures flushed { OnOk result (IsFlushed (W.contents writer.old) (W.contents writer.new) report.old report.new) }
+    ensures fault { IfErr result (λ fault. fault ≡ Fault.Write) }
 {
     if is_awaited || report.get().len() >= GATHERED {
         write_out(writer, report)
@@ -57,8 +60,8 @@ fn fault_at(number: u64, fault: ScriptFault) -> Fault
 
 /// Plays a line of this number, which has its line feed unless it is the last.
 fn play_line(alloc: Global, run: &mut Run, number: u64, line: &[u8]) -> Result<(), Fault>
-    ensures goes_on { OnOk result (IsPlayedLine line.now number run.old.script run.new.script) }
-    ensures stops { IfErr result (λ fault. IsStopAt line.now number run.old.script fault) }
+    ensures goes_on { OnOk result (IsPlayedLine line.now number (run_of run.old) run.old.report (run_of run.new) run.new.report) }
+    ensures stops { IfErr result (λ fault. IsStopAt line.now number (run_of run.old) run.old.report run.new.report fault) }
 {
     let Some((content, _)) = next_line(line) else {
         return Ok(());
@@ -78,6 +81,10 @@ fn play_lines<R: Read, W: Write>(
 ) -> Result<(), Fault>
     ensures sound { OnOk result ((bytes : List ℕ) → reader_remaining R.remaining reader.old ≡ Some bytes → spec.fault_from (lines bytes) 1 run.old.script ≡ None) }
     ensures line { IfErr result (λ fault. (bytes : List ℕ) (number : ℕ) → reader_remaining R.remaining reader.old ≡ Some bytes → fault ≡ Fault.Line number → spec.fault_from (lines bytes) 1 run.old.script ≡ Some number) }
+    ensures told { OnOk result ((bytes : List ℕ) → reader_remaining R.remaining reader.old ≡ Some bytes
+        → IsFlushed (W.contents writer.old) (W.contents writer.new) (run.old.report ++ left_of bytes (run_of run.old)) run.new.report) }
+    ensures told_before { IfErr result (λ fault. (bytes : List ℕ) (number : ℕ) → reader_remaining R.remaining reader.old ≡ Some bytes → fault ≡ Fault.Line number
+        → IsFlushed (W.contents writer.old) (W.contents writer.new) (run.old.report ++ left_of bytes (run_of run.old)) run.new.report) }
 {
     let mut line = Vec::new(alloc);
     let mut reads_left = MOST_READS;
@@ -103,6 +110,10 @@ fn play_and_write<R: Read, W: Write>(
 ) -> Result<(), Fault>
     ensures sound { OnOk result ((bytes : List ℕ) → reader_remaining R.remaining reader.old ≡ Some bytes → spec.fault_from (lines bytes) 1 run.old.script ≡ None) }
     ensures line { IfErr result (λ fault. (bytes : List ℕ) (number : ℕ) → reader_remaining R.remaining reader.old ≡ Some bytes → fault ≡ Fault.Line number → spec.fault_from (lines bytes) 1 run.old.script ≡ Some number) }
+    ensures written { OnOk result ((bytes : List ℕ) → reader_remaining R.remaining reader.old ≡ Some bytes
+        → Appends (W.contents writer.old) (W.contents writer.new) (run.old.report ++ left_of bytes (run_of run.old))) }
+    ensures written_before { IfErr result (λ fault. (bytes : List ℕ) (number : ℕ) → reader_remaining R.remaining reader.old ≡ Some bytes → fault ≡ Fault.Line number
+        → Appends (W.contents writer.old) (W.contents writer.new) (run.old.report ++ left_of bytes (run_of run.old))) }
 {
     let played = play_lines(alloc, run, reader, writer);
     write_out(writer, &mut run.report)?;
@@ -113,6 +124,9 @@ fn play_and_write<R: Read, W: Write>(
 fn run<R: Read, W: Write>(alloc: Global, reader: &mut R, writer: &mut W) -> Result<(), Fault>
     ensures sound { OnOk result (IfSome (R.remaining reader.old) (λ input. spec.first_fault input ≡ None)) }
     ensures line { IfErr result (λ fault. (number : ℕ) → fault ≡ Fault.Line number → IfSome (R.remaining reader.old) (λ input. spec.first_fault input ≡ Some number)) }
+    ensures written { OnOk result (IfSome (R.remaining reader.old) (λ input. Appends (W.contents writer.old) (W.contents writer.new) (output Global input))) }
+    ensures written_before { IfErr result (λ fault. (number : ℕ) → fault ≡ Fault.Line number
+        → IfSome (R.remaining reader.old) (λ input. Appends (W.contents writer.old) (W.contents writer.new) (output Global input))) }
 {
     let Ok(mut lines) = BufReader::new(alloc, reader) else {
         return Err(Fault::Memory);
@@ -125,7 +139,8 @@ fn run<R: Read, W: Write>(alloc: Global, reader: &mut R, writer: &mut W) -> Resu
 /// are told, what its Mails and Breaks are answered, which commands are refused, and what nodes have performed, to a
 /// writer. What comes of a line is written before more input is awaited. Returns the exit status: 0 at the end of the
 /// input, 1 after a fault of memory, reading or writing, 2 at a line that is none of the language or may not come at its
-/// place. A fault is reported on standard error, after the output of what ran before.
+/// place. At 0 and 2 it has written what all lines say that come before a fault, one after another. A fault is reported on
+/// standard error, after the output of what ran before.
 pub fn sim_run<H: AllocGlobal + Eprint, R: Read, W: Write>(
     rt: &H,
     reader: &mut R,
@@ -134,6 +149,7 @@ pub fn sim_run<H: AllocGlobal + Eprint, R: Read, W: Write>(
     ensures played { result ≡ 0 → IfSome (R.remaining reader.old) (λ input. spec.first_fault input ≡ None) }
     ensures refused { result ≡ 2 → IfSome (R.remaining reader.old) (λ input. is_some (spec.first_fault input) ≡ true) }
     ensures statuses { result ≤ 2 }
+    ensures written { (result ≡ 1 → ⊥) → IfSome (R.remaining reader.old) (λ input. Appends (W.contents writer.old) (W.contents writer.new) (output Global input)) }
 {
     match run(rt.alloc(), reader, writer) {
         Ok(()) => 0,

@@ -1,22 +1,53 @@
-use Rattle.std.proofs.Common.{rules, ◌≡◌, true, false, subst}
+use Rattle.std.proofs.Common.{rules, ◌≡◌, true, false, refl, subst}
+use Rattle.simulator.proofs.Ending.{handed_on}
 use Rattle.simulator.specs.Reading.{IsPlayedLine, IsStopAt}
-use Rattle.simulator.proofs.Playing.{ends, goes_on, stopped}
+use Rattle.simulator.specs.Runs.{run_of}
+use Rattle.simulator.proofs.Flushing.{flushed_nothing}
+use Rattle.simulator.proofs.Playing.{ends, flushes, goes_on, no_line, stopped}
 use Rattle.simulator.proofs.sim.play_lines.Goals as goal
+
+pub loop-number-init : goal.loop-number-init
+loop-number-init g c bytes known = record { rest = bytes; known = known; same = refl; told = flushed_nothing _ _ }
+
+pub returns-in_err-read_line-clause-line : goal.returns-in_err-read_line-clause-line
+returns-in_err-read_line-clause-line g c =
+    handed_on c.from_residual-in_err-read_line.result c.in_err-read_line.field-0.0 _ c.from_residual-in_err-read_line.ensures.1
+    (λ bytes number known line. no_line c.in_err-read_line.field-0.0 number c.in_err-read_line.ensures.fault line)
+
+pub returns-in_err-read_line-clause-told_before : goal.returns-in_err-read_line-clause-told_before
+returns-in_err-read_line-clause-told_before g c =
+    handed_on c.from_residual-in_err-read_line.result c.in_err-read_line.field-0.0 _ c.from_residual-in_err-read_line.ensures.1
+    (λ bytes number known line. no_line c.in_err-read_line.field-0.0 number c.in_err-read_line.ensures.fault line)
 
 pub returns-then-not-branch-clause-sound : goal.returns-then-not-branch-clause-sound
 returns-then-not-branch-clause-sound g c bytes known =
-    let played = c.loop-number.invariant bytes known in
     let none : c.in_ok-read_line.field-0 ≡ false = search rules in
-    ends played _ _ _ (c.in_ok-read_line.ensures.known played.rest played.known) none
+    let played = flushes (c.loop-number.invariant bytes known) c.in_ok-write_due.ensures.flushed in
+    (ends played _ _ _ (c.in_ok-read_line.ensures.known played.rest played.known) none).0
+
+pub returns-then-not-branch-clause-told : goal.returns-then-not-branch-clause-told
+returns-then-not-branch-clause-told g c bytes known =
+    let none : c.in_ok-read_line.field-0 ≡ false = search rules in
+    let played = flushes (c.loop-number.invariant bytes known) c.in_ok-write_due.ensures.flushed in
+    (ends played _ _ _ (c.in_ok-read_line.ensures.known played.rest played.known) none).1
 
 pub returns-in-Err-clause-line : goal.returns-in-Err-clause-line
 returns-in-Err-clause-line g c bytes number known told =
-    let played = c.loop-number.invariant bytes known in
     let some : c.in_ok-read_line.field-0 ≡ true = search rules in
-    stopped played _ _ _ _ number (c.in_ok-read_line.ensures.known played.rest played.known) some (subst (λ l. IsStopAt l c.loop-number.number c.loop-number.run.script c.in-Err.fault) c.as_slice.ensures.value c.in-Err.ensures.stops) told
+    let played = flushes (c.loop-number.invariant bytes known) c.in_ok-write_due.ensures.flushed in
+    (stopped played _ _ _ _ _ number (c.in_ok-read_line.ensures.known played.rest played.known) some
+    (subst (λ l. IsStopAt l c.loop-number.number (run_of c.loop-number.run) c.write_due.new.report c.play_line.new.run.report c.in-Err.fault) c.as_slice.ensures.value c.in-Err.ensures.stops) told).0
+
+pub returns-in-Err-clause-told_before : goal.returns-in-Err-clause-told_before
+returns-in-Err-clause-told_before g c bytes number known told =
+    let some : c.in_ok-read_line.field-0 ≡ true = search rules in
+    let played = flushes (c.loop-number.invariant bytes known) c.in_ok-write_due.ensures.flushed in
+    (stopped played _ _ _ _ _ number (c.in_ok-read_line.ensures.known played.rest played.known) some
+    (subst (λ l. IsStopAt l c.loop-number.number (run_of c.loop-number.run) c.write_due.new.report c.play_line.new.run.report c.in-Err.fault) c.as_slice.ensures.value c.in-Err.ensures.stops) told).1
 
 pub loop-number-preserved : goal.loop-number-preserved
 loop-number-preserved g c bytes known =
-    let played = c.loop-number.invariant bytes known in
     let some : c.in_ok-read_line.field-0 ≡ true = search rules in
-    goes_on played _ _ _ _ (c.in_ok-read_line.ensures.known played.rest played.known) some (subst (λ l. IsPlayedLine l c.loop-number.number c.loop-number.run.script c.play_line.new.run.script) c.as_slice.ensures.value c.in_default.ensures.goes_on)
+    let played = flushes (c.loop-number.invariant bytes known) c.in_ok-write_due.ensures.flushed in
+    goes_on played _ _ _ _ _ (c.in_ok-read_line.ensures.known played.rest played.known) some
+    (subst (λ l. IsPlayedLine l c.loop-number.number (run_of c.loop-number.run) c.write_due.new.report (run_of c.play_line.new.run) c.play_line.new.run.report) c.as_slice.ensures.value c.in_default.ensures.goes_on)

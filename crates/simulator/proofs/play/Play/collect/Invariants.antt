@@ -1,5 +1,6 @@
 use Rattle.std.proofs.Common.{◌≡◌, ◌-◌, length}
-use Rattle.simulator.specs.Plays.{collected, text_before, all_collected}
+use Rattle.simulator.specs.Plays.{collected, all_collected}
+use Rattle.simulator.proofs.Telling.{text_before}
 use Rattle.simulator.proofs.play.Play.collect.Given as goal
 
 -- what is written, and what the rest will bring, is all that was to be written

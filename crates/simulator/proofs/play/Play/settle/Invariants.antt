@@ -1,7 +1,8 @@
-use Rattle.std.proofs.Common.{◌-◌}
-use Rattle.simulator.specs.Plays.{oldest}
-use Rattle.simulator.proofs.Telling.{IsSettledTo}
+use Rattle.std.proofs.Common.{◌≡◌, ◌-◌}
+use Rattle.simulator.specs.Plays.{oldest, settled}
+use Rattle.simulator.proofs.Telling.{text_before}
 use Rattle.simulator.proofs.play.Play.settle.Given as goal
 
+-- what is written, and what the rest will bring, is all that was to be written
 abbrev pub invariant-loop : goal.invariant-loop
-invariant-loop l = IsSettledTo oldest l.fn.limit (l.fn.limit - l.counter) l.fn.self l.self l.fn.report l.report
+invariant-loop l = text_before l.report (settled oldest (l.fn.limit - l.counter) l.self) ≡ text_before l.fn.report (settled oldest l.fn.limit l.fn.self)
