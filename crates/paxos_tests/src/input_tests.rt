@@ -352,7 +352,7 @@ impl Scenario for Made {
 
 #[test]
 fn a_refused_node_stops(rt: HostRuntime) -> Result<(), Fail> {
-    let made = requests(rt.alloc(), &Made, 5)?;
+    let made = requests(rt.alloc(), &Made, 6)?;
     println!(rt; "Node, new: {made}")?;
     for rows in [ROWS, LED, HEARD, AHEAD] {
         for (place, (given, _, most)) in rows.iter().enumerate() {
