@@ -1,6 +1,6 @@
 -- A service after a list of events.
 use Rattle.std.proofs.Common.{◌≡◌, ◌≢◌, ◌⊎◌, ℕ, zero, suc, ◌+◌, ◌-◌, ◌<◌, List, [], ◌∷◌, ◌++◌, Bool, true, false, Option, Some, None, refl, sym, ap, ◌∙◌, subst, inl, inr, arith, cond, length, get_or, take, drop, set, map}
-use Rattle.std.specs.Prelude.{Result, Ok, Err, slice_get}
+use Rattle.std.specs.Prelude.{Result, Ok, Err, IfOk, OnOk, slice_get}
 use Rattle.std.specs.Option.{option_or, option_map}
 use Rattle.std.proofs.lemmas.List.{map-append, length-set}
 use Rattle.std.proofs.lemmas.Option.{slice_get-map}
@@ -32,6 +32,16 @@ use Rattle.runs.proofs.Decisions.{reached_nodes}
 use Rattle.runs.proofs.ServiceRuns.{AreOfRun}
 use Rattle.runs.proofs.Serving.{every_service}
 use Rattle.world.proofs.Reached.{new_reached, next_reached, reached_projected}
+
+-- what holds whatever the answer is
+pub always : {T E : Type 0} (result : Result T E) {P : Type 0} → P → OnOk result P
+always (Ok value) p = p
+always (Err error) p = tt
+
+-- what follows of each answer follows of this one
+pub answered_so : {T E : Type 0} (result : Result T E) (P Q : T → Type 0) → ((value : T) → P value → Q value) → IfOk result P → IfOk result Q
+answered_so (Ok value) P Q become p = become value p
+answered_so (Err error) P Q become p = tt
 
 -- what is read of a list that has been read as far
 pub map_same : {X : Type 0} (xs : List X) → map (λ x. x) xs ≡ xs

@@ -42,28 +42,45 @@ pub fn run<A: Allocator + Copy>(
     ensures submitted { OnOk result (WereSubmitted (ran (new_world config) events.items).service (decided config (ran (new_world config) events.items).service)) }
 {
     let nodes = config.cluster.get();
-    let world = after(World::new(alloc, config)?, events)?;
+    let mut world = World::new(alloc, config)?;
+    run_in(&mut world, alloc, nodes, events)
+}
+
+/// What this service, which has so many nodes, has brought after these events.
+fn run_in<A: Allocator + Copy>(
+    world: &mut World<A>,
+    alloc: A,
+    nodes: u8,
+    events: Vec<Event<A>, A>,
+) -> Result<Runs<A>, Refused>
+    requires { nodes ≡ length (ran world.old.world events.items).service.network.logs }
+    ensures possible { OnOk result (first_refusal world.old.world events.items ≡ None) }
+    ensures refused { IfErr result (λ error. (error ≡ refused.Memory) ⊎ (first_refusal world.old.world events.items ≡ Some error)) }
+    ensures replies { IfOk result (λ runs. map (λ r. (r.0, r.1.items)) runs.replies.items ≡ all_replies (ran world.old.world events.items).service) }
+    ensures performed { IfOk result (λ runs. map (λ p. p.items) runs.performed.items ≡ all_performed (ran world.old.world events.items).service) }
+{
+    step_all(world, events)?;
     match world.brought(alloc, nodes) {
         Ok(runs) => Ok(runs),
         Err(_) => Err(Refused::Memory),
     }
 }
 
-/// A service after these events, one after another. The first that is refused is the answer.
-fn after<A: Allocator + Copy>(
-    mut world: World<A>,
+/// These events, one after another. The first that is refused is the answer.
+fn step_all<A: Allocator + Copy>(
+    world: &mut World<A>,
     events: Vec<Event<A>, A>,
-) -> Result<World<A>, Refused>
-    ensures world { IfOk result (λ after. after.world ≡ ran world.world events.items) }
-    ensures possible { OnOk result (first_refusal world.world events.items ≡ None) }
-    ensures refused { IfErr result (λ error. (error ≡ refused.Memory) ⊎ (first_refusal world.world events.items ≡ Some error)) }
+) -> Result<(), Refused>
+    ensures world { OnOk result (world.new.world ≡ ran world.old.world events.items) }
+    ensures possible { OnOk result (first_refusal world.old.world events.items ≡ None) }
+    ensures refused { IfErr result (λ error. (error ≡ refused.Memory) ⊎ (first_refusal world.old.world events.items ≡ Some error)) }
 {
     for event in events {
         if let Err(error) = world.step(event) {
             return Err(error);
         }
     }
-    Ok(world)
+    Ok(())
 }
 
 impl<A: Allocator + Copy> World<A> {

@@ -1,6 +1,6 @@
 use Rattle.std.proofs.Common.{◌≡◌, None}
 use Rattle.runs.specs.Settling.{ran, first_refusal}
-use Rattle.world.proofs.whole_run.after.Given as goal
+use Rattle.world.proofs.whole_run.step_all.Given as goal
 
 abbrev pub invariant-loop-event : goal.invariant-loop-event
 invariant-loop-event g l = record {
