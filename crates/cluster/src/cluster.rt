@@ -352,9 +352,9 @@ impl<
     /// Ends the threads, each once its node has heard what is in its inbox or has stopped, and returns the logs of the nodes,
     /// in the order in which these were started, with what is kept of the maildrops: as a log leaves them than which none has
     /// performed more, or without a node as the setup has them. From then on their desks answer that they have stopped. If a
-    /// link's `send` doesn't return, neither does this. Takes no memory, but for a node that has stopped without memory, whose
-    /// log is replayed, and for a cluster without a node: `kept` is `Memory` if there is none for that. `None` if the state of
-    /// a node isn't under its lock: only this call and letting the cluster go take it away.
+    /// link's `send` doesn't return, neither does this. Takes no memory, but for a node that has stopped without memory or
+    /// tickets, whose log is replayed, and for a cluster without a node: `kept` is `Memory` if there is none for that. `None`
+    /// if the state of a node isn't under its lock: only this call and letting the cluster go take it away.
     pub fn stop(self) -> Option<Ended>
         ensures nodes { IfSome result (λ ended. map (λ log. log.opening.me) ended.logs.items ≡ self) }
         ensures logs { IfSome result (λ ended. All (λ log. IsLogOf D.setup log.opening.me log) ended.logs.items) }

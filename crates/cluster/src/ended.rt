@@ -18,7 +18,7 @@ pub struct Ended {
     /// The logs of its nodes, in the order in which these were started.
     pub logs: Vec<NodeLog>,
     /// What is kept of the maildrops, by a log that has performed the most; without a node, what the setup kept. `Memory`
-    /// if a node has stopped without memory, and there is still none to replay its log. Without a node it is a copy, which
+    /// if a node has stopped without memory or tickets, and there is none to replay its log. Without a node it is a copy, which
     /// takes memory too.
     pub kept: Result<Kept, Memory>,
 }

@@ -1,7 +1,7 @@
 //! How nodes reach one another.
 
 use crate::hub::Hub;
-use ballot::Envelope;
+use ballot::{Envelope, NodeId};
 use maildrop::SharedCommand;
 use std::sync::{Arc, Wait};
 
@@ -10,6 +10,13 @@ use std::sync::{Arc, Wait};
 /// the end of the cluster waits for that: `Cluster::stop`, and letting the cluster go.
 pub trait Link {
     fn send(&self, envelope: Envelope<SharedCommand>);
+
+    /// Sends all that goes to one node, in its order, so that a link can hand it on in one piece. The list is empty afterwards.
+    fn send_all(&self, _to: NodeId, envelopes: &mut Vec<Envelope<SharedCommand>>) {
+        for envelope in envelopes.drain(..) {
+            self.send(envelope);
+        }
+    }
 
     /// Whether it carries what a node sends to itself. Else the node hears that at once, while it has the lock.
     fn carries_own(&self) -> bool {

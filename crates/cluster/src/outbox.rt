@@ -69,8 +69,8 @@ impl Outbox {
     /// Hands all else to the link. Nothing is left of it.
     pub(crate) fn send<L: Link>(&mut self, link: &L) {
         for lane in self.lanes.iter_mut() {
-            for envelope in lane.sends.drain(..) {
-                link.send(envelope);
+            if !lane.sends.is_empty() {
+                link.send_all(lane.to, &mut lane.sends);
             }
         }
     }
