@@ -1,5 +1,5 @@
 //! What a script's run writes.
-ghost use Rattle.std.specs.Prelude.{◌≡◌, ◌++◌, [], OnOk};
+ghost use Rattle.std.specs.Prelude.{◌≡◌, ◌≤◌, ◌++◌, [], length, OnErr, OnOk, take};
 ghost use Rattle.script.specs.Output as spec;
 ghost use Rattle.simulator.specs.Reports.{order_lines, slot_lines};
 
@@ -9,7 +9,7 @@ use script::{Refusal, put_outcome, put_performed, put_refusal, put_replies, put_
 use std::alloc::Global;
 use std::marker::Model;
 
-/// Lines of output that are still to be written. After `Memory` it holds whole lines only.
+/// Lines of output that are still to be written. `Memory` adds none.
 #[derive(Drop)]
 pub(crate) struct Report {
     bytes: Vec<u8>,
@@ -23,26 +23,37 @@ impl Model for Report {
     ghost view = { λ r. r.bytes.items };
 }
 
-/// The lines that a node's commands bring, each with its slot.
-fn put_slots(out: &mut Vec<u8>, performed: &[(Slot, SharedCommand)]) -> Result<(), Memory>
-    ensures { OnOk result (out.new.items ≡ out.old.items ++ slot_lines performed.now) }
+/// Adds the lines that a node's commands bring, each with its slot. After `Memory` only the first `start` bytes are left.
+fn put_slots(
+    out: &mut Vec<u8>,
+    start: usize,
+    performed: &[(Slot, SharedCommand)],
+) -> Result<(), Memory>
+    requires { start ≤ length out.old.items }
+    ensures ok { OnOk result (out.new.items ≡ out.old.items ++ slot_lines performed.now) }
+    ensures err { OnErr result (out.new.items ≡ take start out.old.items) }
 {
     for (slot, command) in performed {
-        put_slot(out, *slot, command.get())?;
+        let Ok(()) = put_slot(out, *slot, command.get()) else {
+            out.truncate(start);
+            return Err(Memory);
+        };
     }
     Ok(())
 }
 
-/// The lines of `order`.
+/// Adds the lines of `order`.
 fn put_order(
     out: &mut Vec<u8>,
     node: NodeId,
     performed: &[(Slot, SharedCommand)],
 ) -> Result<(), Memory>
-    ensures { OnOk result (out.new.items ≡ out.old.items ++ order_lines node performed.now) }
+    ensures ok { OnOk result (out.new.items ≡ out.old.items ++ order_lines node performed.now) }
+    ensures err { OnErr result (out.new.items ≡ out.old.items) }
 {
+    let start = out.len();
     put_performed(out, node, performed.len())?;
-    put_slots(out, performed)
+    put_slots(out, start, performed)
 }
 
 impl Report {
@@ -68,17 +79,6 @@ impl Report {
         self.bytes.clear();
     }
 
-    /// Takes away what was added after the first `len` bytes, if not all of it could be.
-    fn unless_whole(&mut self, len: usize, added: Result<(), Memory>) -> Result<(), Memory>
-        ensures same { result ≡ added }
-        ensures kept { OnOk added (self.new ≡ self.old) }
-    {
-        if added.is_err() {
-            self.bytes.truncate(len);
-        }
-        added
-    }
-
     /// What a Mail or a Break was answered.
     pub(crate) fn outcome(
         &mut self,
@@ -86,29 +86,26 @@ impl Report {
         ticket: Ticket,
         outcome: &Outcome,
     ) -> Result<(), Memory>
-        ensures { OnOk result (self.new ≡ self.old ++ spec.outcome_line user.now ticket outcome.now) }
+        ensures ok { OnOk result (self.new ≡ self.old ++ spec.outcome_line user.now ticket outcome.now) }
+        ensures err { OnErr result (self.new ≡ self.old) }
     {
-        let len = self.bytes.len();
-        let added = put_outcome(&mut self.bytes, user, ticket, outcome);
-        self.unless_whole(len, added)
+        put_outcome(&mut self.bytes, user, ticket, outcome)
     }
 
     /// Why the service refuses an event.
     pub(crate) fn refusal(&mut self, refusal: Refusal) -> Result<(), Memory>
-        ensures { OnOk result (self.new ≡ self.old ++ spec.refusal_line refusal) }
+        ensures ok { OnOk result (self.new ≡ self.old ++ spec.refusal_line refusal) }
+        ensures err { OnErr result (self.new ≡ self.old) }
     {
-        let len = self.bytes.len();
-        let added = put_refusal(&mut self.bytes, refusal);
-        self.unless_whole(len, added)
+        put_refusal(&mut self.bytes, refusal)
     }
 
     /// What a session was told.
     pub(crate) fn replies(&mut self, session: u32, replies: &[u8]) -> Result<(), Memory>
-        ensures { OnOk result (self.new ≡ self.old ++ spec.reply_lines session replies.now) }
+        ensures ok { OnOk result (self.new ≡ self.old ++ spec.reply_lines session replies.now) }
+        ensures err { OnErr result (self.new ≡ self.old) }
     {
-        let len = self.bytes.len();
-        let added = put_replies(&mut self.bytes, session, replies);
-        self.unless_whole(len, added)
+        put_replies(&mut self.bytes, session, replies)
     }
 
     /// What a node has performed.
@@ -117,10 +114,9 @@ impl Report {
         node: NodeId,
         performed: &[(Slot, SharedCommand)],
     ) -> Result<(), Memory>
-        ensures { OnOk result (self.new ≡ self.old ++ order_lines node performed.now) }
+        ensures ok { OnOk result (self.new ≡ self.old ++ order_lines node performed.now) }
+        ensures err { OnErr result (self.new ≡ self.old) }
     {
-        let len = self.bytes.len();
-        let added = put_order(&mut self.bytes, node, performed);
-        self.unless_whole(len, added)
+        put_order(&mut self.bytes, node, performed)
     }
 }

@@ -14,7 +14,7 @@ returns-in-Some c =
     (ap (λ (v : WorldValue Global). v.crashed) c.world.ensures ∙ ap (λ (p : Play Global). p.crashed) c.self.view_is)
     c.in-Some.ensures.value c.in-Some.ensures.known in
     on_ok_weaker c.order.result
-    (λ written. subst (λ o. IsWritten (order_by c.args.node c.args.self.now o) c.args.self.now c.args.report.now c.order.new.self) (sym there) (refl, written)) c.order.ensures
+    (λ written. subst (λ o. IsWritten (order_by c.args.node c.args.self.now o) c.args.self.now c.args.report.now c.order.new.self) (sym there) (refl, written)) c.order.ensures.ok
 
 pub returns-in-None : goal.returns-in-None
 returns-in-None c =
@@ -23,4 +23,4 @@ returns-in-None c =
     (ap (λ (v : WorldValue Global). v.crashed) c.world.ensures ∙ ap (λ (p : Play Global). p.crashed) c.self.view_is)
     c.in-None.ensures.known in
     on_ok_weaker c.refusal.result
-    (λ written. subst (λ o. IsWritten (order_by c.args.node c.args.self.now o) c.args.self.now c.args.report.now c.refusal.new.self) (sym none) (refl, written)) c.refusal.ensures
+    (λ written. subst (λ o. IsWritten (order_by c.args.node c.args.self.now o) c.args.self.now c.args.report.now c.refusal.new.self) (sym none) (refl, written)) c.refusal.ensures.ok
