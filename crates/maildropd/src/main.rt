@@ -1,14 +1,14 @@
-//! The program `maildropd`: its command line, over the libraries `server`, `simulator` and `service`.
+//! The program `maildropd`: its command line, over the libraries `server`, `simulator`, `service` and `ctl`.
 #![tactic(auto)]
 
 mod arguments;
-mod ctl;
 mod lone;
+mod operator;
 mod serve;
 mod sim;
 
-use crate::ctl::{ctl, run_ctl};
 use crate::lone::{lone, run_lone};
+use crate::operator::{ctl, run_ctl};
 use crate::serve::{run_serve, serve};
 use crate::sim::{run_sim, sim};
 use clap::error::ErrorKind;

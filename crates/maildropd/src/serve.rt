@@ -5,7 +5,8 @@ use crate::arguments::{
     with_options,
 };
 use clap::{ArgMatches, Command, Error};
-use service::{Fault, ServeOptions, serve_run};
+use ports::Fault;
+use service::{ServeOptions, serve_run};
 use std::alloc::Global;
 use std::fs::File;
 use std::io;
@@ -197,7 +198,7 @@ pub(crate) fn run_serve<
         + Eprint,
 >(rt: &R, matches: &ArgMatches<'_>) -> u8 {
     match options_of(matches) {
-        Some(options) => serve_run(*rt, rt.alloc(), &mut io::writer(rt), &options),
+        Some(options) => serve_run(*rt, rt.alloc(), &mut io::writer(rt), &options).status,
         None => {
             let fault = Fault::Value;
             let _untold = eprintln!(rt; "maildropd: {fault}");

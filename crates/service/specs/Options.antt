@@ -2,6 +2,7 @@
 use Rattle.std.specs.Prelude.{◌≡◌, refl, false, ℕ, ◌-◌, ◌^◌, ◌&&◌, ◌||◌, Bool, true, nat_le, Option, None, Some, is_some, is_none, IsTrue}
 use Rattle.maildrop.specs.Limits.{Limits, AreLimits}
 use Rattle.apop.specs.Stamp.{IsHost}
+use Rattle.ports.specs.Ranges.{last_port, is_between, may_be_between}
 use Rattle.service.specs.declared.options.ServeOptions.{ServeOptions}
 
 abbrev pub most_nodes : ℕ
@@ -18,17 +19,6 @@ longest_pause = 1000000
 
 abbrev pub most_delivery_bytes : ℕ
 most_delivery_bytes = 2 ^ 40
-
-abbrev pub last_port : ℕ
-last_port = 65535
-
-abbrev pub is_between : ℕ → ℕ → ℕ → Bool
-is_between low high n = nat_le low n && nat_le n high
-
--- a number that may be left out
-abbrev pub may_be_between : ℕ → ℕ → Option ℕ → Bool
-may_be_between low high None = true
-may_be_between low high (Some n) = is_between low high n
 
 -- The ports of the nodes are those from one above `pop_port` on.
 abbrev pub are_ports : ServeOptions → Bool
@@ -67,15 +57,6 @@ no_node = refl
 
 nine_nodes : is_between 1 most_nodes 9 ≡ true
 nine_nodes = refl
-
-left_out : may_be_between 1 last_port None ≡ true
-left_out = refl
-
-highest_port : may_be_between 1 last_port (Some 65535) ≡ true
-highest_port = refl
-
-no_such_port : may_be_between 1 last_port (Some 65536) ≡ false
-no_such_port = refl
 
 -- port 65535 + 1 of node 1 is none
 no_room_for_nodes : may_be_between 0 (last_port - 1) (Some 65535) ≡ false

@@ -11,7 +11,7 @@ use Rattle.service.specs.declared.verdict.Verdict.{Verdict}
 use Rattle.service.specs.declared.verdict.Verdict.TheVariants.{Legal, NoOrder, WrongAnswer, Memory}
 
 -- This is what `session::serve` leaves of a session over these accounts: for the greeting of some stamp the transcript is one of
--- the session function, and as many bytes as it counts were written, as that function says.
+-- the session function, and it counts some bytes that were written as that function says.
 pub record IsServed (accounts : List Account) (transcript : Transcript Global) : Type 0 where
   pub stamp : Stamp
   pub written : List ℕ

@@ -1,5 +1,7 @@
 -- What is told of a run once it has ended.
-use Rattle.std.specs.Prelude.{◌≡◌, ℕ, List, [], ◌++◌, map, Some, None, true, codes, slice_get}
+use Rattle.std.specs.Prelude.{◌≡◌, ℕ, length, List, [], ◌++◌, map, Some, None, true, codes, slice_get}
+use Rattle.std.specs.List.{filter}
+use mathlib.Core.Logic.{◌⊎◌}
 use Rattle.std.specs.Fmt.{decimal}
 use Rattle.std.specs.declared.alloc.Global.{Global}
 use Rattle.apop.specs.Accounts.{Account, name_of}
@@ -19,6 +21,7 @@ use Rattle.audit.specs.declared.event.Event.{Event}
 use Rattle.cluster.specs.Members.{opening_of}
 use Rattle.cluster.specs.Starts.{all_nodes}
 use Rattle.cluster.specs.declared.setup.Setup.{Setup}
+use Rattle.service.specs.Transcripts.{TranscriptsValue, has_asked, numbered}
 use Rattle.service.specs.declared.verdict.Verdict.{Verdict}
 use Rattle.service.specs.declared.verdict.Verdict.TheVariants.{Legal, NoOrder, WrongAnswer, Memory}
 
@@ -78,20 +81,32 @@ pub record CanServe (accounts : List Account) (setup : Setup) : Type 0 where
   pub names : setup.names ≡ map name_of accounts
   pub fit : is_fit (opening_of setup 1) ≡ true
 
--- there are logs of all nodes of such a service, and transcripts of sessions, that have a legal order
-abbrev pub WasLegal : Config Global → Type 0
-WasLegal config = (logs : List (NodeLog Global)) × (transcripts : List (Transcript Global)) × IsLegal config logs transcripts
+-- The logs of all nodes of such a service and transcripts of sessions, as many as were greeted, have a legal order. Of these
+-- transcripts those of sessions that asked something are kept.
+pub record WasLegal (config : Config Global) (logs : List (NodeLog Global)) (kept : List (Transcript Global)) (greeted : ℕ) : Type 0 where
+  pub transcripts : List (Transcript Global)
+  pub counted : greeted ≡ length transcripts
+  pub asking : kept ≡ filter has_asked transcripts
+  pub legal : IsLegal config logs transcripts
+
+-- It is the verdict on these logs and on what was kept of sessions. A session that it names has its number among all sessions.
+abbrev pub IsJudged : List (NodeLog Global) → TranscriptsValue → Verdict → Type 0
+IsJudged logs transcripts verdict =
+    (verdict ≡ Memory) ⊎ ((found : Verdict) × IsVerdict logs transcripts.kept found × (verdict ≡ numbered transcripts.numbers found))
+
+-- the verdict on a service that has ended, and what was judged
+pub record AuditedValue : Type 0 where
+  pub verdict : Verdict
+  pub logs : List (NodeLog Global)
+  pub transcripts : TranscriptsValue
 
 -- what a service begins with that has so many nodes, this window and these limits, and whose maildrops open empty
-pub record IsConfigFor (nodes slots : ℕ) (limits : Limits) (config : Config Global) : Type 0 where
+pub record IsConfigFor (nodes window : ℕ) (limits : Limits) (config : Config Global) : Type 0 where
   pub cluster : config.cluster ≡ nodes
-  pub window : config.window ≡ slots
+  pub slots : config.window ≡ window
   pub maildrops : config.limits ≡ limits
   pub empty : config.kept ≡ []
 
--- There are logs of all nodes of such a service, and transcripts of sessions, that have a legal order. That is true of an idle
--- service, so this says little by itself: what lies under a lock is known by its type only, and no clause here names what
--- threads left. Which are judged the code shows: `verdict_on` has the logs from `Cluster::stop` and the transcripts from their
--- lock, and `Transcripts::verdict` says of just these that they have a legal order.
-abbrev pub FoundLegal : ℕ → ℕ → Limits → Type 0
-FoundLegal nodes slots limits = (config : Config Global) × IsConfigFor nodes slots limits config × WasLegal config
+-- the same of a service of some accounts that begins so
+abbrev pub FoundLegal : (nodes window : ℕ) → Limits → List (NodeLog Global) → (kept : List (Transcript Global)) → (greeted : ℕ) → Type 0
+FoundLegal nodes window limits logs kept greeted = (config : Config Global) × IsConfigFor nodes window limits config × WasLegal config logs kept greeted

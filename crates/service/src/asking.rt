@@ -1,9 +1,9 @@
 //! Operations that a node is asked for on behalf of a client who may go.
 
 use crate::operator_limits::LOOK_MS;
-use crate::operator_stream::OperatorStream;
 use crate::served_node::ServedNode;
 use maildrop::{Name, Op, Outcome, Ticket};
+use ports::OperatorStream;
 use std::sync::Wait;
 use std::time::Duration;
 

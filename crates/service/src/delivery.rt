@@ -5,14 +5,11 @@ ghost use Rattle.service.specs.Keys.{key_at};
 ghost use Rattle.service.specs.Deliveries as spec;
 
 use crate::asking::{Unanswered, ask};
-use crate::fault::Fault;
-use crate::operator_limits::PIECE;
-use crate::operator_stream::OperatorStream;
-use crate::say::say;
 use crate::served_node::ServedNode;
 use ballot::Memory;
 use maildrop::{Key, Name, Op, Outcome, Text, TextBuilder, next_line};
 use mboxrd::{MboxError, Reader};
+use ports::{Fault, OperatorStream, PIECE, say};
 use script::{KeyPrefix, LAST_MESSAGE, put_outcome};
 use std::alloc::Global;
 use std::io::Read;

@@ -11,13 +11,13 @@ ghost use Rattle.std.specs.Prelude.{◌≡◌, IfOk};
 ghost use Rattle.ballot.specs.Nodes as nodes;
 ghost use Rattle.service.specs.Locks as spec;
 
-use crate::event_log::EventLog;
 use crate::furthest::{furthest_slot, furthest_up};
 use crate::majority::is_majority;
 use crate::served_node::ServedNode;
 use ballot::{Memory, NodeId};
 use indexmap::IndexMap;
 use maildrop::{CommandId, Name, Op, Outcome, Ticket};
+use session_log::EventLog;
 use std::alloc::Global;
 use std::sync::{Mutex, Wait};
 use std::time::{Clock, Duration};

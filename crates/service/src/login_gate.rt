@@ -1,10 +1,9 @@
 //! Holds a session up after a login that was refused.
 
-use crate::session_bounds::REFUSED_LOGIN_SECONDS;
-use crate::session_facts::SessionFacts;
 use crate::state::ServiceState;
 use ballot::NodeId;
 use session::Gate;
+use session_log::{REFUSED_LOGIN_SECONDS, SessionFacts};
 use std::net::SocketAddr;
 use std::sync::{Mutex, Wait};
 use std::thread;

@@ -3,9 +3,9 @@ ghost use Rattle.std.specs.Prelude.{◌≡◌, ◌++◌, IfOk, OnOk};
 ghost use Rattle.std.specs.List.{flat_map};
 ghost use Rattle.service.specs.Maildrops as spec;
 
-use crate::writing::{put, put_labelled, put_number_line};
 use ballot::Memory;
 use maildrop::{Name, Ticket, Usage};
+use session_log::{put, put_labelled, put_number_line};
 use std::alloc::Global;
 
 /// Adds the line of a lock: its user, and the node and the number of the Take that holds it.

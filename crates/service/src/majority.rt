@@ -2,10 +2,9 @@
 ghost use Rattle.std.specs.Prelude.{◌≡◌};
 ghost use Rattle.service.specs.Majorities as spec;
 
-use crate::fault::Fault;
 use crate::served_node::ServedNode;
 use crate::state::ServiceState;
-use crate::worker::STACK;
+use ports::{Fault, STACK};
 use std::sync::{Arc, Wait};
 use std::thread::{Builder, JoinHandle, Threads};
 use std::time::{Clock, Duration, Instant};

@@ -3,29 +3,25 @@ ghost use Rattle.std.specs.Prelude.{◌≤◌, IfSome};
 ghost use Rattle.script.specs.Requests.{longest_request};
 
 use crate::asking::{Absence, Unanswered, ask};
-use crate::connection::Connection;
 use crate::delivery::{Delivered, Delivery, message_in, texts_in};
-use crate::delivery_budget::DeliveryBudget;
-use crate::fault::Fault;
 use crate::furthest::{furthest_slot, furthest_up};
-use crate::handler::Handler;
 use crate::maildrop_lines::{lock_lines, user_lines};
 use crate::operator_limits::{
-    BRIEF_LINE_MS, BROKEN_LOOK_MS, CUT_MS, LINE_MS, LONGEST_PAUSE_MS, LOOK_MS, MOST_BROKEN_LOOKS,
+    BRIEF_LINE_MS, BROKEN_LOOK_MS, CUT_MS, LINE_MS, LOOK_MS, MOST_BROKEN_LOOKS,
 };
-use crate::operator_reader::OperatorReader;
-use crate::operator_stream::OperatorStream;
 use crate::pop::node_for;
-use crate::request_places::RequestPlaces;
-use crate::requests::awaits_nodes;
-use crate::say::say;
 use crate::served_node::ServedNode;
 use crate::standing::put_standing;
 use crate::state::ServiceState;
-use crate::writing::{put, put_number_line};
 use ballot::{Memory, NodeId};
+use ctl::awaits_nodes;
 use maildrop::{Key, Name, Op, Outcome};
+use ports::{
+    Connection, DeliveryBudget, Fault, Handler, LONGEST_PAUSE_MS, OperatorReader, OperatorStream,
+    RequestPlaces, say,
+};
 use script::{KeyPrefix, LONGEST_REQUEST, Request, parse_request};
+use session_log::{put, put_number_line};
 use std::alloc::Global;
 use std::io::Read;
 use std::net::{Shutdown, SocketAddr};

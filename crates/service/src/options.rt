@@ -1,12 +1,13 @@
 //! What a service is started with.
 ghost use Rattle.std.specs.Prelude.{◌≡◌, ◌≤◌, ◌↔◌, IfOk, IfSome, IsErrOf};
+ghost use Rattle.ports.specs.Ranges as ranges;
 ghost use Rattle.service.specs.Options as spec;
 
-use crate::fault::Fault;
 use apop::stamp;
 use ballot::{Cluster, Items, LAST_NODE};
 use maildrop::Limits;
 use node::WIDEST_WINDOW;
+use ports::Fault;
 use std::alloc::Global;
 use std::net::IpAddr;
 
@@ -95,14 +96,14 @@ pub(crate) struct Settings {
 }
 
 fn is_between(low: u64, high: u64, number: u64) -> bool
-    ensures { result ≡ spec.is_between low high number }
+    ensures { result ≡ ranges.is_between low high number }
 {
     low <= number && number <= high
 }
 
 /// Whether a number that may be left out is in its range.
 fn may_be_between(low: u64, high: u64, number: Option<u64>) -> bool
-    ensures { result ≡ spec.may_be_between low high number }
+    ensures { result ≡ ranges.may_be_between low high number }
 {
     match number {
         None => true,

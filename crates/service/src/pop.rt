@@ -1,21 +1,19 @@
 //! POP3 connections.
 
-use crate::bounded_reader::BoundedReader;
 use crate::brand::Service;
-use crate::handler::Handler;
 use crate::login_gate::LoginGate;
-use crate::open_sessions::OpenSession;
-use crate::reply_writer::ReplyWriter;
 use crate::served_node::ServedNode;
 use crate::served_sessions::ServedSessions;
-use crate::session_bounds::WRITE_SECONDS;
-use crate::session_desk::SessionDesk;
-use crate::session_facts::{SessionFacts, SharedFacts, ending_of};
 use crate::state::ServiceState;
 use apop::Stamp;
 use ballot::{Memory, NodeId};
 use maildrop::{Op, Outcome};
+use ports::Handler;
 use session::{Desk, End};
+use session_log::{
+    BoundedReader, OpenSession, ReplyWriter, SessionDesk, SessionFacts, SharedFacts, WRITE_SECONDS,
+    ending_of,
+};
 use std::alloc::Global;
 use std::io::BufWriter;
 use std::net::{SocketAddr, TcpStream};

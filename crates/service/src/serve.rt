@@ -1,9 +1,10 @@
 //! `maildropd serve`: nodes, sessions and an operator's port in one process.
-ghost use Rattle.std.specs.Prelude.{◌≡◌, ◌≤◌, ◌++◌, ◌∷◌, [], ◌⊎◌, Ok, Some, IsTrue, IsErrOf, IfOk, IfErr, OnOk, map};
+ghost use Rattle.std.specs.Prelude.{◌≡◌, ◌≤◌, ◌<◌, ◌++◌, ◌∷◌, [], ◌⊎◌, Ok, Some, IsTrue, IsErrOf, IfOk, IfErr, OnOk, map};
 ghost use Rattle.std.specs.Arc.{arc_value};
 ghost use Rattle.std.specs.Io.KnownBytes.{Appends};
 ghost use Rattle.service.specs.Options as spec;
 ghost use Rattle.service.specs.Faults as faults;
+ghost use Rattle.ports.specs.Faults.{status_at};
 ghost use Rattle.service.specs.Verdicts as verdicts;
 ghost use Rattle.service.specs.Verdicts.{CanServe, FoundLegal, WasLegal, config_of};
 ghost use Rattle.service.specs.declared.verdict.Verdict.TheVariants.{Legal};
@@ -12,29 +13,29 @@ ghost use Rattle.apop.specs.Accounts.{name_of};
 ghost use Rattle.cluster.specs.Starts.{all_nodes};
 ghost use Rattle.maildrop.specs.Name.{are_different};
 
+use crate::audited::{Audited, Left, left_by};
 use crate::brand::Service;
-use crate::event_log::EventLog;
-use crate::fault::Fault;
-use crate::file::read_file;
-use crate::operator_socket::remove_socket;
 use crate::options::{ServeOptions, Settings, settings_of};
-use crate::say::say;
 use crate::served_sessions::ServedSessions;
+use crate::service_nodes::ServiceNodes;
 use crate::state::ServiceState;
-use crate::system::System;
 use crate::threads;
 use crate::threads::{Ports, ServiceThreads, join_all};
 use crate::verdict::Verdict;
 use apop::{Accounts, AccountsError};
 use ballot::{Items, NodeId};
-use cluster::{Cluster, Deployment, Ended, InboxLink, NodeDesk, Setup, StartError};
+use cluster::Setup;
 use maildrop::{Kept, Shared};
+use node::NodeLog;
+use ports::{Fault, System, read_file, remove_socket, say};
+use session::Transcript;
+use session_log::EventLog;
 use std::alloc::Global;
 use std::fs::File;
 use std::io::{Eprint, Write};
 use std::marker::Brand;
 use std::rt::Files;
-use std::sync::ledger::Blank;
+use std::sync::ledger::{Blank, Share};
 use std::sync::{Arc, Wait};
 use std::thread::JoinHandle;
 use std::time::Clock;
@@ -94,27 +95,18 @@ fn setup_of(alloc: Global, settings: &Settings, accounts: &Accounts) -> Result<S
     })
 }
 
-/// The desks of all nodes.
-fn desks_of<D: Deployment + Send + Sync + 'static, R: System>(
-    alloc: Global,
-    cluster: &Cluster<D, R, InboxLink<R>>,
-    settings: &Settings,
-) -> Result<Vec<NodeDesk<D, R, InboxLink<R>>>, Fault> {
-    let mut desks = Vec::new(alloc);
-    for number in 1..=settings.cluster.get() {
-        if let Some(node) = NodeId::new(number) {
-            if let Some(desk) = cluster.desk(node)? {
-                desks.push(desk)?;
-            }
-        }
-    }
-    Ok(desks)
+/// How a service has ended.
+#[derive(Drop)]
+struct RunEnd {
+    left: Left,
+    /// Why it ended, unless an operator stopped it.
+    fault: Option<Fault>,
 }
 
-/// How a service has ended.
-#[derive(Clone, Copy, Debug, PartialEq, Eq)]
-struct RunEnd {
-    verdict: Verdict,
+/// How a service has ended, as far as its nodes ran. Its sessions are judged with its nodes.
+#[derive(Drop)]
+struct ClusterEnd<D: Service> {
+    audited: Option<Audited<D>>,
     /// Why it ended, unless an operator stopped it.
     fault: Option<Fault>,
 }
@@ -128,47 +120,41 @@ fn serve_cluster<D: Service + Send + Sync + 'static, R: System>(
     ports: &Ports,
     state: &Arc<ServiceState>,
     sessions: &Arc<ServedSessions<D>>,
-) -> Result<RunEnd, Fault>
+    part: Share<D>,
+) -> Result<ClusterEnd<D>, Fault>
     requires deployment { setup.now ≡ D.setup }
     requires names { setup.now.names ≡ map name_of D.accounts }
     requires different { IsTrue (are_different setup.now.names) }
     requires some { 1 ≤ setup.now.cluster }
-    ensures { IfOk result (λ end. end.verdict ≡ Legal → WasLegal (config_of D.accounts D.setup)) }
+    requires part { 0 < part.parts }
 {
-    let cluster = match Cluster::<D, R, InboxLink<R>>::start(rt, alloc, setup) {
-        Ok(cluster) => cluster,
-        Err(StartError::Setup) => return Err(Fault::Value),
-        Err(_) => return Err(Fault::Memory),
-    };
-    let desks = Arc::new(alloc, desks_of(alloc, &cluster, settings)?)?;
+    let service_nodes = ServiceNodes::start(rt, alloc, setup, part)?;
+    let desks = Arc::new(alloc, service_nodes.desks(alloc, settings.cluster)?)?;
     if let Some(leader) = NodeId::new(FIRST_LEADER) {
-        cluster.campaign(leader);
+        service_nodes.campaign(leader);
     }
     let (threads, started) = threads::start(rt, alloc, &desks, ports, state, sessions, settings);
-    let verdict = verdict_at_end(rt, alloc, cluster, threads, ports, state, sessions);
+    let audited = audit_at_end(rt, alloc, service_nodes, threads, ports, state, sessions);
     started?;
     let fault = if state.stages().lacks_majority(&rt) {
         Some(Fault::NoMajority)
     } else {
         None
     };
-    Ok(RunEnd { verdict, fault })
+    Ok(ClusterEnd { audited, fault })
 }
 
-/// Waits until the service has ended, and returns the verdict on all that was done. Operators who wait for the verdict are
-/// told it.
-fn verdict_at_end<D: Service + Send + Sync + 'static, R: System>(
+/// Waits until the service has ended, and audits all that was done. Operators who wait for the verdict are told it.
+fn audit_at_end<D: Service + Send + Sync + 'static, R: System>(
     rt: R,
     alloc: Global,
-    cluster: Cluster<D, R, InboxLink<R>>,
+    service_nodes: ServiceNodes<D, R>,
     threads: ServiceThreads,
     ports: &Ports,
     state: &ServiceState,
     served: &ServedSessions<D>,
-) -> Verdict
-    requires service { CanServe D.accounts D.setup }
-    requires nodes { cluster ≡ all_nodes D.setup.cluster }
-    ensures { result ≡ Legal → WasLegal (config_of D.accounts D.setup) }
+) -> Option<Audited<D>>
+    requires { CanServe D.accounts D.setup }
 {
     let ServiceThreads {
         sessions,
@@ -176,32 +162,25 @@ fn verdict_at_end<D: Service + Send + Sync + 'static, R: System>(
         operators,
     } = threads;
     end_sessions(&rt, sessions, nodes, ports, state);
-    let verdict = verdict_on(&rt, alloc, cluster, served);
-    state.verdicts().announce(&rt, &verdict);
+    let audited = audit_all(&rt, alloc, service_nodes, served);
+    state.verdicts().announce(&rt, &audited);
     join_all(&rt, operators);
-    verdict
+    audited
 }
 
-/// Stops the nodes of a service whose sessions have ended, and returns the verdict on all that was done. It is `Memory` if a
-/// node left no log, or the transcript of a session is missing.
-fn verdict_on<D: Service + Send + Sync + 'static, R: System>(
+/// Stops the nodes of a service whose sessions have ended, and audits all that was done. `None` if a node left no log, or the
+/// transcripts are gone.
+fn audit_all<D: Service + Send + Sync + 'static, R: System>(
     rt: &R,
     alloc: Global,
-    cluster: Cluster<D, R, InboxLink<R>>,
+    service_nodes: ServiceNodes<D, R>,
     served: &ServedSessions<D>,
-) -> Verdict
-    requires service { CanServe D.accounts D.setup }
-    requires nodes { cluster ≡ all_nodes D.setup.cluster }
-    ensures { result ≡ Legal → WasLegal (config_of D.accounts D.setup) }
+) -> Option<Audited<D>>
+    requires { CanServe D.accounts D.setup }
 {
-    let Some(Ended { logs, kept }) = cluster.stop() else {
-        return Verdict::Memory;
-    };
-    drop(kept);
-    match served.take(rt) {
-        Some(transcripts) => transcripts.verdict(alloc, &logs),
-        None => Verdict::Memory,
-    }
+    let logs = service_nodes.stop()?;
+    let transcripts = served.take(rt)?;
+    Some(Audited::new(alloc, logs, transcripts))
 }
 
 /// Waits until the service stops and its sessions have ended. Then no operator comes any more, and the nodes need no more
@@ -260,20 +239,24 @@ fn run_service<D: Service + Send + Sync + 'static, R: System + Files<File = File
     requires names { setup.now.names ≡ map name_of D.accounts }
     requires different { IsTrue (are_different setup.now.names) }
     requires some { 1 ≤ setup.now.cluster }
-    ensures { IfOk result (λ end. end.verdict ≡ Legal → WasLegal (config_of D.accounts D.setup)) }
+    requires one { book.parts ≡ 1 }
+    ensures { IfOk result (λ end. end.left.verdict ≡ Legal
+        → WasLegal (config_of D.accounts D.setup) end.left.logs.items end.left.transcripts.items end.left.greeted) }
 {
     let state = state_of(&rt, alloc, options, settings, &accounts)?;
-    let (book, _) = book.open::<D>();
+    let (book, part) = book.open::<D>();
     let sessions = Arc::new(alloc, ServedSessions::new(alloc, accounts, book))?;
     let ports = Ports::open(&rt, alloc, settings, options.ctl_socket)?;
-    let end = serve_cluster::<D, R>(rt, alloc, setup, settings, &ports, &state, &sessions);
+    let end = serve_cluster::<D, R>(rt, alloc, setup, settings, &ports, &state, &sessions, part);
     if let Some(path) = options.ctl_socket {
         remove_socket(&rt, path);
     }
     if let Err(fault) = &end {
         note_fault(&rt, alloc, state.log(), *fault);
     }
-    end
+    let ClusterEnd { audited, fault } = end?;
+    let left = left_by(alloc, audited);
+    Ok(RunEnd { left, fault })
 }
 
 /// Runs a service with these settings.
@@ -283,7 +266,8 @@ fn run_with<R: System + Files<File = File>>(
     options: &ServeOptions<'_>,
     settings: &Settings,
 ) -> Result<RunEnd, Fault>
-    ensures { IfOk result (λ end. end.verdict ≡ Legal → FoundLegal settings.now.cluster settings.now.window settings.now.limits) }
+    ensures { IfOk result (λ end. end.left.verdict ≡ Legal → FoundLegal settings.now.cluster settings.now.window settings.now.limits
+        end.left.logs.items end.left.transcripts.items end.left.greeted) }
 {
     let accounts = accounts_of(&rt, alloc, options.accounts)?;
     let setup = setup_of(alloc, settings, &accounts)?;
@@ -298,7 +282,8 @@ fn run<R: System + Files<File = File>>(
     options: &ServeOptions<'_>,
 ) -> Result<RunEnd, Fault>
     ensures values { (¬ spec.AreGood options.now) → IsErrOf result Fault.Value }
-    ensures legal { IfOk result (λ end. end.verdict ≡ Legal → FoundLegal options.now.nodes options.now.window (spec.limits_of options.now)) }
+    ensures legal { IfOk result (λ end. end.left.verdict ≡ Legal → FoundLegal options.now.nodes options.now.window (spec.limits_of options.now)
+        end.left.logs.items end.left.transcripts.items end.left.greeted) }
 {
     match settings_of(alloc, options) {
         Ok(settings) => run_with(rt, alloc, options, &settings),
@@ -318,44 +303,86 @@ fn tell<W: Write>(alloc: Global, writer: &mut W, verdict: &Verdict) -> Result<u8
 
 /// Reports how a service has ended: writes the line of its verdict, and returns the exit status, or why it ended.
 fn report<W: Write>(alloc: Global, writer: &mut W, end: &RunEnd) -> Result<u8, Fault>
-    ensures status { IfOk result (λ status. status ≡ verdicts.status_of end.now.verdict) }
-    ensures written { OnOk result (Appends (W.contents writer.old) (W.contents writer.new) (verdicts.text_of end.now.verdict ++ 10 ∷ [])) }
+    ensures status { IfOk result (λ status. status ≡ verdicts.status_of end.now.left.verdict) }
+    ensures written { OnOk result (Appends (W.contents writer.old) (W.contents writer.new) (verdicts.text_of end.now.left.verdict ++ 10 ∷ [])) }
 {
-    let told = tell(alloc, writer, &end.verdict);
+    let told = tell(alloc, writer, &end.left.verdict);
     match end.fault {
         None => told,
         Some(fault) => Err(fault),
     }
 }
 
+/// What a service that has ended leaves.
+#[derive(Drop)]
+pub struct ServiceEnd {
+    /// The exit status, 0 to 2.
+    pub status: u8,
+    /// The logs of all nodes, in the order of their numbers. Empty without an audit, and after a fault.
+    pub logs: Vec<NodeLog>,
+    /// The transcripts of sessions that asked a node for something, in the order in which they ended. Empty without an
+    /// audit, and after a fault.
+    pub transcripts: Vec<Transcript>,
+    /// How many sessions were greeted. 0 without an audit, and after a fault.
+    pub greeted: usize,
+}
+
+/// Writes the verdict on a service that has ended, or reports why it ended on standard error.
+fn tell_end<R: Eprint, W: Write>(rt: &R, alloc: Global, writer: &mut W, end: RunEnd) -> ServiceEnd
+    ensures statuses { result.status ≤ 2 }
+    ensures legal { result.status ≡ 0 → end.left.verdict ≡ Legal }
+    ensures told { result.status ≡ 0 → Appends (W.contents writer.old) (W.contents writer.new) (verdicts.text_of Legal ++ 10 ∷ []) }
+    ensures logs { result.status ≡ 0 → result.logs.items ≡ end.left.logs.items }
+    ensures transcripts { result.status ≡ 0 → result.transcripts.items ≡ end.left.transcripts.items }
+    ensures greeted { result.status ≡ 0 → result.greeted ≡ end.left.greeted }
+{
+    match report(alloc, writer, &end) {
+        Ok(status) => ServiceEnd {
+            status,
+            logs: end.left.logs,
+            transcripts: end.left.transcripts,
+            greeted: end.left.greeted,
+        },
+        Err(fault) => fail(rt, alloc, fault),
+    }
+}
+
+/// Reports a fault on standard error.
+fn fail<R: Eprint>(rt: &R, alloc: Global, fault: Fault) -> ServiceEnd
+    ensures { result.status ≡ status_at fault }
+{
+    let _untold = eprintln!(rt; "maildropd: {fault}");
+    ServiceEnd {
+        status: fault.status(),
+        logs: Vec::new(alloc),
+        transcripts: Vec::new(alloc),
+        greeted: 0,
+    }
+}
+
 /// Serves POP3 (RFC 1939) at a port of each node, and an operator's requests at a port of their own, until an operator
 /// stops it: then no connection is taken any more, the sessions go on to their ends, the nodes stop, and what an audit
-/// says of all that they did is written. Returns the exit status: 0 if that is `audit ok`, 1 if it is something else
-/// and after a fault of memory, reading, writing or the network, 2 for options or an accounts file that are none. A fault
-/// is reported on standard error.
+/// says of all that they did is written. Returns what the service leaves, with the exit status: 0 if that is `audit ok`, 1 if
+/// it is something else and after a fault of memory, reading, writing or the network, 2 for options or an accounts file that
+/// are none. A fault is reported on standard error.
 pub fn serve_run<R: System + Files<File = File> + Eprint, W: Write>(
     rt: R,
     alloc: Global,
     writer: &mut W,
     options: &ServeOptions<'_>,
-) -> u8
-    ensures values { (¬ spec.AreGood options.now) → result ≡ 2 }
-    ensures statuses { result ≤ 2 }
+) -> ServiceEnd
+    ensures values { (¬ spec.AreGood options.now) → result.status ≡ 2 }
+    ensures statuses { result.status ≤ 2 }
 
     // The status 0 comes only after the line which reports that an audit found all in order.
-    ensures told { result ≡ 0 → Appends (W.contents writer.old) (W.contents writer.new) (verdicts.text_of Legal ++ 10 ∷ []) }
+    ensures told { result.status ≡ 0 → Appends (W.contents writer.old) (W.contents writer.new) (verdicts.text_of Legal ++ 10 ∷ []) }
 
-    // There are logs of all nodes, and transcripts of sessions, that have a legal order. Those that were audited have one, by
-    // `Transcripts::verdict`.
-    ensures legal { result ≡ 0 → FoundLegal options.now.nodes options.now.window (spec.limits_of options.now) }
+    // The logs, one of each node, and the transcripts, with those of sessions that asked nothing, have a legal order.
+    ensures legal { result.status ≡ 0 → FoundLegal options.now.nodes options.now.window (spec.limits_of options.now)
+        result.logs.items result.transcripts.items result.greeted }
 {
-    let fault = match run(rt, alloc, options) {
-        Ok(end) => match report(alloc, writer, &end) {
-            Ok(status) => return status,
-            Err(fault) => fault,
-        },
-        Err(fault) => fault,
-    };
-    let _untold = eprintln!(&rt; "maildropd: {fault}");
-    fault.status()
+    match run(rt, alloc, options) {
+        Ok(end) => tell_end(&rt, alloc, writer, end),
+        Err(fault) => fail(&rt, alloc, fault),
+    }
 }

@@ -1,13 +1,12 @@
 //! What the sessions of a service are served over, and what they leave.
 ghost use Rattle.std.specs.Prelude.{◌≡◌};
 ghost use Rattle.std.specs.Arc.{arc_value};
-ghost use Rattle.service.specs.Transcripts.{IsServed};
 
 use crate::brand::Service;
-use crate::transcripts::{Greeted, Transcripts};
+use crate::transcripts::{Greeted, Served, Transcripts};
 use apop::{Accounts, Stamp};
 use maildrop::{Op, Outcome};
-use session::{Desk, End, Gate, Transcript, serve};
+use session::{Desk, End, Gate};
 use std::alloc::Global;
 use std::io::{Read, Write};
 use std::marker::Model;
@@ -60,7 +59,7 @@ impl<D: Service> ServedSessions<D> {
         gate: &mut G,
     ) -> Option<End> {
         let greeted = self.greet(rt)?;
-        let transcript = serve(
+        let served = greeted.serve(
             self.alloc,
             reader,
             writer,
@@ -69,13 +68,13 @@ impl<D: Service> ServedSessions<D> {
             desk,
             gate,
         );
-        let end = transcript.end;
-        self.keep(rt, greeted, transcript);
+        let end = served.end();
+        self.keep(rt, served);
         Some(end)
     }
 
     /// A client is greeted, unless the service has ended.
-    fn greet<T: Wait>(&self, rt: &T) -> Option<Greeted> {
+    fn greet<T: Wait>(&self, rt: &T) -> Option<Greeted<D>> {
         match &mut *self.transcripts.lock(rt) {
             Some(transcripts) => Some(transcripts.greet()),
             None => None,
@@ -83,12 +82,10 @@ impl<D: Service> ServedSessions<D> {
     }
 
     /// Keeps what the session of such a client left.
-    fn keep<T: Wait>(&self, rt: &T, greeted: Greeted, transcript: Transcript)
-        requires { IsServed D.accounts transcript }
-    {
+    fn keep<T: Wait>(&self, rt: &T, served: Served<D>) {
         match &mut *self.transcripts.lock(rt) {
-            Some(transcripts) => transcripts.add(greeted, transcript),
-            None => greeted.lose(),
+            Some(transcripts) => transcripts.add(served),
+            None => served.lose(),
         }
     }
 

@@ -2,9 +2,9 @@
 ghost use Rattle.std.specs.Prelude.{◌≡◌, ◌++◌, OnOk};
 ghost use Rattle.service.specs.Standings as spec;
 
-use crate::writing::{put, put_labelled, put_number_line};
 use ballot::{Memory, NodeId};
 use cluster::Status;
+use session_log::{put, put_labelled, put_number_line};
 
 /// Adds the line that reports the state of a node.
 pub(crate) fn put_standing(

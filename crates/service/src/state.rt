@@ -2,15 +2,13 @@
 ghost use Rattle.std.specs.Prelude.{◌≡◌, IfOk};
 ghost use Rattle.pop3_wire.specs.Reply.{invalid_login};
 
-use crate::counters::Counters;
-use crate::event_log::EventLog;
 use crate::lock_breaker::LockBreaker;
-use crate::open_sessions::OpenSessions;
-use crate::stages::Stages;
 use crate::verdicts::Verdicts;
 use apop::{Accounts, Stamp, stamp};
 use ballot::{Items, Memory};
 use pop3_wire::Reply;
+use ports::{Opening, Stages};
+use session_log::{Counters, EventLog, OpenSessions};
 use std::alloc::Global;
 use std::random::RandomSource;
 use std::sync::{Arc, Mutex, Wait};
@@ -149,5 +147,11 @@ impl ServiceState {
         let number = last_number.wrapping_add(1);
         *last_number = number;
         number
+    }
+}
+
+impl Opening for ServiceState {
+    fn wait_for_begin<R: Wait>(&self, rt: &R) {
+        self.stages.wait_for_begin(rt);
     }
 }

@@ -3,20 +3,19 @@ ghost use Rattle.std.specs.Prelude.{◌≡◌, Some, IfErr};
 ghost use Rattle.service.specs.Faults.{IsFaultAt, IsPopFault, IsPortFault};
 
 use crate::brand::Service;
-use crate::fault::Fault;
-use crate::handler::Handler;
-use crate::listener::{Port, listen_at, start_reserve, start_serving, start_taking};
 use crate::operator::OperatorHandler;
-use crate::operator_stream::{OperatorListener, OperatorStream};
 use crate::options::Settings;
 use crate::pop::PopHandler;
 use crate::served_node::ServedNode;
 use crate::served_sessions::ServedSessions;
 use crate::state::ServiceState;
-use crate::system::System;
 use crate::{majority, ticker};
 use ballot::NodeId;
 use maildrop::{Op, Outcome};
+use ports::{
+    Fault, Handler, OperatorListener, OperatorStream, Port, System, listen_at, start_reserve,
+    start_serving, start_taking,
+};
 use session::Desk;
 use std::alloc::Global;
 use std::net::{IpAddr, TcpListener, TcpStream};

@@ -1,10 +1,10 @@
 //! The time of the nodes.
 
-use crate::fault::Fault;
 use crate::majority::is_majority;
 use crate::served_node::ServedNode;
 use crate::state::ServiceState;
 use cluster::Patience;
+use ports::Fault;
 use std::alloc::Global;
 use std::sync::{Arc, Wait};
 use std::thread;

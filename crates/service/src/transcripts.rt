@@ -1,33 +1,88 @@
 //! The transcripts of a service's sessions, as they lie under their lock.
-ghost use Rattle.std.specs.Prelude.{◌≡◌, ◌+◌, ◌++◌, ◌∷◌, [], List, map, true, false, length, OnOk};
-ghost use Rattle.std.specs.List.{All};
+ghost use Rattle.std.specs.Prelude.{◌≡◌, ◌+◌, ◌++◌, ◌∷◌, [], List, true, false};
 ghost use Rattle.std.specs.declared.alloc.Global.{Global};
 ghost use Rattle.session.specs.declared.transcript.Transcript.{Transcript};
-ghost use Rattle.cluster.specs.Members.{IsLogOf};
-ghost use Rattle.cluster.specs.Starts.{all_nodes};
+ghost use Rattle.session.specs.Serve.{IsReadAndWritten};
+ghost use Rattle.session.specs.Transcript.{IsHistory};
 ghost use Rattle.service.specs.Transcripts as spec;
-ghost use Rattle.service.specs.Transcripts.{AreEnded, IsServed, WereServed};
-ghost use Rattle.service.specs.Verdicts.{CanServe, IsLegal, WasLegal, config_of};
+ghost use Rattle.service.specs.Transcripts.{AreEnded, WereServed};
+ghost use Rattle.service.specs.Verdicts.{CanServe, IsJudged, IsLegal, WasLegal, config_of};
 ghost use Rattle.service.specs.declared.verdict.Verdict.TheVariants.{Legal};
 
 use crate::brand::Service;
+use crate::service_nodes::ServiceLogs;
 use crate::verdict::{Verdict, verdict_of};
-use node::NodeLog;
-use session::Transcript;
+use apop::{Accounts, Stamp};
+use maildrop::{Op, Outcome};
+use session::{Desk, End, Gate, Transcript, serve};
 use std::alloc::Global;
-use std::marker::Model;
+use std::io::{Read, Write};
+use std::marker::{Model, PhantomData};
 use std::sync::ledger::Book;
 
-/// A session that was greeted and whose transcript is still to come. It can't be
-/// dropped: `Transcripts::add` takes it, or `lose` once the service has ended.
-pub(crate) struct Greeted {
-    counted: (),
+/// A client that was greeted. It can't be dropped: `serve` takes it.
+pub(crate) struct Greeted<D: Service> {
+    of: PhantomData<D>,
 }
 
-impl Greeted {
-    /// Its transcript comes too late: the service has ended.
+impl<D: Service> Greeted<D> {
+    /// Serves the client's session to its end.
+    pub(crate) fn serve<R: Read, W: Write, N: Desk<Op, Outcome>, G: Gate>(
+        self,
+        alloc: Global,
+        reader: &mut R,
+        writer: &mut W,
+        accounts: &Accounts,
+        stamp: Stamp,
+        desk: &mut N,
+        gate: &mut G,
+    ) -> Served<D>
+        requires { accounts.now ≡ D.accounts }
+        ensures bytes { IsReadAndWritten D.accounts stamp result
+            (R.remaining reader.old) (R.remaining reader.new) (W.contents writer.old) (W.contents writer.new) }
+        ensures desk { IsHistory N.gives desk.old result.asked desk.new }
+    {
+        let Greeted { of: _ } = self;
+        Served {
+            transcript: serve(alloc, reader, writer, accounts, stamp, desk, gate),
+            of: PhantomData,
+        }
+    }
+}
+
+/// What the session of a client that was greeted has left. It can't be dropped: `Transcripts::add` takes it, or `lose` once
+/// the service has ended.
+pub(crate) struct Served<D: Service> {
+    transcript: Transcript,
+    of: PhantomData<D>,
+}
+
+impl<D: Service> Model for Served<D> {
+    ghost use Rattle.std.specs.declared.alloc.Global.{Global};
+    ghost use Rattle.session.specs.declared.transcript.Transcript.{Transcript};
+    ghost use Rattle.service.specs.Transcripts.{IsServed};
+
+    ghost Value = { Transcript Global };
+
+    ghost view = { λ s. s.transcript };
+
+    ghost invariant = { λ s. IsServed D.accounts s.transcript };
+}
+
+impl<D: Service> Served<D> {
+    /// How the session ended.
+    pub(crate) fn end(&self) -> End
+        ensures { result ≡ self.now.end }
+    {
+        self.transcript.end
+    }
+
+    /// It comes too late: the service has ended.
     pub(crate) fn lose(self) {
-        let Greeted { counted: () } = self;
+        let Served {
+            transcript: _,
+            of: _,
+        } = self;
     }
 }
 
@@ -76,22 +131,21 @@ impl<D: Service> Transcripts<D> {
     }
 
     /// A session is greeted.
-    pub(crate) fn greet(&mut self) -> Greeted
+    pub(crate) fn greet(&mut self) -> Greeted<D>
         ensures greeted { self.new.is_short ≡ false → self.new.greeted ≡ self.old.greeted + 1 }
         ensures ended { (all : List (Transcript Global)) → AreEnded self.old all → AreEnded self.new all }
     {
         let is_counted = count_one(&mut self.greeted);
         self.is_short = self.is_short | !is_counted;
-        Greeted { counted: () }
+        Greeted { of: PhantomData }
     }
 
-    /// A session that was greeted has ended, and left this transcript.
-    pub(crate) fn add(&mut self, greeted: Greeted, transcript: Transcript)
-        requires { IsServed D.accounts transcript }
-        ensures ended { (all : List (Transcript Global)) → AreEnded self.old all → AreEnded self.new (all ++ transcript ∷ []) }
+    /// The session of a client that was greeted has ended.
+    pub(crate) fn add(&mut self, served: Served<D>)
+        ensures ended { (all : List (Transcript Global)) → AreEnded self.old all → AreEnded self.new (all ++ served ∷ []) }
         ensures greeted { self.new.greeted ≡ self.old.greeted }
     {
-        let Greeted { counted: () } = greeted;
+        let Served { transcript, of: _ } = served;
         let is_added = add_to(
             &mut self.kept,
             &mut self.numbers,
@@ -103,20 +157,35 @@ impl<D: Service> Transcripts<D> {
 
     /// What an audit says of all that the service's nodes and sessions did, by the logs of all nodes. `Memory` if the transcript
     /// of a session that was greeted is missing.
-    pub(crate) fn verdict(&self, alloc: Global, logs: &[NodeLog]) -> Verdict
-        requires service { CanServe D.accounts D.setup }
-        requires nodes { map (λ log. log.opening.me) logs.now ≡ all_nodes D.setup.cluster }
-        requires began { All (λ log. IsLogOf D.setup log.opening.me log) logs.now }
-        ensures counted { result ≡ Legal → self.now.ended ≡ self.now.greeted }
+    pub(crate) fn verdict(&self, alloc: Global, logs: &ServiceLogs<D>) -> Verdict
+        requires { CanServe D.accounts D.setup }
+        ensures judged { IsJudged logs.now self.now result }
+        ensures whole { result ≡ Legal → (self.now.is_short ≡ false) × (self.now.ended ≡ self.now.greeted) }
         ensures legal { result ≡ Legal → (all : List (Transcript Global)) → AreEnded self.now all → WereServed D.accounts all
             → IsLegal (config_of D.accounts D.setup) logs.now all }
-        ensures found { result ≡ Legal → WasLegal (config_of D.accounts D.setup) }
+        ensures found { result ≡ Legal → WasLegal (config_of D.accounts D.setup) logs.now self.now.kept self.now.greeted }
     {
         if self.is_short || self.ended != self.greeted {
             return Verdict::Memory;
         }
-        let verdict = verdict_of(alloc, logs, self.kept.as_slice());
+        let verdict = verdict_of(alloc, logs.get(), self.kept.as_slice());
         numbered(&self.numbers, verdict)
+    }
+
+    /// The transcripts of sessions that asked something, and how many sessions were greeted.
+    pub(crate) fn into_parts(self) -> (Vec<Transcript>, usize)
+        ensures kept { result.0.items ≡ self.kept }
+        ensures greeted { result.1 ≡ self.greeted }
+    {
+        let Transcripts {
+            kept,
+            numbers: _,
+            greeted,
+            ended: _,
+            is_short: _,
+            book: _,
+        } = self;
+        (kept, greeted)
     }
 }
 

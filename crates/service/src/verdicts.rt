@@ -1,5 +1,7 @@
 //! The verdict on a run, for the operators who wait for it.
 
+use crate::audited::{Audited, verdict_in};
+use crate::brand::Service;
 use crate::verdict::Verdict;
 use std::sync::{Condvar, Mutex, Wait};
 
@@ -19,9 +21,9 @@ impl Verdicts {
         }
     }
 
-    /// Reports the verdict to all who wait for it.
-    pub(crate) fn announce<R: Wait>(&self, rt: &R, verdict: &Verdict) {
-        *self.verdict.lock(rt) = Some(*verdict);
+    /// Reports the verdict on a service to all who wait for it.
+    pub(crate) fn announce<D: Service, R: Wait>(&self, rt: &R, audited: &Option<Audited<D>>) {
+        *self.verdict.lock(rt) = Some(verdict_in(audited));
         self.changes.notify_all();
     }
 

@@ -7,7 +7,7 @@ use crate::running::{
     Running, Told, at_port, at_socket, ctl_with, file, remove, run, start, start_planned,
     with_few_bytes,
 };
-use service::CtlOptions;
+use ctl::CtlOptions;
 use std::alloc::Global;
 use std::io::Eprint;
 use std::net::{Net, TcpListener, TcpStream};

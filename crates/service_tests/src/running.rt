@@ -1,7 +1,8 @@
 //! Services that run while a test looks on.
 
 use crate::clients::{PATIENCE, local};
-use service::{CtlOptions, ServeOptions, ctl_run, serve_run};
+use ctl::{CtlOptions, ctl_run};
+use service::{ServeOptions, serve_run};
 use std::alloc::Global;
 use std::fs::File;
 use std::io::{Eprint, Read, Write};
@@ -275,7 +276,7 @@ pub fn run<
 >(rt: R, alloc: Global, plan: &Plan) -> (u8, Vec<u8>) {
     let mut written = Vec::new(alloc);
     let options = options_of(plan);
-    let status = serve_run(rt, alloc, &mut written, &options);
+    let status = serve_run(rt, alloc, &mut written, &options).status;
     remove(&rt, plan.accounts.as_str());
     plan.has_ended.store(true, Ordering::SeqCst);
     (status, written)

@@ -2,7 +2,8 @@
 
 use crate::clients::local;
 use crate::running::{file, free_ports, options, remove};
-use service::{CtlOptions, ServeOptions, ctl_run, serve_run};
+use ctl::{CtlOptions, ctl_run};
+use service::{ServeOptions, serve_run};
 use std::alloc::Global;
 use std::fs::File;
 use std::io::Eprint;
@@ -97,7 +98,7 @@ fn status_changed<
         + Eprint,
 >(rt: R, alloc: Global, out: &mut Vec<u8>, choice: Choice, value: u64) -> u8 {
     let options = changed(&options(ABSENT, 10_000, 10_009), choice, value);
-    serve_run(rt, alloc, out, &options)
+    serve_run(rt, alloc, out, &options).status
 }
 
 #[test]
@@ -238,7 +239,7 @@ fn status_with<
     let mut out = Vec::new(alloc);
     // The last node's port, so that a good file comes to nothing either.
     let options = options(path.as_str(), ports.first, ports.first.saturating_add(3));
-    let status = serve_run(rt, alloc, &mut out, &options);
+    let status = serve_run(rt, alloc, &mut out, &options).status;
     remove(&rt, path.as_str());
     if !out.is_empty() {
         return Err(Fail::from("a verdict"));
@@ -276,7 +277,7 @@ fn a_port_is_in_use(rt: HostRuntime) -> Result<(), Fail> {
     let path = file(&rt, alloc, "good", b"alice pass s3\n")?;
     let options = options(path.as_str(), ports.first, ports.first.saturating_add(4));
     let taken = TcpListener::bind(&rt, local(ports.first.saturating_add(2)))?;
-    assert_eq!(rt; serve_run(rt, alloc, &mut out, &options), 1);
+    assert_eq!(rt; serve_run(rt, alloc, &mut out, &options).status, 1);
     drop(taken);
     remove(&rt, path.as_str());
     assert!(rt; out.is_empty());

@@ -1,7 +1,8 @@
 //! What is told of a run, and of what ends it before its end.
 
 use ballot::NodeId;
-use service::{Fault, Verdict};
+use ports::Fault;
+use service::Verdict;
 use std::net::{IpAddr, Ipv4Addr};
 use std::test::*;
 

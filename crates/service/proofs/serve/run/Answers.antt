@@ -1,5 +1,5 @@
 use Rattle.std.proofs.Common.{◌≡◌, Err, ap}
-use Rattle.service.specs.declared.fault.Fault.TheVariants as fault
+use Rattle.ports.specs.declared.fault.Fault.TheVariants as fault
 use Rattle.service.proofs.serve.run.Goals as goal
 
 pub returns-in-Err : goal.returns-in-Err

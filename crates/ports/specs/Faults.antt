@@ -1,0 +1,39 @@
+-- What the ends of a run mean for the program.
+use Rattle.std.specs.Prelude.{◌≡◌, refl, ℕ, Option, Some, None, [], ◌∷◌}
+use Rattle.std.specs.Net.Addr.{ipv4_octets}
+use Rattle.std.specs.declared.net.ip_addr.IpAddr.{IpAddr}
+use Rattle.std.specs.declared.net.ip_addr.IpAddr.TheVariants.{V4, V6}
+use Rattle.ports.specs.declared.fault.Fault.{Fault}
+use Rattle.ports.specs.declared.fault.Fault.TheVariants.{Value, Account, NameTwice, Listen, ListenSocket, Reach, ReachSocket, Log, NoMajority, Memory, Read, Write}
+
+abbrev pub status_at : Fault → ℕ
+status_at Value = 2
+status_at (Account line) = 2
+status_at (NameTwice line) = 2
+status_at (Listen address port) = 1
+status_at ListenSocket = 1
+status_at (Reach port) = 1
+status_at ReachSocket = 1
+status_at Log = 1
+status_at NoMajority = 1
+status_at Memory = 1
+status_at Read = 1
+status_at Write = 1
+
+no_majority : status_at NoMajority ≡ 1
+no_majority = refl
+
+twice : status_at (NameTwice 3) ≡ 2
+twice = refl
+
+-- the address of this machine by which only its own programs reach it
+abbrev pub IsLocal : IpAddr → Type 0
+IsLocal (V4 address) = ipv4_octets address ≡ 127 ∷ 0 ∷ 0 ∷ 1 ∷ []
+IsLocal (V6 address) = ⊥
+
+-- what may be reported if an operator gets no port: the port of this machine, the socket, or out of memory
+abbrev pub IsCtlFault : Option ℕ → Fault → Type 0
+IsCtlFault port (Listen address number) = IsLocal address × (port ≡ Some number)
+IsCtlFault port ListenSocket = port ≡ None
+IsCtlFault port Memory = Unit {0}
+IsCtlFault port fault = ⊥

@@ -1,0 +1,65 @@
+-- The lines of the log.
+use Rattle.std.specs.Prelude.{ℕ, ◌+◌, ◌/◌, ◌%◌, List, [], ◌∷◌, ◌++◌, codes, decimal}
+use Rattle.session_log.specs.Written.{user_text}
+use Rattle.session_log.specs.declared.facts.Ending.{Ending}
+use Rattle.session_log.specs.declared.facts.Ending.TheVariants.{Closed, HungUp, Idle, TooMuch, ReadFault, WriteFault, Stopped, NoMemory}
+use Rattle.session_log.specs.declared.facts.SessionFacts.{SessionFacts}
+
+abbrev pub ending_word : Ending → List ℕ
+ending_word Closed = codes "closed"
+ending_word HungUp = codes "hung_up"
+ending_word Idle = codes "idle"
+ending_word TooMuch = codes "too_much"
+ending_word ReadFault = codes "read_fault"
+ending_word WriteFault = codes "write_fault"
+ending_word Stopped = codes "stopped"
+ending_word NoMemory = codes "no_memory"
+
+-- the last decimal digit of a number
+abbrev pub digit : ℕ → ℕ
+digit number = 48 + number % 10
+
+-- a time in seconds, with three digits after the dot, behind a text
+abbrev pub with_time : List ℕ → ℕ → List ℕ
+with_time text millis =
+    text ++ codes "time=" ++ decimal (millis / 1000)
+    ++ (46 ∷ digit (millis / 100) ∷ digit (millis / 10) ∷ digit millis ∷ 32 ∷ [])
+
+-- where something happened
+abbrev pub with_place : List ℕ → ℕ → List ℕ → List ℕ
+with_place text node peer = text ++ codes " node=" ++ decimal node ++ codes " peer=" ++ peer
+
+-- what a session did
+abbrev pub with_deeds : List ℕ → SessionFacts → List ℕ
+with_deeds text facts =
+    text ++ codes " user=" ++ user_text facts.user ++ codes " fetched=" ++ decimal facts.fetched
+    ++ codes " removed=" ++ decimal facts.removed ++ codes " bytes=" ++ decimal facts.bytes_written
+
+-- a session has ended
+abbrev pub with_session : List ℕ → ℕ → List ℕ → SessionFacts → Ending → List ℕ
+with_session text node peer facts ending =
+    with_deeds (with_place (text ++ codes "event=session") node peer) facts ++ codes " end=" ++ ending_word ending ++ codes "\n"
+
+abbrev pub with_refused_login : List ℕ → ℕ → List ℕ → List ℕ
+with_refused_login text node peer = with_place (text ++ codes "event=login_refused") node peer ++ codes "\n"
+
+abbrev pub with_delivery : List ℕ → ℕ → List ℕ → ℕ → ℕ → List ℕ
+with_delivery text node user stored refused =
+    text ++ codes "event=delivery node=" ++ decimal node ++ codes " user=" ++ user
+    ++ codes " stored=" ++ decimal stored ++ codes " refused=" ++ decimal refused ++ codes "\n"
+
+-- an operator has stopped a node
+abbrev pub with_crash : List ℕ → ℕ → List ℕ
+with_crash text node = text ++ codes "event=crash node=" ++ decimal node ++ codes "\n"
+
+-- a user's lock is broken, since this node is down, whose session held it
+abbrev pub with_break : List ℕ → List ℕ → ℕ → List ℕ
+with_break text user node = text ++ codes "event=break user=" ++ user ++ codes " node=" ++ decimal node ++ codes "\n"
+
+-- an event that has only a name
+abbrev pub with_event : List ℕ → List ℕ → List ℕ
+with_event text name = text ++ codes "event=" ++ name ++ codes "\n"
+
+-- something has failed: its text is the rest of the line
+abbrev pub with_fault : List ℕ → List ℕ → List ℕ
+with_fault text fault = text ++ codes "event=fault text=" ++ fault ++ codes "\n"

@@ -1,0 +1,6 @@
+pub mod Bounds
+pub mod Sessions
+pub mod Written
+pub mod Stats
+pub mod Events
+pub mod Examples
