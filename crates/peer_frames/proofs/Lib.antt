@@ -1,0 +1,11 @@
+pub mod Steps
+pub mod Lines
+pub mod Loops
+pub mod Ascending
+pub mod Formats
+pub mod Fields
+pub mod Commands
+pub mod Messages
+pub mod WholeFrames
+pub mod Sizes
+pub mod Writing

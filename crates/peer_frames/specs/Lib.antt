@@ -1,0 +1,5 @@
+pub mod Numbers
+pub mod Frames
+pub mod Reading
+pub mod Fitting
+pub mod Examples
