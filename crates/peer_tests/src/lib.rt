@@ -1,5 +1,5 @@
-//! Tests of the frames of peers, of what no clause says: frames written by hand, hostile bytes, and requests for memory
-//! that are refused. There is nothing here but tests.
+//! Tests of the frames of peers, of what no clause says: frames written by hand, hostile bytes, requests for memory that
+//! are refused, and connections that bring a few bytes at a time. There is nothing here but tests.
 #![tactic(auto)]
 
 #[cfg(test)]
@@ -16,6 +16,10 @@ mod hostile_tests;
 mod memory_tests;
 #[cfg(test)]
 mod random_tests;
+#[cfg(test)]
+mod readers;
+#[cfg(test)]
+mod receive_tests;
 #[cfg(test)]
 mod reserve_tests;
 #[cfg(test)]
