@@ -24,7 +24,7 @@ module _ {A : Type 0} where
   log_shown true log = logged log Crash
   log_shown false log = log
 
-  -- none once it has stopped, which is for want of memory
+  -- none once it has stopped, which is out of memory
   abbrev pub unless_stopped : Option Stopped → NodeLog A → Replay A
   unless_stopped None log = Some log
   unless_stopped (Some stop) log = None

@@ -138,7 +138,7 @@ impl<A: Allocator + Copy> Replay<A> {
         Ok(sends)
     }
 
-    /// Whether there is a node, and it hasn't stopped for want of memory.
+    /// Whether there is a node, and it hasn't run out of memory.
     fn has_node(&self) -> bool
         ensures { result ≡ is_some self.now.state }
     {

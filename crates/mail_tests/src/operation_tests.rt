@@ -91,7 +91,7 @@ struct Performed {
     number: u64,
 }
 
-/// What the office answers to a row, after want of memory too.
+/// What the office answers to a row, after `Memory` too.
 fn answer<'h>(
     office: &mut Office<Heap<'h>>,
     command: &Command<Heap<'h>>,

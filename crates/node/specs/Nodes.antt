@@ -28,7 +28,7 @@ pub record NodeValue (A : Type 0) : Type 0 where
   pub stopped : Option Stopped
   pub awaited : Awaited A
 
--- what a node is follows from its log, unless want of memory has stopped it
+-- what a node is follows from its log, unless it ran out of memory
 abbrev pub IsKnown : Option Stopped → Type 0
 IsKnown (Some Memory) = ⊥
 IsKnown _ = Unit {0}

@@ -7,7 +7,7 @@ ghost use Rattle.maildrop.specs.CommandId.{CommandId, compare_ids};
 ghost use Rattle.maildrop.specs.Name.{are_different};
 ghost use Rattle.maildrop.specs.Office.{kept_of};
 ghost use Rattle.leader.specs.Leaders.{phase_is_active};
-ghost use Rattle.replica.specs.Replicas.{is_waiting};
+ghost use Rattle.replica.specs.Replicas.{is_waiting, is_behind};
 ghost use Rattle.node.specs.Replay.{replayed, sends_of, ticket_of, is_crash};
 ghost use Rattle.node.specs.Nodes.{IsKnown, opened, logged, stops_after, no_ticket_for, answer_of, answered, answer_after, EndsInCrash};
 ghost use Rattle.node.specs.Tickets.{CanStop};
@@ -244,6 +244,14 @@ impl<A: Allocator + Copy> Node<A> {
         ensures range { IsKnown self.now.stopped → (1 ≤ result) × (result ≤ LAST_SLOT + 1) }
     {
         self.roles.slot_out()
+    }
+
+    /// Whether a later slot than `slot_out` is decided here: it misses a decision. Unknown once it has stopped without
+    /// memory. Takes no memory.
+    pub fn is_behind(&self) -> bool
+        ensures { IsKnown self.now.stopped → result ≡ is_behind (replayed self.now.log).replica }
+    {
+        self.roles.is_behind()
     }
 
     /// Whether its leader has its ballot. Unknown once it has stopped without memory.

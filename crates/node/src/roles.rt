@@ -3,7 +3,7 @@ ghost use Rattle.std.specs.Prelude.{◌≡◌, ◌≤◌, ◌+◌, ◌==◌, ℕ
 ghost use Rattle.ballot.specs.declared.slot.TheConstants.{LAST_SLOT};
 ghost use Rattle.maildrop.specs.Name.{are_different};
 ghost use Rattle.leader.specs.Leaders.{phase_is_active};
-ghost use Rattle.replica.specs.Replicas.{is_waiting};
+ghost use Rattle.replica.specs.Replicas.{is_waiting, is_behind};
 ghost use Rattle.ballot.specs.Slots.{at_slot};
 ghost use Rattle.node.specs.Replay.{NodeState, hears, new_node};
 ghost use Rattle.node.specs.Roles.{submits, arrives, decision_to, ticks, campaigns};
@@ -194,6 +194,13 @@ impl<A: Allocator + Copy> Roles<A> {
         ensures range { IfSome self.now (λ n. (1 ≤ result) × (result ≤ LAST_SLOT + 1)) }
     {
         self.replica.slot_out()
+    }
+
+    /// Whether a later slot than the next one to perform is decided here.
+    pub(crate) fn is_behind(&self) -> bool
+        ensures { IfSome self.now (λ n. result ≡ is_behind n.replica) }
+    {
+        self.replica.is_behind()
     }
 
     /// Whether the leader has its ballot.

@@ -1,10 +1,10 @@
 -- Worked examples: a machine that sums up numbers, whose commands are a number and what it is known by.
-use Rattle.std.specs.Prelude.{◌≡◌, refl, ℕ, ◌+◌, [], ◌∷◌, ◌++◌, true, Some, None}
+use Rattle.std.specs.Prelude.{◌≡◌, refl, ℕ, ◌+◌, [], ◌∷◌, ◌++◌, true, false, Some, None}
 use Rattle.std.specs.Ordering.{nat_cmp}
 use Rattle.ballot.specs.Sends.{to_all, Move, stays}
 use Rattle.ballot.specs.declared.message.Message.TheVariants.{Propose, Ask}
 use Rattle.ballot.specs.declared.slot.TheConstants.{LAST_SLOT}
-use Rattle.replica.specs.Replicas.{Rules, ReplicaState, rules_of, new_replica, requested, learns, replica_ticks, taken, answer_for, slots_used}
+use Rattle.replica.specs.Replicas.{Rules, ReplicaState, rules_of, new_replica, requested, learns, replica_ticks, taken, answer_for, slots_used, is_behind}
 
 -- the number that is added, and the identity
 abbrev Adding : Type 0
@@ -93,11 +93,17 @@ module _ (A : Type 0) where
   decided_second_performs : decided_second.after.performed ≡ []
   decided_second_performs = refl
 
+  decided_second_is_behind : is_behind decided_second.after ≡ true
+  decided_second_is_behind = refl
+
   decided_first_performs : decided_first.after.performed ≡ (1, three) ∷ []
   decided_first_performs = refl
 
   decided_first_is_at : decided_first.after.slot_out ≡ 3
   decided_first_is_at = refl
+
+  decided_first_is_not_behind : is_behind decided_first.after ≡ false
+  decided_first_is_not_behind = refl
 
   decided_again : learns {A = A} sums 1 three decided_first.after ≡ stays decided_first.after
   decided_again = refl

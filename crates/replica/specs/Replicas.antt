@@ -97,6 +97,10 @@ module _ {C I R M : Type 0} where
   abbrev pub slots_used : ReplicaState C I R M → Bool
   slots_used r = nat_lt LAST_SLOT r.slot_in
 
+  -- whether a later slot than the next to perform is decided: there are more decisions than slots before it
+  abbrev pub is_behind : ReplicaState C I R M → Bool
+  is_behind r = nat_le r.slot_out (length r.decisions)
+
 module _ {I R : Type 0} where
   -- whether an answer is awaited that isn't there
   abbrev pub is_waiting : List (I × Option R) → Bool

@@ -33,7 +33,7 @@ impl<M: Machine, A: Allocator> Model for Replica<M, A> {
 }
 
 impl<M: Machine, A: Allocator + Copy> Replica<M, A> {
-    ghost use Rattle.replica.specs.Replicas.{ReplicaState, IsMoved, IsSettled, rules_of, new_replica, is_decided, requested, learns, replica_ticks, taken, answer_for, is_waiting, slots_used};
+    ghost use Rattle.replica.specs.Replicas.{ReplicaState, IsMoved, IsSettled, rules_of, new_replica, is_decided, requested, learns, replica_ticks, taken, answer_for, is_waiting, slots_used, is_behind};
     ghost use Rattle.ballot.specs.Slots.{at_slot};
 
     /// A replica of node `me` that has performed nothing. It proposes for at most `window` slots
@@ -152,6 +152,13 @@ impl<M: Machine, A: Allocator + Copy> Replica<M, A> {
         ensures { IfSome self.now (λ r. result ≡ slots_used r) }
     {
         self.state.slot_in > LAST_SLOT
+    }
+
+    /// Whether a later slot than the next one that it performs is decided here. Takes no memory.
+    pub fn is_behind(&self) -> bool
+        ensures { IfSome self.now (λ r. result ≡ is_behind r) }
+    {
+        self.state.decisions.count() >= self.state.slot_out as u128
     }
 
     /// Whether a command that was requested here isn't performed yet. In proportion to the answers that are awaited

@@ -17,7 +17,7 @@ pub data Standing (A : Type 0) : Type 0 where
   Hears : (state : State A) → Standing A
   -- a line asked for an operation, and the session awaits the answer to this command
   Waits : (state : State A) → (id : CommandId) → Standing A
-  -- it was lost for want of memory. It takes one hangup, which gives this lock back
+  -- it was lost as memory ran out. It takes one hangup, which gives this lock back
   Failed : (lock : Option (List ℕ × Ticket)) → Standing A
   -- it was open when its node crashed, and takes nothing more
   Disconnected : Standing A

@@ -1,6 +1,6 @@
 //! Laws of every run of a whole service. Each is a function that does nothing: its contract is the law.
 //!
-//! A run is any list of happenings: events, and sessions that are lost for want of memory. One that can't happen changes
+//! A run is any list of happenings: events, and sessions that are lost out of memory. One that can't happen changes
 //! nothing, so a law of all lists is one of those too in which each event can happen. Where a node finds no memory its
 //! run has a crash.
 ghost use Rattle.std.specs.Prelude.{◌≡◌, ℕ, List, [], ◌∷◌, ◌++◌, map, Some, is_some, true, false};

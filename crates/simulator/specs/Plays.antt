@@ -111,7 +111,7 @@ module _ {A : Type 0} where
   settled next zero p = outcomes p
   settled next (suc n) p = settled_by (settled next n) (outcomes p) (next (outcomes p).state)
 
-  -- what the node has performed, if there is such a node. (None too if want of memory has stopped it, but then no script goes
+  -- what the node has performed, if there is such a node. (None too if it ran out of memory, but then no script goes
   -- on)
   abbrev pub performed_at : ℕ → Play A → Option (List (ℕ × maildrop.Command A))
   performed_at node p = if is_known_at (record { world = p.world; crashed = p.crashed }) node then performed_by p.world.service node else None

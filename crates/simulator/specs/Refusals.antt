@@ -5,7 +5,7 @@ use Rattle.script.specs.declared.refusal.Refusal.TheVariants as told
 use Rattle.runs.specs.declared.refused.Refused.{Refused}
 use Rattle.runs.specs.declared.refused.Refused.TheVariants as refused
 
--- the line of a refusal. Behind want of memory a script doesn't go on, so nothing is told
+-- the line of a refusal. A script that ran out of memory doesn't go on, so nothing is printed
 abbrev pub refused_line : Refused → List ℕ
 refused_line refused.NotSent = refusal_line told.NotSent
 refused_line refused.Down = refusal_line told.Down

@@ -207,7 +207,7 @@ module _ (A : Type 0) (limits : Limits) where
   none_of_bob : last_ticket broken.service 1 (codes "bob") ≡ None
   none_of_bob = refl
 
-  -- what a crashed node did is known, but not once want of memory has stopped it
+  -- what a crashed node did is known, but not once it ran out of memory
   abbrev after_crash : List Bool → WorldValue A
   after_crash crashed = record { world = stepped_by (Crash 1 ∷ []); crashed = crashed }
 

@@ -1,4 +1,4 @@
--- The nodes of a world, as it keeps them: each with its answers, and with a crash in its log where it has stopped for want of memory.
+-- The nodes of a world, as it keeps them: each with its answers, and with a crash in its log if it ran out of memory.
 use Rattle.std.specs.Prelude.{◌≡◌, ℕ, zero, suc, ◌-◌, nat_lt, List, [], ◌∷◌, ◌++◌, map, set, true, false, Bool, Option, Some, None, slice_get, if◌then◌else◌}
 use Rattle.std.specs.List.{list_any}
 use Rattle.maildrop.specs.CommandId.{CommandId}
@@ -35,7 +35,7 @@ has_crashed (Some Crashed) = true
 has_crashed _ = false
 
 module _ {A : Type 0} where
-  -- a run has a crash of a node that has stopped for want of memory or tickets
+  -- a run has a crash of a node that ran out of memory or tickets
   abbrev pub known_log : Option Stopped → NodeLog A → NodeLog A
   known_log None log = log
   known_log (Some Crashed) log = log

@@ -25,11 +25,11 @@ module _ {A : Type 0} where
   crashed_after event crashed = crashed
 
   -- What a node did is known while it is up, and after an event has crashed it. One that is down though no event has crashed
-  -- it was stopped by want of memory or tickets, and is no more known.
+  -- it ran out of memory or tickets, and is no more known.
   abbrev pub is_known : Option (NodeLog A) → Option Bool → Bool
   is_known log crashed = is_up log || option_map_or (λ c. c) crashed false
 
-  -- whether there is such a node, and want of memory or tickets hasn't stopped it
+  -- whether there is such a node, which hasn't run out of memory or tickets
   abbrev pub is_known_at : WorldValue A → ℕ → Bool
   is_known_at w node = is_known (log_of node w.world.service.network.logs) (crash_of node w.crashed)
 

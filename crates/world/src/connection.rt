@@ -33,7 +33,7 @@ pub(crate) enum Standing {
     Hears,
     /// It awaits the answer to this command.
     Waits(CommandId),
-    /// It was lost for want of memory. A hangup gives this lock back.
+    /// It was lost as memory ran out. A hangup gives this lock back.
     Failed(Option<(Name, Ticket)>),
     /// Its node has crashed before it was over.
     Disconnected,
@@ -97,7 +97,7 @@ impl<A: Allocator + Copy> Connection<A> {
         }
     }
 
-    /// Gives up the session for want of memory. A lock that it holds is given back by a hangup.
+    /// Gives up the session as memory ran out. A lock that it holds is given back by a hangup.
     pub(crate) fn lose(&mut self)
         requires { awaits_answer self.old.session.state ≡ false }
         ensures client { client_in self.new ≡ standing_as (client_in self.old) (Failed (lock_due self.old.session.state)) }

@@ -141,7 +141,7 @@ impl<A: Allocator + Copy> Host<A> {
         self.node.take_answer(user, ticket)
     }
 
-    /// What it has performed: each command once, with its slot. None exactly if it has stopped for want of memory or
+    /// What it has performed: each command once, with its slot. None exactly if it has run out of memory or
     /// tickets.
     pub(crate) fn performed(&self) -> Option<&[(Slot, SharedCommand<A>)]>
         ensures value { IfSome result (λ performed. performed.now ≡ (replayed self.now.log).replica.performed) }
@@ -157,7 +157,7 @@ impl<A: Allocator + Copy> Host<A> {
         }
     }
 
-    /// The ticket that it gave last to the user, if it has given one. None if it has stopped for want of memory or tickets.
+    /// The ticket that it gave last to the user, if it has given one. None if it has run out of memory or tickets.
     pub(crate) fn last_ticket(&self, user: Name) -> Option<Ticket>
         ensures { result ≡ (if is_known (Some self.now.log) (Some self.now.crashed) then last_ticket_of self.now.log user else None) }
     {

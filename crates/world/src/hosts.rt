@@ -214,8 +214,8 @@ impl<A: Allocator + Copy> Hosts<A> {
         self.nodes.take_answer(node, id)
     }
 
-    /// What a node has performed: each command once, with its slot. None exactly if there is no such node, or want of memory
-    /// or tickets has stopped it.
+    /// What a node has performed: each command once, with its slot. None exactly if there is no such node, or it ran out of
+    /// memory or tickets.
     pub(crate) fn performed(&self, node: NodeId) -> Option<&[(Slot, SharedCommand<A>)]>
         ensures value { IfSome result (λ performed. performed_in (log_of node (network_of self.now).logs) ≡ Some performed.now) }
         ensures known { is_some result ≡ is_known (log_of node (network_of self.now).logs) (crash_of node (crashes_of self.now)) }
@@ -231,8 +231,8 @@ impl<A: Allocator + Copy> Hosts<A> {
         self.nodes.performed_at(place)
     }
 
-    /// The ticket that a node gave last to the user, if it has given one. None if there is no such node, or want of memory or
-    /// tickets has stopped it.
+    /// The ticket that a node gave last to the user, if it has given one. None if there is no such node, or it ran out of
+    /// memory or tickets.
     pub(crate) fn last_ticket(&self, node: NodeId, user: Name) -> Option<Ticket>
         ensures { result ≡ (if is_known (log_of node (network_of self.now).logs) (crash_of node (crashes_of self.now)) then last_ticket_in (log_of node (network_of self.now).logs) user else None) }
     {

@@ -147,7 +147,7 @@ impl<A: Allocator + Copy> World<A> {
 
     /// What a node has performed, also one that an event has crashed: each command once, with its slot. It is how the
     /// decided order begins, the same for all nodes, and each of its commands was submitted. None exactly if there is no such
-    /// node, or want of memory or tickets has stopped it.
+    /// node, or it ran out of memory or tickets.
     pub fn performed(&self, node: NodeId) -> Option<&[(Slot, SharedCommand<A>)]>
         ensures value { IfSome result (λ performed. spec.performed_by self.now.world.service node ≡ Some performed.now) }
         ensures known { is_some result ≡ is_known_at self.now node }
@@ -158,7 +158,7 @@ impl<A: Allocator + Copy> World<A> {
     }
 
     /// The ticket that a node gave last to the user, if it has given one, also a node that an event has crashed. None if
-    /// there is no such node, or want of memory or tickets has stopped it. Takes no memory.
+    /// there is no such node, or it ran out of memory or tickets. Takes no memory.
     pub fn last_ticket(&self, node: NodeId, user: Name) -> Option<Ticket>
         ensures { result ≡ known_ticket self.now node user }
     {
