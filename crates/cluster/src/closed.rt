@@ -78,7 +78,7 @@ impl<D: Deployment> Closed<D> {
     }
 }
 
-/// Whether what a node is follows from its log, if it has stopped so: not if want of memory has stopped it.
+/// Whether what a node is follows from its log, if it has stopped so: not if it ran out of memory.
 pub(crate) fn is_known(stopped: Option<Stopped>) -> bool
     ensures known { result ≡ true → IsKnown stopped }
     ensures unknown { result ≡ false → stopped ≡ Some Stopped.Memory }

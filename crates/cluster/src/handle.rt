@@ -330,8 +330,20 @@ fn hear_all<D: Deployment, R: Wait>(
 {
     member.forget_first();
     let performed = member.performed();
+    let slot_out = member.slot_out();
     hear_batch(member, rt, first, inbox, sends);
+    if slot_out < member.slot_out() {
+        ask_if_behind(member, sends);
+    }
     woken_by(member, performed)
+}
+
+/// A node that has decisions of later slots asks for the next one. So a node that missed many catches up as fast as they come,
+/// and not by one for each tick.
+fn ask_if_behind<D: Deployment>(member: &mut Member<D>, sends: &mut Outbox) {
+    if member.is_behind() {
+        let _none = step_one(member, Input::Tick, sends);
+    }
 }
 
 /// Hears an envelope, and those that are in the inbox behind it, up to a batch of them.

@@ -1,8 +1,9 @@
 //! A node of a cluster, as it lies under its lock.
-ghost use Rattle.std.specs.Prelude.{◌≡◌, ◌++◌, ◌∷◌, ℕ, [], true, false, OnOk, IfOk, IfErr, IfSome, is_none, Some, None, Err};
+ghost use Rattle.std.specs.Prelude.{◌≡◌, ◌++◌, ◌∷◌, ◌&&◌, ℕ, [], true, false, OnOk, IfOk, IfErr, IfSome, is_none, Some, None, Err};
 ghost use Rattle.std.specs.Ordering.{is_eq};
 ghost use Rattle.maildrop.specs.CommandId.{CommandId, compare_ids};
-ghost use Rattle.node.specs.Replay.{sends_of, ticket_of};
+ghost use Rattle.node.specs.Replay.{sends_of, ticket_of, replayed};
+ghost use Rattle.replica.specs.Replicas.{is_behind};
 ghost use Rattle.node.specs.Nodes.{logged, stops_after, no_ticket_for, answer_of, answer_after, answered, IsKnown};
 ghost use Rattle.node.specs.Tickets.{CanStop};
 ghost use Rattle.cluster.specs.Users as spec;
@@ -160,6 +161,20 @@ impl<D: Deployment> Member<D> {
             }
         }
         groups
+    }
+
+    /// The first slot that isn't decided, as long as the node is up.
+    pub(crate) fn slot_out(&self) -> u64
+        ensures { IsKnown self.now.stopped → result ≡ (replayed self.now.log).replica.slot_out }
+    {
+        self.node.slot_out()
+    }
+
+    /// Whether the node is up, and a later slot than `slot_out` is decided here.
+    pub(crate) fn is_behind(&self) -> bool
+        ensures { result ≡ (is_none self.now.stopped && is_behind (replayed self.now.log).replica) }
+    {
+        self.is_up() && self.node.is_behind()
     }
 
     /// How the node stands.

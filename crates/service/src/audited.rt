@@ -90,7 +90,7 @@ pub(crate) struct Left {
     pub greeted: usize,
 }
 
-/// What a service leaves that was audited, or that couldn't be for want of memory.
+/// What a service leaves that was audited, or that couldn't be as memory ran out.
 pub(crate) fn left_by<D: Service>(alloc: Global, audited: Option<Audited<D>>) -> Left
     ensures verdict { result.verdict ≡ option_map_or (λ audited. audited.verdict) audited Memory }
     ensures logs { IfSome audited (λ audited. result.logs.items ≡ audited.logs) }
