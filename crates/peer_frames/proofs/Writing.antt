@@ -1,10 +1,8 @@
 -- Writing items one after another, and what is written.
-use Rattle.std.proofs.Common.{◌≡◌, ℕ, ◌<◌, ◌≤◌, List, ◌∷◌, ◌++◌, length, take, Some, None, Result, Ok, Err, Vec, sym, ap, ◌∙◌, append_assoc, arith}
-use Rattle.std.specs.Prelude.{IfOk, OnOk}
+use Rattle.std.proofs.Common.{◌≡◌, ℕ, ◌<◌, ◌≤◌, List, ◌∷◌, ◌++◌, length, take, Some, None, Ok, sym, ap, ◌∙◌, append_assoc, arith}
 use Rattle.std.specs.List.{flat_map}
 use Rattle.std.proofs.lemmas.List.{length-append}
 use Rattle.std.proofs.lemmas.List.Concat.{flat_map-cons}
-use Rattle.peer_frames.specs.declared.encode_error.EncodeError.{EncodeError}
 use Rattle.peer_frames.specs.declared.version.Version.TheVariants.{Second}
 use Rattle.peer_frames.specs.Numbers.{longest}
 use Rattle.peer_frames.specs.Frames.{content, frame}
@@ -20,12 +18,8 @@ pub next_size : {X : Type 0} (f : X → List ℕ) (x : X) (rest items : List X) 
 next_size f x rest items total is so_far =
     omega (arith, ap (λ xs. length (flat_map f xs)) is, ap length (flat_map-cons f x rest), length-append (f x) (flat_map f rest))
 
-pub read_back : {A : Type 0} (e : E A) (r : Result (Vec ℕ A) EncodeError) → FitsEnvelope Second e → IfOk r (λ bytes. bytes.items ≡ frame Second e) → OnOk r (length (content Second e) ≤ longest)
-    → IfOk r (λ bytes. (rest : List ℕ) → frame_at (bytes.items ++ rest) ≡ Ok (Some (e, length bytes.items)))
-read_back e (Ok bytes) fits is small = λ rest. rw is (frame_again Second e rest fits small)
-read_back e (Err f) fits is small = tt
+pub read_back : {A : Type 0} (e : E A) (bytes : List ℕ) → bytes ≡ frame Second e → FitsEnvelope Second e → length (content Second e) ≤ longest → (rest : List ℕ) → frame_at (bytes ++ rest) ≡ Ok (Some (e, length bytes))
+read_back e bytes is fits small rest = rw is (frame_again Second e rest fits small)
 
-pub not_in_part : {A : Type 0} (e : E A) (r : Result (Vec ℕ A) EncodeError) → FitsEnvelope Second e → IfOk r (λ bytes. bytes.items ≡ frame Second e) → OnOk r (length (content Second e) ≤ longest)
-    → IfOk r (λ bytes. (k : ℕ) → k < length bytes.items → frame_at {A = A} (take k bytes.items) ≡ Ok None)
-not_in_part e (Ok bytes) fits is small = λ k short. rw is (prefix_is_none Second e k fits small (rw is at short))
-not_in_part e (Err f) fits is small = tt
+pub not_in_part : {A : Type 0} (e : E A) (bytes : List ℕ) → bytes ≡ frame Second e → FitsEnvelope Second e → length (content Second e) ≤ longest → (k : ℕ) → k < length bytes → frame_at {A = A} (take k bytes) ≡ Ok None
+not_in_part e bytes is fits small k short = rw is (prefix_is_none Second e k fits small (rw is at short))

@@ -6,7 +6,7 @@ ghost use Rattle.peer_frames.specs.Numbers.{longest};
 ghost use Rattle.peer_frames.specs.Fitting.{FitsText, FitsUids, FitsOp, FitsCommand, FitAll, FitsLine};
 ghost use Rattle.peer_frames.specs.Frames.{long_string, u64_bytes, counted, op_bytes, command_bytes};
 
-use crate::content::Content;
+use crate::content::{Content, Front};
 use crate::encode_error::EncodeError;
 use maildrop::{Command, Op, Text, Uids};
 use std::alloc::Allocator;
@@ -23,7 +23,7 @@ fn lines_in<A: Allocator + Copy>(text: &Text<A>) -> usize
     count
 }
 
-impl<B: Allocator> Content<B> {
+impl<B: Allocator, F: Front> Content<B, F> {
     /// Adds the lines of a text, one after another.
     fn put_lines<A: Allocator + Copy>(&mut self, text: &Text<A>) -> Result<(), EncodeError>
         ensures ok { OnOk result (self.new ≡ self.old ++ flat_map long_string text.now) }

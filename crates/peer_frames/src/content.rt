@@ -5,36 +5,56 @@ ghost use Rattle.peer_frames.specs.Frames.{u32_bytes, u64_bytes};
 use crate::encode_error::EncodeError;
 use ballot::Memory;
 use std::alloc::Allocator;
-use std::marker::Model;
+use std::marker::{Brand, Model, PhantomData};
 
-/// The content of a frame, as far as it is written. After an error nothing is said of it.
-#[derive(Drop)]
-pub(crate) struct Content<A: Allocator> {
-    bytes: Vec<u8, A>,
+/// What stands before a content in its buffer. It has no values: the call that begins a content picks it.
+pub(crate) trait Front {
+    ghost use Rattle.std.specs.Prelude.{ℕ, List};
+
+    ghost front: { List ℕ };
 }
 
-impl<A: Allocator> Model for Content<A> {
-    ghost use Rattle.std.specs.Prelude.{ℕ, List};
+impl Front for Brand {
+    ghost use Rattle.std.specs.Prelude.{[]};
+
+    ghost front = { [] };
+}
+
+/// The content of a frame, as far as it is written, behind what stood in its buffer. Contracts see it as the content alone.
+/// After an error nothing is said of that. What stood in the buffer stays.
+#[derive(Drop)]
+pub(crate) struct Content<A: Allocator, F: Front> {
+    bytes: Vec<u8, A>,
+    front: PhantomData<F>,
+}
+
+impl<A: Allocator, F: Front> Model for Content<A, F> {
+    ghost use Rattle.std.specs.Prelude.{◌≡◌, ℕ, List, length, take, drop};
 
     ghost Value = { List ℕ };
 
-    ghost view = { λ c. c.bytes.items };
+    ghost view = { λ c. drop (length F.front) c.bytes.items };
+
+    ghost invariant = { λ c. take (length F.front) c.bytes.items ≡ F.front };
 }
 
-impl<A: Allocator> Content<A> {
-    /// Nothing. Takes no memory.
-    pub(crate) fn new(alloc: A) -> Self
+impl<A: Allocator, F: Front> Content<A, F> {
+    /// Nothing yet, behind what the buffer has.
+    pub(crate) fn behind(front: Vec<u8, A>) -> Self
+        requires { front.items ≡ F.front }
         ensures { result ≡ [] }
     {
         Content {
-            bytes: Vec::new(alloc),
+            bytes: front,
+            front: PhantomData,
         }
     }
 
-    pub(crate) fn get(&self) -> &[u8]
-        ensures { result.now ≡ self.now }
+    /// The buffer.
+    pub(crate) fn into_bytes(self) -> Vec<u8, A>
+        ensures { result.items ≡ F.front ++ self }
     {
-        &self.bytes
+        self.bytes
     }
 
     pub(crate) fn put_byte(&mut self, byte: u8) -> Result<(), Memory>

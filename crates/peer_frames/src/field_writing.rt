@@ -6,13 +6,13 @@ ghost use Rattle.peer_frames.specs.Numbers.{longest, is_node, is_slot};
 ghost use Rattle.peer_frames.specs.Fitting.{FitsBallot, FitsTicket, FitsKey};
 ghost use Rattle.peer_frames.specs.Frames.{u64_bytes, short_string, long_string, ballot_bytes, ticket_bytes, key_bytes};
 
-use crate::content::Content;
+use crate::content::{Content, Front};
 use crate::encode_error::EncodeError;
 use ballot::{Ballot, Memory, NodeId, Slot};
 use maildrop::{Key, Name, Ticket};
 use std::alloc::Allocator;
 
-impl<A: Allocator> Content<A> {
+impl<A: Allocator, F: Front> Content<A, F> {
     pub(crate) fn put_node(&mut self, node: NodeId) -> Result<(), Memory>
         ensures ok { OnOk result (self.new ≡ self.old ++ node ∷ []) }
         ensures fits { is_node node ≡ true }

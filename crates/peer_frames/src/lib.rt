@@ -1,8 +1,8 @@
 //! The frames that nodes of a cluster send one another over a stream of bytes, one for each envelope.
 //!
 //! A frame is the length of its content in four bytes, and the content: one byte each for the version, the kind of the
-//! message, the sender and the addressee, then the message's fields. `encode` writes version 2, `decode` reads 2 and 1.
-//! They differ only in the key of a delivery, which version 1 doesn't have.
+//! message, the sender and the addressee, then the message's fields. `encode` and `append` write version 2, `decode` reads
+//! 2 and 1. They differ only in the key of a delivery, which version 1 doesn't have.
 #![tactic(auto)]
 
 mod command_reading;
@@ -25,6 +25,6 @@ mod version;
 
 pub use decoding::decode;
 pub use encode_error::EncodeError;
-pub use encoding::encode;
+pub use encoding::{append, encode};
 pub use fault::FrameFault;
 pub use laws::{frames_are_not_read_in_part, frames_are_read_back};

@@ -6,7 +6,7 @@ ghost use Rattle.peer_frames.specs.Numbers.{longest};
 ghost use Rattle.peer_frames.specs.Fitting.{FitsPValue, FitsPromise, FitsVote, FitsMessage, FitsEnvelope, FitAll};
 ghost use Rattle.peer_frames.specs.Frames.{pvalue_bytes, promise_bytes, vote_bytes, message_bytes, content};
 
-use crate::content::Content;
+use crate::content::{Content, Front};
 use crate::encode_error::EncodeError;
 use crate::kind::number_of;
 use ballot::{Envelope, Message, PValue, Promise, Vote};
@@ -16,7 +16,7 @@ use std::alloc::Allocator;
 /// The number of the version that is written.
 const WRITTEN_VERSION: u8 = 2;
 
-impl<B: Allocator> Content<B> {
+impl<B: Allocator, F: Front> Content<B, F> {
     fn put_pvalue<A: Allocator + Copy>(
         &mut self,
         pvalue: &PValue<SharedCommand<A>>,
