@@ -40,6 +40,20 @@ impl Read for Pieces<'_> {
     }
 }
 
+/// Brings a length of 2^30 with each read, and never ends.
+#[derive(Drop)]
+pub struct Endless {
+    pub reads: u64,
+}
+
+impl Read for Endless {
+    fn read(&mut self, buf: &mut [u8]) -> io::Result<usize> {
+        self.reads = self.reads.saturating_add(1);
+        let mut rest: &[u8] = &[64, 0, 0, 0];
+        Ok(give(&mut rest, 4, buf))
+    }
+}
+
 /// An inbox that keeps the frames of what arrives, one after another, and says of all that it is lost, or of none.
 #[derive(Drop)]
 pub struct Kept {

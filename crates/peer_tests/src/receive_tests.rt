@@ -1,6 +1,6 @@
 //! What is received of a connection's bytes.
 
-use crate::readers::{Kept, Pieces};
+use crate::readers::{Endless, Kept, Pieces};
 use ballot::{Envelope, Message};
 use maildrop::{Command, SharedCommand};
 use peer_frames::{FrameFault, encode};
@@ -12,34 +12,49 @@ use std::test::Fail;
 /// How many frames a connection brings.
 const FRAMES: u64 = 6;
 
+/// The limit of most tests, above each of these frames.
+const LONGEST: usize = 1_000_000;
+
 /// How many bytes come at a time.
 const SIZES: &[usize] = &[1, 2, 15, 16, 17, 100_000];
 
-fn add(frames: &mut Vec<u8>, alloc: Global, message: Message<SharedCommand>) -> Result<(), Fail> {
+fn frame(alloc: Global, message: Message<SharedCommand>) -> Result<Vec<u8>, Fail> {
     let envelope = Envelope {
         from: node(2)?,
         to: node(1)?,
         message,
     };
-    let frame = encode(alloc, &envelope)?;
-    frames.extend_from_slice(&frame)?;
-    Ok(())
+    Ok(encode(alloc, &envelope)?)
 }
 
-/// Five Asks, and a decision of a Mail between them.
+fn ask(alloc: Global, number: u64) -> Result<Vec<u8>, Fail> {
+    frame(alloc, Message::Ask(slot(number)?))
+}
+
+/// The frame of a decision of a Mail.
+fn decision(alloc: Global) -> Result<Vec<u8>, Fail> {
+    let command = Command {
+        user: alice()?,
+        ticket: ticket(1)?,
+        op: mail(alloc, &["Subject: x", "", "hi"])?,
+    };
+    let command = SharedCommand::new(alloc, command)?;
+    frame(alloc, Message::Decision(slot(7)?, command))
+}
+
+/// Two Asks.
+fn front(alloc: Global) -> Result<Vec<u8>, Fail> {
+    let mut frames = ask(alloc, 1)?;
+    frames.extend_from_slice(&ask(alloc, 2)?)?;
+    Ok(frames)
+}
+
+/// Two Asks, a decision of a Mail, and three Asks.
 fn frames(alloc: Global) -> Result<Vec<u8>, Fail> {
-    let mut frames = Vec::new(alloc);
-    for number in 1..FRAMES {
-        add(&mut frames, alloc, Message::Ask(slot(number)?))?;
-        if number == 2 {
-            let command = Command {
-                user: alice()?,
-                ticket: ticket(1)?,
-                op: mail(alloc, &["Subject: x", "", "hi"])?,
-            };
-            let command = SharedCommand::new(alloc, command)?;
-            add(&mut frames, alloc, Message::Decision(slot(7)?, command))?;
-        }
+    let mut frames = front(alloc)?;
+    frames.extend_from_slice(&decision(alloc)?)?;
+    for number in 3..FRAMES {
+        frames.extend_from_slice(&ask(alloc, number)?)?;
     }
     Ok(frames)
 }
@@ -47,6 +62,7 @@ fn frames(alloc: Global) -> Result<Vec<u8>, Fail> {
 /// Receives the bytes in pieces, and compares what arrived and the end.
 fn check_received(
     alloc: Global,
+    longest: usize,
     reader: &mut Pieces,
     loses: bool,
     wanted: &[u8],
@@ -57,7 +73,7 @@ fn check_received(
         frames: Vec::new(alloc),
         loses,
     };
-    let answer = receive(alloc, reader, &mut inbox);
+    let answer = receive(alloc, longest, reader, &mut inbox);
     check(answer == received, "another end or count")?;
     check(inbox.frames.as_slice() == wanted, "other envelopes")
 }
@@ -75,7 +91,7 @@ fn check_all(alloc: Global, last: &[u8], fails: bool, end: End) -> Result<(), Fa
         };
         let count = FRAMES;
         let received = Received { count, end };
-        check_received(alloc, &mut reader, fails, &wanted, received)?;
+        check_received(alloc, LONGEST, &mut reader, fails, &wanted, received)?;
     }
     Ok(())
 }
@@ -114,4 +130,59 @@ fn nothing_is_received_after_a_fault(rt: HostRuntime) -> Result<(), Fail> {
         true,
         End::Fault(FrameFault::Length),
     )
+}
+
+/// With this limit so many of the frames arrive, which are these.
+fn check_limit(
+    alloc: Global,
+    longest: usize,
+    wanted: &[u8],
+    received: Received,
+) -> Result<(), Fail> {
+    let bytes = frames(alloc)?;
+    for most in SIZES {
+        let mut reader = Pieces {
+            rest: &bytes,
+            most: *most,
+            fails: false,
+        };
+        check_received(alloc, longest, &mut reader, false, wanted, received)?;
+    }
+    Ok(())
+}
+
+#[test]
+fn a_frame_of_the_limit_is_received(rt: HostRuntime) -> Result<(), Fail> {
+    let longest = decision(rt.alloc())?.len().saturating_sub(4);
+    let all = Received {
+        count: FRAMES,
+        end: End::Ended,
+    };
+    check_limit(rt.alloc(), longest, &frames(rt.alloc())?, all)?;
+    let two = Received {
+        count: 2,
+        end: End::TooLong,
+    };
+    let below = longest.saturating_sub(1);
+    check_limit(rt.alloc(), below, &front(rt.alloc())?, two)
+}
+
+#[test]
+fn nothing_is_read_behind_a_length_above_the_limit(rt: HostRuntime) -> Result<(), Fail> {
+    let mut reader = Endless { reads: 0 };
+    let mut inbox = Kept {
+        alloc: rt.alloc(),
+        frames: Vec::new(rt.alloc()),
+        loses: false,
+    };
+    let received = receive(rt.alloc(), LONGEST, &mut reader, &mut inbox);
+    check(
+        received
+            == Received {
+                count: 0,
+                end: End::TooLong,
+            },
+        "another end or count",
+    )?;
+    check(reader.reads == 1, "more was read")
 }

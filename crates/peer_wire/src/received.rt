@@ -9,6 +9,8 @@ pub enum End {
     Ended,
     /// What came next is no frame, or memory ran out.
     Fault(FrameFault),
+    /// What came next is a length above the limit.
+    TooLong,
     /// A read failed, or there were 4,294,967,295 of them.
     ReadFault,
 }

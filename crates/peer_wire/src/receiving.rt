@@ -1,6 +1,7 @@
 //! Receives frames.
 ghost use Rattle.std.specs.Prelude.{◌≡◌, ◌≤◌, ◌<◌, ℕ, length, drop};
 ghost use lib.ListN.{get_or};
+ghost use Rattle.peer_wire.specs.Streams as spec;
 ghost use Rattle.peer_wire.specs.Streams.{IsHandedOn, StopsAt, IsReceived};
 
 use crate::inbox::Inbox;
@@ -17,6 +18,9 @@ const PIECE: usize = 16_384;
 /// The most reads of a connection.
 const MOST_READS: u32 = u32::MAX;
 
+/// The most bytes that a frame's content can have.
+const LONGEST_OF_ALL: usize = 1 << 30;
+
 /// What was handed on of some bytes.
 #[derive(Clone, Copy)]
 struct Handed {
@@ -24,25 +28,44 @@ struct Handed {
     used: usize,
     /// How many frames there were.
     count: usize,
-    /// The fault of what comes next, if it is one.
-    fault: Option<FrameFault>,
+    /// Why no more is. None if what comes next is a part of a frame.
+    end: Option<End>,
 }
 
-/// Hands on the envelopes of all whole frames at the front.
+/// Whether the first four bytes are a length above the limit, though one that a frame can have.
+fn claims(longest: usize, bytes: &[u8]) -> bool
+    ensures { result ≡ spec.claims longest bytes.now }
+{
+    if bytes.len() < 4 {
+        return false;
+    }
+    let len = u32::from_be_bytes([bytes[0], bytes[1], bytes[2], bytes[3]]) as usize;
+    longest < len && len <= LONGEST_OF_ALL
+}
+
+/// Hands on the envelopes of all whole frames at the front, up to the first length above the limit.
 fn hand_on<A: Allocator + Copy, I: Inbox<Envelope<SharedCommand<A>, A>>>(
     alloc: A,
+    longest: usize,
     bytes: &[u8],
     inbox: &mut I,
 ) -> Handed
     ensures within { result.used ≤ length bytes.now }
     ensures few { result.count ≤ result.used }
-    ensures handed { IsHandedOn I.hears inbox.old inbox.new bytes.now (drop result.used bytes.now) result.count }
-    ensures stops { StopsAt A result.fault (drop result.used bytes.now) }
+    ensures handed { IsHandedOn longest I.hears inbox.old inbox.new bytes.now (drop result.used bytes.now) result.count }
+    ensures stops { StopsAt A longest result.end (drop result.used bytes.now) }
 {
     let mut used = 0;
     let mut count = 0;
     for _ in 0..=bytes.len() {
         let (_, rest) = bytes.split_at(used);
+        if claims(longest, rest) {
+            return Handed {
+                used,
+                count,
+                end: Some(End::TooLong),
+            };
+        }
         match decode(alloc, rest) {
             Ok(Some((envelope, len))) => {
                 let _taken = inbox.arrive(envelope);
@@ -53,14 +76,14 @@ fn hand_on<A: Allocator + Copy, I: Inbox<Envelope<SharedCommand<A>, A>>>(
                 return Handed {
                     used,
                     count,
-                    fault: None,
+                    end: None,
                 };
             }
             Err(fault) => {
                 return Handed {
                     used,
                     count,
-                    fault: Some(fault),
+                    end: Some(End::Fault(fault)),
                 };
             }
         }
@@ -81,14 +104,16 @@ fn are_bytes(bytes: &[u8])
     ensures { (i : ℕ) → get_or bytes.now i 0 < 256 }
 {}
 
-/// Reads frames until the reader's end or the first fault, and hands each envelope to the inbox as soon as its frame is
-/// whole. Memory is taken by what has come, and not by the length that a frame claims.
+/// Reads frames until the reader's end, the first fault, or the first frame whose content is longer than `longest` bytes.
+/// Hands each envelope to the inbox as soon as its frame is whole. Memory is taken by what has come, and not by the length
+/// that a frame claims. Once a length above `longest` has come, nothing more is read.
 pub fn receive<A: Allocator + Copy, S: Read, I: Inbox<Envelope<SharedCommand<A>, A>>>(
     alloc: A,
+    longest: usize,
     reader: &mut S,
     inbox: &mut I,
 ) -> Received
-    ensures { IsReceived I.hears inbox.old inbox.new (S.remaining reader.old) (S.remaining reader.new) result }
+    ensures { IsReceived longest I.hears inbox.old inbox.new (S.remaining reader.old) (S.remaining reader.new) result }
 {
     let mut piece = [0u8; PIECE];
     let mut bytes = Vec::new(alloc);
@@ -117,13 +142,10 @@ pub fn receive<A: Allocator + Copy, S: Read, I: Inbox<Envelope<SharedCommand<A>,
                 end: End::Fault(FrameFault::Memory),
             };
         };
-        let handed = hand_on(alloc, &bytes, inbox);
+        let handed = hand_on(alloc, longest, &bytes, inbox);
         count += handed.count as u64;
-        if let Some(fault) = handed.fault {
-            return Received {
-                count,
-                end: End::Fault(fault),
-            };
+        if let Some(end) = handed.end {
+            return Received { count, end };
         }
         cut_front(&mut bytes, handed.used);
     }

@@ -7,5 +7,5 @@ invariant-loop g l = record {
   within : l.used ≤ length l.bytes;
   few : l.count ≤ l.used;
   turns : l.counter ≤ l.used;
-  handed : IsHandedOn g.I.Inbox.hears l.fn.inbox l.inbox l.bytes (drop l.used l.bytes) l.count;
+  handed : IsHandedOn l.longest g.I.Inbox.hears l.fn.inbox l.inbox l.bytes (drop l.used l.bytes) l.count;
 }
