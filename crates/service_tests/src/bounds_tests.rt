@@ -1,9 +1,10 @@
 //! Clients that say nothing, say too much or try secrets, a user who is cut off, and the log of it all.
 
-use crate::clients::{connect, line_after, send};
-use crate::plays::Row::{Comes, Ctl, Ends, Says};
-use crate::plays::{STOP, Scene, play_after};
-use crate::running::{Running, bounded, file, remove, start_planned};
+use service_players::Row::{Comes, Ctl, Ends, Says};
+use service_players::{
+    Running, STOP, Scene, bounded, connect, file, line_after, play_after, remove, send,
+    start_planned,
+};
 use std::alloc::Global;
 use std::io::{Read, Write};
 use std::net::{Net, TcpStream};

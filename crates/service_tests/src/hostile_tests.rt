@@ -1,7 +1,6 @@
 //! Clients that break off, say nothing, say too much, or hear nothing.
 
-use crate::clients::{connect, line_after, replies, send};
-use crate::running::{Running, file, remove, start};
+use service_players::{Running, connect, file, line_after, remove, replies, send, start};
 use std::alloc::Global;
 use std::io::Eprint;
 use std::net::{Net, TcpListener, TcpStream};

@@ -1,8 +1,7 @@
 //! What POP3 clients are told at nodes that agree: of mail that is delivered, of locks that are broken, where nodes stop.
 
-use crate::plays::Row::{Asks, Comes, Ctl, Ends, Goes, Operator, Refused, Says, Shows};
-use crate::plays::{STOP, Scene, play};
-use crate::running::start;
+use service_players::Row::{Asks, Comes, Ctl, Ends, Goes, Operator, Refused, Says, Shows};
+use service_players::{STOP, Scene, play, start};
 use std::test::*;
 
 /// A mailbox file with one message of 30 octets.

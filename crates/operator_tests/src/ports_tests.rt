@@ -1,9 +1,10 @@
 //! Services at one port for all nodes, without a majority, and at their ends.
 
-use crate::clients::{GREETING, connect, line_after, read_all, replies};
-use crate::plays::Row::{Comes, Ctl, Ends, Refused, Says, Shows};
-use crate::plays::{Scene, play};
-use crate::running::{Running, at_one_port, start, start_planned};
+use service_players::Row::{Comes, Ctl, Ends, Refused, Says, Shows};
+use service_players::{
+    GREETING, Running, Scene, at_one_port, connect, line_after, play, read_all, replies, start,
+    start_planned,
+};
 use std::alloc::Global;
 use std::io::Eprint;
 use std::net::{Net, TcpListener, TcpStream};

@@ -1,13 +1,11 @@
 //! Operators who deliver a message of their own, wait for the verdict, come by a socket, or go too early.
 
-use crate::clients::{connect, line_after, read_all, replies, send};
-use crate::plays::Row::{Comes, Ctl, Ends, Goes, Operator, Says, Shows};
-use crate::plays::{STOP, Scene, play};
-use crate::running::{
-    Running, Told, at_port, at_socket, ctl_with, file, remove, run, start, start_planned,
-    with_few_bytes,
-};
 use ctl::CtlOptions;
+use service_players::Row::{Comes, Ctl, Ends, Goes, Operator, Says, Shows};
+use service_players::{
+    Running, STOP, Scene, Told, at_port, at_socket, connect, ctl_with, file, line_after, play,
+    read_all, remove, replies, run, send, start, start_planned, with_few_bytes,
+};
 use std::alloc::Global;
 use std::io::Eprint;
 use std::net::{Net, TcpListener, TcpStream};

@@ -1,8 +1,7 @@
 //! What an operator is answered.
 
-use crate::plays::Row::{Asks, AsksAtEnd, Ctl, Misled, Operator, Says, Shows};
-use crate::plays::{STOP, Scene, play};
-use crate::running::{file, remove, start};
+use service_players::Row::{Asks, AsksAtEnd, Ctl, Misled, Operator, Says, Shows};
+use service_players::{STOP, Scene, file, play, remove, start};
 use std::test::*;
 
 const REQUESTS: Scene = Scene {

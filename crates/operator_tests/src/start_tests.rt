@@ -1,9 +1,8 @@
 //! What a service and an operator's request begin with.
 
-use crate::clients::local;
-use crate::running::{file, free_ports, options, remove};
 use ctl::{CtlOptions, ctl_run};
 use service::{ServeOptions, serve_run};
+use service_players::{file, free_ports, local, options, remove};
 use std::alloc::Global;
 use std::fs::File;
 use std::io::Eprint;

@@ -345,14 +345,15 @@ pub fn begun<R: Net<Stream = TcpStream> + Threads + Clock>(
 
 /// Starts a service that is planned so, and waits until it takes requests. A macro, since a test alone may give a thread all
 /// that a service asks of the system.
+#[macro_export]
 macro_rules! start_planned {
     ($rt:ident, $alloc:ident, $planned:expr) => {{
         let mut service = None;
-        for _ in 0..crate::running::STARTS {
+        for _ in 0..$crate::STARTS {
             let (plan, site) = $planned?;
-            let thread = std::thread::spawn(&$rt, move || crate::running::run($rt, $alloc, &plan))
+            let thread = std::thread::spawn(&$rt, move || $crate::run($rt, $alloc, &plan))
                 .map_err(|_| "no thread")?;
-            service = crate::running::begun(&$rt, $alloc, site, thread)?;
+            service = $crate::begun(&$rt, $alloc, site, thread)?;
             if service.is_some() {
                 break;
             }
@@ -362,18 +363,12 @@ macro_rules! start_planned {
 }
 
 /// Starts a service of three nodes with these accounts, and waits until it takes requests.
+#[macro_export]
 macro_rules! start {
     ($rt:ident, $alloc:ident, $accounts:expr) => {
-        crate::running::start_planned!(
-            $rt,
-            $alloc,
-            crate::running::planned(&$rt, $alloc, $accounts)
-        )
+        $crate::start_planned!($rt, $alloc, $crate::planned(&$rt, $alloc, $accounts))
     };
 }
-
-pub(crate) use start;
-pub(crate) use start_planned;
 
 /// Calls `maildropd ctl` with these options, and these bytes on its standard input.
 pub fn ctl_with<R: Net<Listener = TcpListener, Stream = TcpStream> + Files + Eprint>(

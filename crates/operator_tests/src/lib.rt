@@ -1,0 +1,12 @@
+//! Tests of how a service starts, ends and answers its operators over TCP, with both ends in one process. There is nothing
+//! here but tests.
+#![tactic(auto)]
+
+#[cfg(test)]
+mod operators_tests;
+#[cfg(test)]
+mod ports_tests;
+#[cfg(test)]
+mod request_tests;
+#[cfg(test)]
+mod start_tests;
