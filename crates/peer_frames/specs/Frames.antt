@@ -95,3 +95,7 @@ module _ {A : Type 0} where
 
   abbrev pub frame : Version → Envelope (Command A) A → List ℕ
   frame v e = long_string (content v e)
+
+  -- the frame that is written
+  abbrev pub written_frame : Envelope (Command A) A → List ℕ
+  written_frame e = frame Second e

@@ -73,8 +73,8 @@ fn put_frame<A: Allocator + Copy>(
     set_length(bytes, start)
 }
 
-/// Adds the frame of an envelope, in version 2, to a buffer. Takes no memory beside the buffer's. `TooLong` if the content
-/// would be longer than 2^30 bytes. After an error the buffer has what it had.
+/// Adds the frame of an envelope, in version 2, to a buffer. Takes no memory but what the buffer grows by. `TooLong` if the
+/// content would be longer than 2^30 bytes. After an error the buffer has what it had.
 pub fn append<A: Allocator + Copy>(
     frames: &mut Vec<u8, A>,
     envelope: &Envelope<SharedCommand<A>, A>,
