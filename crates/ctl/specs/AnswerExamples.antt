@@ -41,6 +41,9 @@ stops_do_not = refl
 in_order : ending_by (Ask (request.Stop false true)) (codes "audit ok") ≡ Done
 in_order = refl
 
+one_node_stopped : ending_by (Ask (request.Stop false true)) (codes "stopped") ≡ Done
+one_node_stopped = refl
+
 -- a verdict that was waited for
 not_in_order : ending_by (Ask (request.Stop true true)) (codes "audit no order at node 2") ≡ Wrong
 not_in_order = refl

@@ -46,9 +46,11 @@ is_refusal line =
 abbrev pub is_verdict : List ℕ → Bool
 is_verdict line = starts_with nat_eq line (codes "audit ")
 
--- the last line of an answer to a request to stop: the verdict that all is in order, if the verdict is waited for
+-- the last line of an answer to a request to stop. If the end is waited for, it is the verdict that all is in order, or that one
+-- node of several has stopped, which has no verdict
 abbrev pub ends_stop : Bool → List ℕ → Bool
-ends_stop waits line = if waits then bytes_eq line (codes "audit ok") else bytes_eq line (codes "stopping")
+ends_stop waits line =
+    if waits then bytes_eq line (codes "audit ok") || bytes_eq line (codes "stopped") else bytes_eq line (codes "stopping")
 
 -- the last line of an answer to the delivery of one message
 abbrev pub ends_put : List ℕ → Bool

@@ -62,7 +62,7 @@ fn ends_stop(waits: bool, line: &[u8]) -> bool
     ensures { result ≡ spec.ends_stop waits line.now }
 {
     if waits {
-        line == b"audit ok".as_slice()
+        line == b"audit ok".as_slice() || line == b"stopped".as_slice()
     } else {
         line == b"stopping".as_slice()
     }

@@ -202,7 +202,7 @@ fn report<R: Eprint>(rt: &R, fault: Fault) {
 /// `kick USER`, `crash NODE`, `status`, `sessions`, `stats`, `stop` or `stop now`. Returns the exit status. After `put` it
 /// is one of sysexits: 0 if the message is stored, 67 if there is no such user, 65 if it is too large, 64 for words that are
 /// none, and 75 if it may be sent again. After other requests it is 0 after a whole answer, 1 after a verdict that isn't
-/// `audit ok`, 3 if the answer says `bad request`, `bad mbox` or `down`, 1 if it breaks off or after another fault of
+/// `audit ok` (a node in a process of its own stops without one, as `stopped`), 3 if the answer says `bad request`, `bad mbox` or `down`, 1 if it breaks off or after another fault of
 /// memory, reading, writing or the network, 2 for words that are none. It is 2 if the options name no place, or two. A fault
 /// is reported on standard error.
 pub fn ctl_run<

@@ -4,7 +4,7 @@ use Rattle.std.specs.Net.Addr.{ipv4_octets}
 use Rattle.std.specs.declared.net.ip_addr.IpAddr.{IpAddr}
 use Rattle.std.specs.declared.net.ip_addr.IpAddr.TheVariants.{V4, V6}
 use Rattle.ports.specs.declared.fault.Fault.{Fault}
-use Rattle.ports.specs.declared.fault.Fault.TheVariants.{Value, Account, NameTwice, Listen, ListenSocket, Reach, ReachSocket, Log, NoMajority, Memory, Read, Write}
+use Rattle.ports.specs.declared.fault.Fault.TheVariants.{Value, Account, NameTwice, Listen, ListenSocket, Reach, ReachSocket, StartedBefore, Mark, Log, NoMajority, Memory, Read, Write}
 
 abbrev pub status_at : Fault → ℕ
 status_at Value = 2
@@ -14,6 +14,8 @@ status_at (Listen address port) = 1
 status_at ListenSocket = 1
 status_at (Reach port) = 1
 status_at ReachSocket = 1
+status_at (StartedBefore node) = 2
+status_at Mark = 1
 status_at Log = 1
 status_at NoMajority = 1
 status_at Memory = 1
@@ -25,6 +27,9 @@ no_majority = refl
 
 twice : status_at (NameTwice 3) ≡ 2
 twice = refl
+
+started_before : status_at (StartedBefore 3) ≡ 2
+started_before = refl
 
 -- the address of this machine by which only its own programs reach it
 abbrev pub IsLocal : IpAddr → Type 0

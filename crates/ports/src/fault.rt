@@ -31,6 +31,12 @@ pub enum Fault {
     /// Nobody listens at the operator's socket.
     #[error("cannot reach the operator's socket")]
     ReachSocket,
+    /// The node was started before, by a mark that lies there.
+    #[error("node {0} was started before")]
+    StartedBefore(u8),
+    /// The mark of a node can't be made.
+    #[error("cannot make the node's mark")]
+    Mark,
     /// The log can't be opened.
     #[error("cannot open the log")]
     Log,
@@ -47,17 +53,18 @@ pub enum Fault {
 }
 
 impl Fault {
-    /// The exit status: 2 for a fault of the options, the words or the accounts file, 1 for a fault of memory, reading,
+    /// The exit status: 2 for a fault of the options, the words or the accounts file and for a node that was started before, 1 for a fault of memory, reading,
     /// writing or the network.
     pub fn status(self) -> u8
         ensures { result ≡ status_at self }
     {
         match self {
-            Fault::Value | Fault::Account(_) | Fault::NameTwice(_) => 2,
+            Fault::Value | Fault::Account(_) | Fault::NameTwice(_) | Fault::StartedBefore(_) => 2,
             Fault::Listen(_, _)
             | Fault::ListenSocket
             | Fault::Reach(_)
             | Fault::ReachSocket
+            | Fault::Mark
             | Fault::Log
             | Fault::NoMajority
             | Fault::Memory

@@ -83,6 +83,11 @@ impl Stages {
         matches!(*self.stage.lock(rt), Stage::Stopping | Stage::Ended)
     }
 
+    /// Whether the sessions have ended, and the nodes need no more time.
+    pub fn has_ended<R: Wait>(&self, rt: &R) -> bool {
+        matches!(*self.stage.lock(rt), Stage::Ended)
+    }
+
     /// Waits so long, or until the sessions have ended. Returns whether they have.
     pub fn pauses<R: Wait + Clock>(&self, rt: &R, time: Duration) -> bool {
         let guard = self.stage.lock(rt);
