@@ -25,7 +25,7 @@ const REQUESTS: &str = "Requests:
 After the first word of a request nothing is an option.
 The status is 0 after an answer, 3 if that is `bad request`, `bad mbox` or `down`, 2 for words that are no request, else 1.
 After `put` it is 0 if the message is stored, 67 if there is no such user, 65 if it is too large, 64 for words that are no request, and 75 if it may be sent again later.
-After `--wait stop` it is 0 if the verdict is `audit ok`, else 1.
+After `--wait stop` it is 0 if the verdict is `audit ok`, or if a node in a process of its own has `stopped`, else 1.
 Examples:
   maildropd ctl --port 11999 deliver 1 alice mail.mbox
   maildropd ctl --port 11999 put 0 alice monday-7 <message

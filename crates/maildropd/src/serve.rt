@@ -6,7 +6,7 @@ use crate::arguments::{
 };
 use clap::{ArgMatches, Command, Error};
 use ports::Fault;
-use service::{ServeOptions, serve_run};
+use service::{NodeOptions, ServeOptions, serve_node_run, serve_run};
 use std::alloc::Global;
 use std::fs::File;
 use std::io;
@@ -25,7 +25,10 @@ const EXAMPLES: &str = "Examples, with a line `alice pass secret` in the file ac
   maildropd serve --accounts accounts --port 11000 --ctl-port 11999 --idle-seconds 1800 --no-majority-seconds 0 --delivery-bytes 268435456
 After the first, POP3 connections are taken at 127.0.0.1:11000, and served at the node that leads.
 `maildropd ctl --port 11999 stop` ends it. Then it prints what an audit finds: `audit ok` with the status 0, or what is wrong with the status 1.
-All mail lies in memory, and is gone when the process ends.";
+All mail lies in memory, and is gone when the process ends.
+Each node in a process of its own, here node 2 of three, with a port of its own for clients and one for its operator:
+  maildropd serve --accounts accounts --node 2 --peer-port 12000 --mark /var/lib/maildropd --port 11002 --ctl-port 11992
+It prints `stopped` at its end.";
 
 /// The options of `serve`: where the service is, its nodes, and the limits of each maildrop.
 const OPTIONS: &[Choice] = &[
@@ -84,6 +87,27 @@ const OPTIONS: &[Choice] = &[
         kind: Kind::Number,
         presence: Presence::Default("3"),
         help: "How many nodes there are, 1 to 9",
+    },
+    Choice {
+        name: "peer-port",
+        value: "PORT",
+        kind: Kind::Number,
+        presence: Presence::Optional,
+        help: "Node N takes what other nodes send at the port of 127.0.0.1 that is N above this one",
+    },
+    Choice {
+        name: "node",
+        value: "NUMBER",
+        kind: Kind::Number,
+        presence: Presence::Optional,
+        help: "Runs this node alone, beside processes that run the others. Needs --peer-port. No node may be started twice",
+    },
+    Choice {
+        name: "mark",
+        value: "FOLDER",
+        kind: Kind::Text,
+        presence: Presence::Optional,
+        help: "With --node: notes in this folder that the node was started, and starts none that was started before",
     },
     Choice {
         name: "window",
@@ -153,7 +177,9 @@ const OPTIONS: &[Choice] = &[
 /// The command `serve` of the command line.
 pub(crate) fn serve<'a>(alloc: Global) -> Result<Command<'a>, Error> {
     let serve = Command::new(alloc, "serve")
-        .about("Serves POP3 over maildrops that one to nine nodes in this process agree on")
+        .about(
+            "Serves POP3 over maildrops that one to nine nodes agree on, in this process or each in its own",
+        )
         .after_help(EXAMPLES);
     with_options(alloc, serve, OPTIONS)
 }
@@ -168,6 +194,7 @@ fn options_of<'a>(matches: &ArgMatches<'a>) -> Option<ServeOptions<'a>> {
         listen,
         ctl_port: optional_number_of(matches, "ctl-port"),
         ctl_socket: optional_text_of(matches, "ctl-socket"),
+        peer_port: optional_number_of(matches, "peer-port"),
         nodes: number_of(matches, "nodes"),
         window: number_of(matches, "window"),
         messages: number_of(matches, "messages"),
@@ -180,6 +207,13 @@ fn options_of<'a>(matches: &ArgMatches<'a>) -> Option<ServeOptions<'a>> {
         delivery_bytes: number_of(matches, "delivery-bytes"),
         log: optional_text_of(matches, "log"),
     })
+}
+
+/// Reports that an option is out of its range. Returns the status.
+fn refuse<R: Eprint>(rt: &R) -> u8 {
+    let fault = Fault::Value;
+    let _untold = eprintln!(rt; "maildropd: {fault}");
+    fault.status()
 }
 
 pub(crate) fn run_serve<
@@ -197,12 +231,20 @@ pub(crate) fn run_serve<
         + Print
         + Eprint,
 >(rt: &R, matches: &ArgMatches<'_>) -> u8 {
-    match options_of(matches) {
-        Some(options) => serve_run(*rt, rt.alloc(), &mut io::writer(rt), &options).status,
-        None => {
-            let fault = Fault::Value;
-            let _untold = eprintln!(rt; "maildropd: {fault}");
-            fault.status()
+    let Some(service) = options_of(matches) else {
+        return refuse(rt);
+    };
+    let mark = optional_text_of(matches, "mark");
+    match optional_number_of(matches, "node") {
+        Some(node) => {
+            let options = NodeOptions {
+                service,
+                node,
+                mark,
+            };
+            serve_node_run(*rt, rt.alloc(), &mut io::writer(rt), &options)
         }
+        None if mark.is_some() => refuse(rt),
+        None => serve_run(*rt, rt.alloc(), &mut io::writer(rt), &service).status,
     }
 }

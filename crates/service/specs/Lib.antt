@@ -1,4 +1,7 @@
 pub mod Options
+pub mod Peers
+pub mod OperatorOps
+pub mod Agreements
 pub mod Faults
 pub mod Examples
 pub mod Verdicts

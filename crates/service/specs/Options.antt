@@ -1,8 +1,10 @@
 -- The options of a service.
-use Rattle.std.specs.Prelude.{◌≡◌, refl, false, ℕ, ◌-◌, ◌^◌, ◌&&◌, ◌||◌, Bool, true, nat_le, Option, None, Some, is_some, is_none, IsTrue}
+use Rattle.std.specs.Prelude.{◌≡◌, refl, false, ℕ, ◌-◌, ◌^◌, ◌&&◌, ◌||◌, Bool, true, nat_eq, nat_le, List, [], ◌∷◌, Option, None, Some, is_some, is_none, IsTrue}
 use Rattle.maildrop.specs.Limits.{Limits, AreLimits}
 use Rattle.apop.specs.Stamp.{IsHost}
+use Rattle.cluster.specs.Starts.{all_nodes}
 use Rattle.ports.specs.Ranges.{last_port, is_between, may_be_between}
+use Rattle.service.specs.declared.options.NodeOptions.{NodeOptions}
 use Rattle.service.specs.declared.options.ServeOptions.{ServeOptions}
 
 abbrev pub most_nodes : ℕ
@@ -20,11 +22,12 @@ longest_pause = 1000000
 abbrev pub most_delivery_bytes : ℕ
 most_delivery_bytes = 2 ^ 40
 
--- The ports of the nodes are those from one above `pop_port` on.
+-- The ports of the nodes are those from one above `pop_port` on, and from one above `peer_port` on.
 abbrev pub are_ports : ServeOptions → Bool
 are_ports o =
     may_be_between 1 last_port o.port
     && may_be_between 0 (last_port - o.nodes) o.pop_port
+    && may_be_between 0 (last_port - o.nodes) o.peer_port
     && may_be_between 1 last_port o.ctl_port
 
 -- clients have a port or ports of the nodes, or both, and the operator has either a port or a socket
@@ -52,6 +55,24 @@ limits_of o = record { messages = o.messages; octets = o.octets; ids = o.ids }
 abbrev pub AreGood : ServeOptions → Type 0
 AreGood o = IsTrue (are_in_range o) × AreLimits (limits_of o) × IsHost o.host.now
 
+-- the nodes that run in a process: the one of this number, or all
+abbrev pub nodes_here : ℕ → Option ℕ → List ℕ
+nodes_here cluster None = all_nodes cluster
+nodes_here cluster (Some node) = node ∷ []
+
+-- whether a node is one of them
+abbrev pub runs : ℕ → Option ℕ → Bool
+runs node None = true
+runs node (Some only) = nat_eq only node
+
+-- a node can run in a process of its own if it is in the cluster, and the nodes have ports
+abbrev pub may_be_alone : NodeOptions → Bool
+may_be_alone o = is_some o.service.peer_port && is_between 1 o.service.nodes o.node
+
+-- each value is in its range, and the node can run in a process of its own
+abbrev pub AreNodeGood : NodeOptions → Type 0
+AreNodeGood o = AreGood o.service × IsTrue (may_be_alone o)
+
 no_node : is_between 1 most_nodes 0 ≡ false
 no_node = refl
 
@@ -61,3 +82,13 @@ nine_nodes = refl
 -- port 65535 + 1 of node 1 is none
 no_room_for_nodes : may_be_between 0 (last_port - 1) (Some 65535) ≡ false
 no_room_for_nodes = refl
+
+-- node 3 of three runs alone, and node 4 doesn't
+third_node : nodes_here 3 (Some 3) ≡ 3 ∷ []
+third_node = refl
+
+third_runs : runs 3 (Some 3) ≡ true
+third_runs = refl
+
+fourth_does_not : runs 4 (Some 3) ≡ false
+fourth_does_not = refl

@@ -22,6 +22,8 @@ use Rattle.cluster.specs.Members.{opening_of}
 use Rattle.cluster.specs.Starts.{all_nodes}
 use Rattle.cluster.specs.declared.setup.Setup.{Setup}
 use Rattle.service.specs.Transcripts.{TranscriptsValue, has_asked, numbered}
+use Rattle.service.specs.declared.announcement.Report.{Report}
+use Rattle.service.specs.declared.announcement.Report.TheVariants as report
 use Rattle.service.specs.declared.verdict.Verdict.{Verdict}
 use Rattle.service.specs.declared.verdict.Verdict.TheVariants.{Legal, NoOrder, WrongAnswer, Memory}
 
@@ -31,6 +33,11 @@ text_of Legal = codes "audit ok"
 text_of (NoOrder number) = codes "audit no order at node " ++ decimal number
 text_of (WrongAnswer session) = codes "audit wrong answer in session " ++ decimal session
 text_of Memory = codes "audit no memory"
+
+-- the line about a run that has ended, up to its line feed
+abbrev pub report_of : Report → List ℕ
+report_of (report.Audit verdict) = text_of verdict
+report_of report.Stopped = codes "stopped"
 
 -- 0 where the audit found all in order, else 1
 abbrev pub status_of : Verdict → ℕ

@@ -1,8 +1,8 @@
 //! Operations that a node is asked for on behalf of a client who may go.
 
 use crate::operator_limits::LOOK_MS;
-use crate::served_node::ServedNode;
-use maildrop::{Name, Op, Outcome, Ticket};
+use crate::served_node::{OperatorOp, ServedNode};
+use maildrop::{Name, Outcome, Ticket};
 use ports::OperatorStream;
 use std::sync::Wait;
 use std::time::Duration;
@@ -44,7 +44,7 @@ pub(crate) fn ask<R: Wait, N: ServedNode>(
     node: &N,
     stream: &OperatorStream,
     user: Name,
-    op: Op,
+    op: OperatorOp,
 ) -> Result<(Ticket, Outcome), Unanswered> {
     let Some(ticket) = node.submit(user, op) else {
         return Err(Unanswered::Stopped);

@@ -5,9 +5,9 @@ ghost use Rattle.service.specs.Keys.{key_at};
 ghost use Rattle.service.specs.Deliveries as spec;
 
 use crate::asking::{Unanswered, ask};
-use crate::served_node::ServedNode;
+use crate::served_node::{OperatorOp, ServedNode};
 use ballot::Memory;
-use maildrop::{Key, Name, Op, Outcome, Text, TextBuilder, next_line};
+use maildrop::{Key, Name, Outcome, Text, TextBuilder, next_line};
 use mboxrd::{MboxError, Reader};
 use ports::{Fault, OperatorStream, PIECE, say};
 use script::{KeyPrefix, LAST_MESSAGE, put_outcome};
@@ -194,7 +194,7 @@ impl<R: Wait + Drop, N: ServedNode + Drop> Delivery<'_, R, N> {
             self.node,
             self.stream,
             self.user,
-            Op::Mail { text, key },
+            OperatorOp::Mail { text, key },
         ) {
             Ok((ticket, outcome)) => {
                 delivered.note(&outcome, octets);

@@ -1,6 +1,9 @@
 //! The command `maildropd serve`: a service of one to nine nodes.
 #![tactic(auto)]
 
+mod agreement;
+mod announcement;
+mod announcements;
 mod asking;
 mod audited;
 mod brand;
@@ -10,11 +13,14 @@ mod lock_breaker;
 mod login_gate;
 mod maildrop_lines;
 mod majority;
+mod mark;
 mod operator;
 mod operator_limits;
 mod options;
+mod peers;
 mod pop;
 mod serve;
+mod serve_node;
 mod served_node;
 mod served_sessions;
 mod service_nodes;
@@ -24,8 +30,8 @@ mod threads;
 mod ticker;
 mod transcripts;
 mod verdict;
-mod verdicts;
 
-pub use options::ServeOptions;
+pub use options::{NodeOptions, ServeOptions};
 pub use serve::{ServiceEnd, serve_run};
+pub use serve_node::serve_node_run;
 pub use verdict::{Verdict, verdict_of};

@@ -13,7 +13,7 @@ ghost use Rattle.service.specs.Locks as spec;
 
 use crate::furthest::{furthest_slot, furthest_up};
 use crate::majority::is_majority;
-use crate::served_node::ServedNode;
+use crate::served_node::{OperatorOp, ServedNode};
 use ballot::{Memory, NodeId};
 use indexmap::IndexMap;
 use maildrop::{CommandId, Name, Op, Outcome, Ticket};
@@ -196,7 +196,7 @@ fn submit<N: ServedNode>(
     }
     // Room first, so that no Break is submitted that isn't kept.
     attempts.reserve(1)?;
-    if let Some(ticket) = node.submit(user, Op::Break) {
+    if let Some(ticket) = node.submit(user, OperatorOp::Break) {
         let attempt = Attempt {
             ticket,
             is_done: false,

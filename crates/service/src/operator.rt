@@ -10,12 +10,12 @@ use crate::operator_limits::{
     BRIEF_LINE_MS, BROKEN_LOOK_MS, CUT_MS, LINE_MS, LOOK_MS, MOST_BROKEN_LOOKS,
 };
 use crate::pop::node_for;
-use crate::served_node::ServedNode;
+use crate::served_node::{OperatorOp, ServedNode};
 use crate::standing::put_standing;
 use crate::state::ServiceState;
 use ballot::{Memory, NodeId};
 use ctl::awaits_nodes;
-use maildrop::{Key, Name, Op, Outcome};
+use maildrop::{Key, Name, Outcome};
 use ports::{
     Connection, DeliveryBudget, Fault, Handler, LONGEST_PAUSE_MS, OperatorReader, OperatorStream,
     RequestPlaces, say,
@@ -50,6 +50,8 @@ pub(crate) struct OperatorHandler<R, N: ServedNode> {
     /// What all threads of the service see.
     state: Arc<ServiceState>,
     limits: Arc<SharedLimits>,
+    /// How many bytes a file has at most that is delivered.
+    most_file: u64,
     /// A short answer. Its room is taken before the connection comes.
     answer: Vec<u8>,
 }
@@ -126,13 +128,15 @@ fn put_status<N: ServedNode>(nodes: &[N], text: &mut Vec<u8>) -> Result<(), Memo
 }
 
 impl<R: Wait + Clock + Copy, N: ServedNode + Drop> OperatorHandler<R, N> {
-    /// Answers operators of these nodes. The files that are delivered at a time have so many bytes together.
+    /// Answers operators of these nodes. The files that are delivered at a time have so many bytes together, and each at most
+    /// so many.
     pub(crate) fn new(
         rt: R,
         alloc: Global,
         nodes: Arc<Vec<N>>,
         state: Arc<ServiceState>,
         delivery_bytes: u64,
+        most_file: u64,
     ) -> Result<Self, Memory> {
         let limits = SharedLimits {
             places: RequestPlaces::new(),
@@ -144,6 +148,7 @@ impl<R: Wait + Clock + Copy, N: ServedNode + Drop> OperatorHandler<R, N> {
             nodes,
             state,
             limits: Arc::new(alloc, limits)?,
+            most_file,
             answer: Vec::with_capacity(alloc, ANSWER_ROOM)?,
         })
     }
@@ -204,6 +209,8 @@ impl<R: Wait + Clock + Copy, N: ServedNode + Drop> OperatorHandler<R, N> {
         stream: &OperatorStream,
     ) -> Result<(), Fault> {
         match request {
+            Request::Deliver { count, .. } | Request::Put { count, .. }
+                if *count > self.most_file => { tell(stream, b"bad request\n") }
             Request::Deliver {
                 node,
                 user,
@@ -291,7 +298,7 @@ impl<R: Wait + Clock + Copy, N: ServedNode + Drop> OperatorHandler<R, N> {
         }
     }
 
-    /// Stops the service, and reports it, and the verdict if the client waits for that. Sessions that are open are cut if the
+    /// Stops the service, and reports it, and how it has ended if the client waits for that. Sessions that are open are cut if the
     /// service is to stop now.
     fn stop(
         &self,
@@ -311,7 +318,7 @@ impl<R: Wait + Clock + Copy, N: ServedNode + Drop> OperatorHandler<R, N> {
         }
         told?;
         if waits && may_wait {
-            return self.tell_verdict(stream);
+            return self.tell_end(stream);
         }
         Ok(())
     }
@@ -331,11 +338,11 @@ impl<R: Wait + Clock + Copy, N: ServedNode + Drop> OperatorHandler<R, N> {
         }
     }
 
-    /// Reports the verdict, once there is one.
-    fn tell_verdict(&self, stream: &OperatorStream) -> Result<(), Fault> {
-        match self.state.verdicts().wait(&self.rt) {
-            Some(verdict) => {
-                let line = verdict.line(self.alloc)?;
+    /// Reports how the service has ended, once it has.
+    fn tell_end(&self, stream: &OperatorStream) -> Result<(), Fault> {
+        match self.state.announcements().wait(&self.rt) {
+            Some(announcement) => {
+                let line = announcement.line(self.alloc)?;
                 tell(stream, line.as_bytes())
             }
             None => Ok(()),
@@ -494,7 +501,7 @@ impl<R: Wait + Clock + Copy, N: ServedNode + Drop> OperatorHandler<R, N> {
         let Some(node) = node_up(&self.nodes, Some(number)) else {
             return tell(stream, b"down\n");
         };
-        match ask(&self.rt, node, stream, user, Op::Break) {
+        match ask(&self.rt, node, stream, user, OperatorOp::Break) {
             Ok((_, Outcome::Done)) => tell(stream, b"done\n"),
             Ok(_) => tell(stream, b"no such user\n"),
             Err(why) => tell_why(stream, why),
@@ -534,6 +541,7 @@ impl<R: Wait + Clock + Copy, N: ServedNode + Drop> Handler<OperatorStream>
             nodes,
             state,
             limits,
+            most_file: self.most_file,
             answer: Vec::with_capacity(self.alloc, ANSWER_ROOM)?,
         })
     }

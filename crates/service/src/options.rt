@@ -1,10 +1,10 @@
 //! What a service is started with.
-ghost use Rattle.std.specs.Prelude.{◌≡◌, ◌≤◌, ◌↔◌, IfOk, IfSome, IsErrOf};
+ghost use Rattle.std.specs.Prelude.{◌≡◌, ◌≤◌, ◌↔◌, None, Some, IfOk, IfSome, IsErrOf, IsTrue};
 ghost use Rattle.ports.specs.Ranges as ranges;
 ghost use Rattle.service.specs.Options as spec;
 
 use apop::stamp;
-use ballot::{Cluster, Items, LAST_NODE};
+use ballot::{Cluster, Items, LAST_NODE, NodeId};
 use maildrop::Limits;
 use node::WIDEST_WINDOW;
 use ports::Fault;
@@ -42,6 +42,9 @@ pub struct ServeOptions<'a> {
     pub ctl_port: Option<u64>,
     /// The path of the Unix socket that takes the operator's requests.
     pub ctl_socket: Option<&'a str>,
+    /// Node n takes what other nodes send at the port of this machine that is n above this one: each 1 to 65535. Without it
+    /// all nodes are in this process, and have no ports.
+    pub peer_port: Option<u64>,
     /// How many nodes there are: 1 to 9.
     pub nodes: u64,
     /// For how many slots a node proposes at a time: 1 to 1,000.
@@ -66,6 +69,17 @@ pub struct ServeOptions<'a> {
     pub log: Option<&'a str>,
 }
 
+/// The options of a process that runs one node of a service.
+#[derive(Clone, Copy)]
+pub struct NodeOptions<'a> {
+    /// The options of the service, which has ports for its nodes.
+    pub service: ServeOptions<'a>,
+    /// The node's number: 1 to the number of nodes.
+    pub node: u64,
+    /// The path of a folder that gets a mark of the node, if there is one. No node starts of which it has one.
+    pub mark: Option<&'a str>,
+}
+
 /// What the options of a service say, once each is in its range.
 #[derive(Drop)]
 pub(crate) struct Settings {
@@ -83,6 +97,10 @@ pub(crate) struct Settings {
     pub pop_port: Option<u16>,
     /// The address of these ports.
     pub listen: IpAddr,
+    /// Nodes send to one another at the ports above this one of this machine: port `peer_port` + n is node n's.
+    pub peer_port: Option<u16>,
+    /// The node that runs here, if not all do.
+    pub node: Option<NodeId>,
     /// The port that takes the operator's requests. If there is none, a Unix socket takes them.
     pub ctl_port: Option<u16>,
     /// How many milliseconds lie between two ticks of a node at least: 1 to 1,000,000.
@@ -93,6 +111,18 @@ pub(crate) struct Settings {
     pub no_majority_seconds: u64,
     /// How many bytes the files have together that are delivered at a time.
     pub delivery_bytes: u64,
+}
+
+impl Settings {
+    /// Whether a node runs in this process.
+    pub(crate) fn runs(&self, node: NodeId) -> bool
+        ensures { result ≡ spec.runs node self.now.node }
+    {
+        match self.node {
+            None => true,
+            Some(only) => only == node,
+        }
+    }
 }
 
 fn is_between(low: u64, high: u64, number: u64) -> bool
@@ -127,6 +157,7 @@ fn are_ports(options: &ServeOptions<'_>) -> bool
 {
     may_be_between(1, LAST_PORT, options.port)
         && may_be_between(0, LAST_PORT - options.nodes, options.pop_port)
+        && may_be_between(0, LAST_PORT - options.nodes, options.peer_port)
         && may_be_between(1, LAST_PORT, options.ctl_port)
 }
 
@@ -164,6 +195,8 @@ pub(crate) fn settings_of(alloc: Global, options: &ServeOptions<'_>) -> Result<S
     ensures host { IfOk result (λ settings. settings.host ≡ options.now.host.now) }
     ensures port { IfOk result (λ settings. settings.port ≡ options.now.port) }
     ensures pop_port { IfOk result (λ settings. settings.pop_port ≡ options.now.pop_port) }
+    ensures peer_port { IfOk result (λ settings. settings.peer_port ≡ options.now.peer_port) }
+    ensures node { IfOk result (λ settings. settings.node ≡ None) }
     ensures ctl_port { IfOk result (λ settings. settings.ctl_port ≡ options.now.ctl_port) }
     ensures tick { IfOk result (λ settings. settings.tick_ms ≡ options.now.tick_ms) }
     ensures idle { IfOk result (λ settings. settings.idle_seconds ≡ options.now.idle_seconds) }
@@ -190,10 +223,38 @@ pub(crate) fn settings_of(alloc: Global, options: &ServeOptions<'_>) -> Result<S
         port: port_of(options.port),
         pop_port: port_of(options.pop_port),
         listen: options.listen,
+        peer_port: port_of(options.peer_port),
+        node: None,
         ctl_port: port_of(options.ctl_port),
         tick_ms: options.tick_ms,
         idle_seconds: options.idle_seconds,
         no_majority_seconds: options.no_majority_seconds,
         delivery_bytes: options.delivery_bytes,
     })
+}
+
+/// Whether a node can run in a process of its own: it is in the cluster, and the nodes have ports.
+fn may_be_alone(options: &NodeOptions<'_>) -> bool
+    ensures { result ≡ spec.may_be_alone options.now }
+{
+    options.service.peer_port.is_some() && is_between(1, options.service.nodes, options.node)
+}
+
+/// What the options of a process with one node say, or `Value` if one is out of its range.
+pub(crate) fn node_settings_of(alloc: Global, options: &NodeOptions<'_>) -> Result<Settings, Fault>
+    ensures value { IsErrOf result Fault.Value ↔ ¬ spec.AreNodeGood options.now }
+    ensures cluster { IfOk result (λ settings. settings.cluster ≡ options.now.service.nodes) }
+    ensures peer_port { IfOk result (λ settings. settings.peer_port ≡ options.now.service.peer_port) }
+    ensures node { IfOk result (λ settings. settings.node ≡ Some options.now.node) }
+{
+    if !may_be_alone(options) {
+        return Err(Fault::Value);
+    }
+    match settings_of(alloc, &options.service) {
+        Ok(mut settings) => {
+            settings.node = NodeId::new(options.node as u8);
+            Ok(settings)
+        }
+        Err(fault) => Err(fault),
+    }
 }

@@ -4,15 +4,15 @@ use crate::brand::Service;
 use crate::login_gate::LoginGate;
 use crate::served_node::ServedNode;
 use crate::served_sessions::ServedSessions;
+use crate::service_nodes::ServiceDesk;
 use crate::state::ServiceState;
 use apop::Stamp;
 use ballot::{Memory, NodeId};
-use maildrop::{Op, Outcome};
+use cluster::Link;
 use ports::Handler;
-use session::{Desk, End};
+use session::End;
 use session_log::{
-    BoundedReader, OpenSession, ReplyWriter, SessionDesk, SessionFacts, SharedFacts, WRITE_SECONDS,
-    ending_of,
+    BoundedReader, OpenSession, ReplyWriter, SessionFacts, SharedFacts, WRITE_SECONDS, ending_of,
 };
 use std::alloc::Global;
 use std::io::BufWriter;
@@ -26,13 +26,13 @@ const GATHERED: usize = 4_096;
 
 /// Serves POP3 sessions (RFC 1939) at a node.
 #[derive(Drop)]
-pub(crate) struct PopHandler<D: Service, R, N: ServedNode> {
+pub(crate) struct PopHandler<D: Service, R: Wait, L: Link> {
     /// The system: random bytes, waits and the clock.
     pub rt: R,
     /// Where its memory comes from.
     pub alloc: Global,
     /// The nodes of the service.
-    pub nodes: Arc<Vec<N>>,
+    pub nodes: Arc<Vec<ServiceDesk<D, R, L>>>,
     /// The node whose port this is, if the port is a node's.
     pub own: Option<NodeId>,
     /// What all threads of the service see.
@@ -60,13 +60,9 @@ pub(crate) fn node_for<N: ServedNode>(nodes: &[N], own: Option<u8>) -> Option<&N
     chosen
 }
 
-impl<
-    D: Service,
-    R: RandomSource + Wait + Clock + Copy,
-    N: ServedNode + Desk<Op, Outcome> + Drop,
-> PopHandler<D, R, N> {
+impl<D: Service, R: RandomSource + Wait + Clock + Copy, L: Link + Drop> PopHandler<D, R, L> {
     /// A desk of the node that a session asks, if a node is up.
-    fn node(&self) -> Option<N> {
+    fn node(&self) -> Option<ServiceDesk<D, R, L>> {
         let own = match &self.own {
             Some(number) => Some(number.get()),
             None => None,
@@ -97,32 +93,31 @@ impl<
         Ok(facts)
     }
 
-    /// Serves a session to its end. Returns how it ended, unless there is no memory to begin it.
+    /// Serves a session at a node to its end. Returns how it ended, unless there is no memory to begin it.
     fn converse(
         &self,
-        stream: &TcpStream,
+        node: ServiceDesk<D, R, L>,
         stamp: Stamp,
-        desk: &mut SessionDesk<R, N>,
-        facts: &Mutex<SessionFacts>,
+        stream: &TcpStream,
+        facts: &SharedFacts,
         gate: &mut LoginGate<'_, R>,
     ) -> Option<End> {
+        let shared = Arc::try_clone(facts).ok()?;
         let Ok(writer) = BufWriter::with_capacity(self.alloc, GATHERED, stream) else {
             return None;
         };
         let mut reader = BoundedReader::new(self.rt, stream, facts, self.state.idle_seconds());
         let mut writer = ReplyWriter::new(self.rt, writer, facts, self.state.refusal());
-        let end = self
-            .sessions
-            .serve(&self.rt, &mut reader, &mut writer, stamp, desk, gate);
+        let end = self.sessions.serve(self.rt, node, shared, &mut reader, &mut writer, stamp, gate);
         // Nothing is written after a write that failed.
         writer.discard();
         end
     }
 
-    /// Serves a session at a node to its end.
+    /// Serves a session at a node to its end, lists it as long as it is open, and reports its end.
     fn serve_at(
         &self,
-        node: N,
+        node: ServiceDesk<D, R, L>,
         number: u64,
         stamp: Stamp,
         stream: &Arc<TcpStream>,
@@ -139,29 +134,11 @@ impl<
             node: me,
             peer,
         };
-        let end = self.converse_at(node, stamp, stream, &facts, &mut gate);
+        let end = self.converse(node, stamp, stream, &facts, &mut gate);
         self.state.sessions().remove(&self.rt, number);
         if let Some(end) = end {
             self.report(me, peer, &facts, end);
         }
-    }
-
-    /// The same, with what is known of the session.
-    fn converse_at(
-        &self,
-        node: N,
-        stamp: Stamp,
-        stream: &TcpStream,
-        facts: &SharedFacts,
-        gate: &mut LoginGate<'_, R>,
-    ) -> Option<End> {
-        let shared = Arc::try_clone(facts).ok()?;
-        let mut desk = SessionDesk {
-            rt: self.rt,
-            node,
-            facts: shared,
-        };
-        self.converse(stream, stamp, &mut desk, facts, gate)
     }
 
     /// Counts and logs a session that has ended.
@@ -175,11 +152,8 @@ impl<
     }
 }
 
-impl<
-    D: Service,
-    R: RandomSource + Wait + Clock + Copy,
-    N: ServedNode + Desk<Op, Outcome> + Drop,
-> Handler<TcpStream> for PopHandler<D, R, N> {
+impl<D: Service, R: RandomSource + Wait + Clock + Copy, L: Link + Drop> Handler<TcpStream>
+    for PopHandler<D, R, L> {
     fn serve(&mut self, stream: &Arc<TcpStream>, peer: SocketAddr) {
         // What is written goes out at once, and a client that takes nothing isn't waited for without an end.
         let _slower = stream.set_nodelay(true);

@@ -13,6 +13,8 @@ ghost use Rattle.apop.specs.Accounts.{name_of};
 ghost use Rattle.cluster.specs.Starts.{all_nodes};
 ghost use Rattle.maildrop.specs.Name.{are_different};
 
+use crate::agreement::agreement_line;
+use crate::announcement::Announcement;
 use crate::audited::{Audited, Left, left_by};
 use crate::brand::Service;
 use crate::options::{ServeOptions, Settings, settings_of};
@@ -24,7 +26,7 @@ use crate::threads::{Ports, ServiceThreads, join_all};
 use crate::verdict::Verdict;
 use apop::{Accounts, AccountsError};
 use ballot::{Items, NodeId};
-use cluster::Setup;
+use cluster::{Link, Setup};
 use maildrop::{Kept, Shared};
 use node::NodeLog;
 use ports::{Fault, System, read_file, remove_socket, say};
@@ -41,7 +43,7 @@ use std::thread::JoinHandle;
 use std::time::Clock;
 
 /// The node that asks to lead as soon as the service starts.
-const FIRST_LEADER: u8 = 1;
+pub(crate) const FIRST_LEADER: u8 = 1;
 
 /// The fault of an accounts file that is refused.
 fn fault_of(error: AccountsError) -> Fault
@@ -67,13 +69,17 @@ fn accounts_in(alloc: Global, bytes: &[u8]) -> Result<Accounts, Fault>
 }
 
 /// The accounts of the file of this path.
-fn accounts_of<R: Files>(rt: &R, alloc: Global, path: &str) -> Result<Accounts, Fault> {
+pub(crate) fn accounts_of<R: Files>(rt: &R, alloc: Global, path: &str) -> Result<Accounts, Fault> {
     let bytes = read_file(rt, alloc, path)?;
     accounts_in(alloc, bytes.as_slice())
 }
 
 /// What the nodes begin with.
-fn setup_of(alloc: Global, settings: &Settings, accounts: &Accounts) -> Result<Setup, Fault>
+pub(crate) fn setup_of(
+    alloc: Global,
+    settings: &Settings,
+    accounts: &Accounts,
+) -> Result<Setup, Fault>
     ensures cluster { IfOk result (λ setup. setup.cluster ≡ settings.now.cluster) }
     ensures window { IfOk result (λ setup. setup.window ≡ settings.now.window) }
     ensures limits { IfOk result (λ setup. setup.limits ≡ settings.now.limits) }
@@ -128,7 +134,35 @@ fn serve_cluster<D: Service + Send + Sync + 'static, R: System>(
     requires some { 1 ≤ setup.now.cluster }
     requires part { 0 < part.parts }
 {
-    let service_nodes = ServiceNodes::start(rt, alloc, setup, part)?;
+    match settings.peer_port {
+        None => {
+            let nodes = ServiceNodes::start(rt, alloc, setup, part)?;
+            serve_nodes(rt, alloc, settings, ports, state, sessions, nodes)
+        }
+        Some(base) => {
+            let nodes = ServiceNodes::start_over(rt, alloc, setup, part, base, None)?;
+            serve_nodes(rt, alloc, settings, ports, state, sessions, nodes)
+        }
+    }
+}
+
+/// Runs sessions over the nodes of a service until an operator stops them, or they have been without a majority for too long.
+fn serve_nodes<
+    D: Service + Send + Sync + 'static,
+    R: System,
+    L: Link + Drop + Send + Sync + 'static,
+>(
+    rt: R,
+    alloc: Global,
+    settings: &Settings,
+    ports: &Ports,
+    state: &Arc<ServiceState>,
+    sessions: &Arc<ServedSessions<D>>,
+    service_nodes: ServiceNodes<D, R, L>,
+) -> Result<ClusterEnd<D>, Fault>
+    requires nodes { service_nodes ≡ all_nodes D.setup.cluster }
+    requires begins { CanServe D.accounts D.setup }
+{
     let desks = Arc::new(alloc, service_nodes.desks(alloc, settings.cluster)?)?;
     if let Some(leader) = NodeId::new(FIRST_LEADER) {
         service_nodes.campaign(leader);
@@ -145,63 +179,73 @@ fn serve_cluster<D: Service + Send + Sync + 'static, R: System>(
 }
 
 /// Waits until the service has ended, and audits all that was done. Operators who wait for the verdict are told it.
-fn audit_at_end<D: Service + Send + Sync + 'static, R: System>(
+fn audit_at_end<
+    D: Service + Send + Sync + 'static,
+    R: System,
+    L: Link + Drop + Send + Sync + 'static,
+>(
     rt: R,
     alloc: Global,
-    service_nodes: ServiceNodes<D, R>,
+    service_nodes: ServiceNodes<D, R, L>,
     threads: ServiceThreads,
     ports: &Ports,
     state: &ServiceState,
     served: &ServedSessions<D>,
 ) -> Option<Audited<D>>
-    requires { CanServe D.accounts D.setup }
+    requires nodes { service_nodes ≡ all_nodes D.setup.cluster }
+    requires begins { CanServe D.accounts D.setup }
 {
-    let ServiceThreads {
-        sessions,
-        nodes,
-        operators,
-    } = threads;
-    end_sessions(&rt, sessions, nodes, ports, state);
+    let operators = end_sessions(&rt, threads, ports, state);
     let audited = audit_all(&rt, alloc, service_nodes, served);
-    state.verdicts().announce(&rt, &audited);
+    let announcement = Announcement::audited(&audited);
+    state.announcements().announce(&rt, announcement);
     join_all(&rt, operators);
     audited
 }
 
 /// Stops the nodes of a service whose sessions have ended, and audits all that was done. `None` if a node left no log, or the
 /// transcripts are gone.
-fn audit_all<D: Service + Send + Sync + 'static, R: System>(
+fn audit_all<D: Service + Send + Sync + 'static, R: System, L: Link + Drop + Send + Sync + 'static>(
     rt: &R,
     alloc: Global,
-    service_nodes: ServiceNodes<D, R>,
+    service_nodes: ServiceNodes<D, R, L>,
     served: &ServedSessions<D>,
 ) -> Option<Audited<D>>
-    requires { CanServe D.accounts D.setup }
+    requires nodes { service_nodes ≡ all_nodes D.setup.cluster }
+    requires begins { CanServe D.accounts D.setup }
 {
     let logs = service_nodes.stop()?;
     let transcripts = served.take(rt)?;
     Some(Audited::new(alloc, logs, transcripts))
 }
 
-/// Waits until the service stops and its sessions have ended. Then no operator comes any more, and the nodes need no more
-/// time.
-fn end_sessions<R: System>(
+/// Waits until the service stops and its sessions have ended. Then no operator comes any more, the nodes need no more time, and
+/// what others send to them is heard no longer. Returns the threads of operators, who may still wait for the end.
+pub(crate) fn end_sessions<R: System>(
     rt: &R,
-    sessions: Vec<JoinHandle<()>>,
-    nodes: Vec<JoinHandle<()>>,
+    threads: ServiceThreads,
     ports: &Ports,
     state: &ServiceState,
-) {
+) -> Vec<JoinHandle<()>> {
+    let ServiceThreads {
+        sessions,
+        nodes,
+        peers,
+        operators,
+    } = threads;
     state.stages().wait_for_stop(rt);
     ports.close_pop(rt);
     join_all(rt, sessions);
     state.stages().end(rt);
     ports.close_ctl(rt);
     join_all(rt, nodes);
+    ports.close_peers(rt);
+    join_all(rt, peers);
+    operators
 }
 
 /// What the threads of a service with these settings share, with the accounts of a file.
-fn state_of<R: System + Files<File = File>>(
+pub(crate) fn state_of<R: System + Files<File = File>>(
     rt: &R,
     alloc: Global,
     options: &ServeOptions<'_>,
@@ -210,13 +254,18 @@ fn state_of<R: System + Files<File = File>>(
 ) -> Result<Arc<ServiceState>, Fault> {
     let log = EventLog::open(rt, alloc, options.log)?;
     let host = settings.host.copy()?;
+    let agreement = match settings.peer_port {
+        None => None,
+        Some(_) => Some(agreement_line(alloc, options, accounts.names())?),
+    };
     let accounts = Arc::try_clone(accounts)?;
-    let state = ServiceState::new(rt, alloc, accounts, host, settings.idle_seconds, log)?;
+    let idle_seconds = settings.idle_seconds;
+    let state = ServiceState::new(rt, alloc, accounts, host, idle_seconds, agreement, log)?;
     Ok(Arc::new(alloc, state)?)
 }
 
 /// Notes a fault in the log. Without memory for its text nothing is noted.
-fn note_fault<R: Wait + Clock>(rt: &R, alloc: Global, log: &EventLog, fault: Fault) {
+pub(crate) fn note_fault<R: Wait + Clock>(rt: &R, alloc: Global, log: &EventLog, fault: Fault) {
     if let Ok(text) = format!(in alloc; "{fault}") {
         log.fault(rt, text.as_str());
     }
@@ -245,7 +294,7 @@ fn run_service<D: Service + Send + Sync + 'static, R: System + Files<File = File
 {
     let state = state_of(&rt, alloc, options, settings, &accounts)?;
     let (book, part) = book.open::<D>();
-    let sessions = Arc::new(alloc, ServedSessions::new(alloc, accounts, book))?;
+    let sessions = Arc::new(alloc, ServedSessions::new(alloc, accounts, book, true))?;
     let ports = Ports::open(&rt, alloc, settings, options.ctl_socket)?;
     let end = serve_cluster::<D, R>(rt, alloc, setup, settings, &ports, &state, &sessions, part);
     if let Some(path) = options.ctl_socket {

@@ -1,12 +1,35 @@
 //! A node, as a service sees it.
+ghost use Rattle.std.specs.Prelude.{◌≡◌};
+ghost use Rattle.service.specs.OperatorOps as spec;
 
-use ballot::{Memory, NodeId};
+use ballot::{Envelope, Memory, NodeId};
 use cluster::Status;
-use maildrop::{Name, Op, Outcome, Ticket, Usage};
+use maildrop::{Key, Name, Op, Outcome, SharedCommand, Text, Ticket, Usage};
 use session::DeskStopped;
 use std::time::Duration;
 
-/// A node of the service. Its desk has operations performed, and has the trait of its own, `session::Desk`.
+/// What an operator, or the service itself, has a node do. All else is asked for by sessions.
+#[derive(Drop)]
+pub enum OperatorOp {
+    /// A message is stored, under a key or without one.
+    Mail { text: Text, key: Option<Key> },
+    /// The lock is taken from the session that has it.
+    Break,
+}
+
+impl OperatorOp {
+    /// The operation.
+    pub(crate) fn into_op(self) -> Op
+        ensures { result ≡ spec.op_of self }
+    {
+        match self {
+            OperatorOp::Mail { text, key } => Op::Mail { text, key },
+            OperatorOp::Break => Op::Break,
+        }
+    }
+}
+
+/// A node of the service, for all but its sessions.
 pub trait ServedNode {
     /// The node's number.
     fn me(&self) -> NodeId;
@@ -25,6 +48,9 @@ pub trait ServedNode {
     /// The node asks to lead.
     fn campaign(&self);
 
+    /// Takes what another node has sent to this one. Returns false if it is lost: it is to another node, say.
+    fn arrive(&self, envelope: Envelope<SharedCommand>) -> bool;
+
     /// Whether something that was sent to a node of the service was not heard yet.
     fn has_unheard(&self) -> bool;
 
@@ -39,7 +65,7 @@ pub trait ServedNode {
 
     /// Submits an operation. Returns its ticket, or nothing if the node has stopped. The outcome is kept until it is taken by
     /// `outcome_within` or let go by `forget`.
-    fn submit(&self, user: Name, op: Op) -> Option<Ticket>;
+    fn submit(&self, user: Name, op: OperatorOp) -> Option<Ticket>;
 
     /// The outcome of an operation that was submitted here, which may be awaited at most this long. Nothing if it isn't there
     /// yet, and an error if the node has stopped.

@@ -3,15 +3,18 @@ ghost use Rattle.std.specs.Prelude.{◌≡◌};
 ghost use Rattle.std.specs.Arc.{arc_value};
 
 use crate::brand::Service;
+use crate::service_nodes::ServiceDesk;
 use crate::transcripts::{Greeted, Served, Transcripts};
 use apop::{Accounts, Stamp};
-use maildrop::{Op, Outcome};
-use session::{Desk, End, Gate};
+use cluster::Link;
+use session::{End, Gate};
+use session_log::SharedFacts;
 use std::alloc::Global;
 use std::io::{Read, Write};
 use std::marker::Model;
 use std::sync::ledger::Book;
 use std::sync::{Arc, Mutex, Wait};
+use std::time::Clock;
 
 /// The accounts that the sessions of a service are served over, and the transcripts that they leave. Contracts see it as the
 /// accounts.
@@ -19,6 +22,8 @@ use std::sync::{Arc, Mutex, Wait};
 pub(crate) struct ServedSessions<D: Service> {
     alloc: Global,
     accounts: Arc<Accounts>,
+    /// Whether transcripts are kept.
+    is_audited: bool,
     /// There are none any more once the service has ended.
     transcripts: Mutex<Option<Transcripts<D>>>,
 }
@@ -36,40 +41,42 @@ impl<D: Service> Model for ServedSessions<D> {
 }
 
 impl<D: Service> ServedSessions<D> {
-    /// Of a service that has greeted nobody.
-    pub(crate) fn new(alloc: Global, accounts: Arc<Accounts>, book: Book<D>) -> Self
+    /// Of a service that has greeted nobody. Transcripts are kept if it is audited at its end.
+    pub(crate) fn new(
+        alloc: Global,
+        accounts: Arc<Accounts>,
+        book: Book<D>,
+        is_audited: bool,
+    ) -> Self
         requires { arc_value accounts ≡ D.accounts }
     {
         ServedSessions {
             alloc,
             accounts,
+            is_audited,
             transcripts: Mutex::new(Some(Transcripts::new(alloc, book))),
         }
     }
 
-    /// Greets a client and serves its session to the end, whose transcript is kept. Returns how it ended. Once the service has
-    /// ended nobody is greeted.
-    pub(crate) fn serve<T: Wait, R: Read, W: Write, N: Desk<Op, Outcome>, G: Gate>(
+    /// Greets a client and serves its session at a node to the end, whose transcript is kept if the service is audited. Returns
+    /// how it ended. Once the service has ended nobody is greeted.
+    pub(crate) fn serve<R: Wait + Clock + Copy, L: Link + Drop, I: Read, O: Write, G: Gate>(
         &self,
-        rt: &T,
-        reader: &mut R,
-        writer: &mut W,
+        rt: R,
+        node: ServiceDesk<D, R, L>,
+        facts: SharedFacts,
+        reader: &mut I,
+        writer: &mut O,
         stamp: Stamp,
-        desk: &mut N,
         gate: &mut G,
     ) -> Option<End> {
-        let greeted = self.greet(rt)?;
-        let served = greeted.serve(
-            self.alloc,
-            reader,
-            writer,
-            &self.accounts,
-            stamp,
-            desk,
-            gate,
+        let greeted = self.greet(&rt)?;
+        let accounts: &Accounts = &self.accounts;
+        let served = node.serve(
+            rt, self.alloc, greeted, accounts, stamp, facts, reader, writer, gate,
         );
         let end = served.end();
-        self.keep(rt, served);
+        self.keep(&rt, served);
         Some(end)
     }
 
@@ -81,11 +88,11 @@ impl<D: Service> ServedSessions<D> {
         }
     }
 
-    /// Keeps what the session of such a client left.
+    /// Keeps what the session of such a client left, if the service is audited.
     fn keep<T: Wait>(&self, rt: &T, served: Served<D>) {
         match &mut *self.transcripts.lock(rt) {
-            Some(transcripts) => transcripts.add(served),
-            None => served.lose(),
+            Some(transcripts) if self.is_audited => transcripts.add(served),
+            _ => served.lose(),
         }
     }
 

@@ -1,59 +1,154 @@
-//! The nodes of a service.
-ghost use Rattle.std.specs.Prelude.{◌≡◌, ◌<◌, true, IsTrue, OnOk, map};
+//! The nodes of a service that run here.
+ghost use Rattle.std.specs.Prelude.{◌≡◌, ◌<◌, true, IsTrue, IfOk, OnOk, map};
 ghost use Rattle.std.specs.List.{All};
 ghost use Rattle.maildrop.specs.Name.{are_different};
 ghost use Rattle.cluster.specs.Members.{IsLogOf};
 ghost use Rattle.cluster.specs.Starts.{all_nodes, has_window};
+ghost use Rattle.session.specs.Serve.{IsReadAndWritten};
+ghost use Rattle.service.specs.Faults as faults;
+ghost use Rattle.service.specs.Options.{nodes_here};
 
 use crate::brand::Service;
-use crate::served_node::ServedNode;
-use ballot::{Cluster as Size, Memory, NodeId};
-use cluster::{Cluster, Ended, InboxLink, NodeDesk, Setup, StartError, Status};
-use maildrop::{Name, Op, Outcome, Ticket, Usage};
-use node::NodeLog;
+use crate::served_node::{OperatorOp, ServedNode};
+use crate::transcripts::{Greeted, Served};
+use apop::{Accounts, Stamp};
+use ballot::{Cluster as Size, Envelope, Memory, NodeId};
+use cluster::{Cluster, Ended, InboxLink, Link, NodeDesk, Setup, StartError, Status};
+use maildrop::{Name, Outcome, SharedCommand, Ticket, Usage};
+use node::{NodeLog, WIDEST_WINDOW};
+use peer_link::TcpLink;
 use ports::{Fault, System};
-use session::{Desk, DeskStopped};
+use session::{DeskStopped, Gate};
+use session_log::{SessionDesk, SharedFacts};
 use std::alloc::Global;
+use std::io::{Read, Write};
 use std::marker::Model;
+use std::sync::Wait;
 use std::sync::ledger::Share;
-use std::time::Duration;
+use std::time::{Clock, Duration};
 
-/// All nodes of a service. To start them takes a part of the service's ledger, which has one part, so no other nodes' logs are
-/// those of the service, and no other nodes have its desks.
+/// Nodes of a service that run here. To start them takes a part of the service's ledger, which has one part, so no other nodes'
+/// logs are those of the service, and no other nodes have its desks. Contracts see it as their numbers.
 #[derive(Drop)]
-pub(crate) struct ServiceNodes<D: Service + Send + Sync + 'static, R: System> {
-    cluster: Cluster<D, R, InboxLink<R>>,
+pub(crate) struct ServiceNodes<D: Service + Send + Sync + 'static, R: System, L: Link> {
+    cluster: Cluster<D, R, L>,
     part: Share<D>,
 }
 
-impl<D: Service + Send + Sync + 'static, R: System> Model for ServiceNodes<D, R> {
-    ghost use Rattle.std.specs.Prelude.{◌≡◌, ◌<◌, ℕ, List};
-    ghost use Rattle.cluster.specs.Starts.{all_nodes};
+impl<D: Service + Send + Sync + 'static, R: System, L: Link> Model for ServiceNodes<D, R, L> {
+    ghost use Rattle.std.specs.Prelude.{◌<◌, ℕ, List};
 
     ghost Value = { List ℕ };
 
     ghost view = { λ n. n.cluster };
 
-    ghost invariant = { λ n. (n.cluster ≡ all_nodes D.setup.cluster) × (0 < n.part.parts) };
+    ghost invariant = { λ n. 0 < n.part.parts };
 }
 
-impl<D: Service + Send + Sync + 'static, R: System> ServiceNodes<D, R> {
-    /// Starts the nodes. `Value` if they can't begin so.
+impl<D: Service + Send + Sync + 'static, R: System> ServiceNodes<D, R, InboxLink<R>> {
+    /// Starts all nodes, which send to one another's inboxes. `Value` if they can't begin so.
     pub(crate) fn start(rt: R, alloc: Global, setup: &Setup, part: Share<D>) -> Result<Self, Fault>
         requires deployment { setup.now ≡ D.setup }
         requires different { IsTrue (are_different setup.now.names) }
         requires part { 0 < part.parts }
-        ensures { OnOk result (has_window setup.now ≡ true) }
+        ensures nodes { IfOk result (λ nodes. nodes ≡ all_nodes setup.now.cluster) }
+        ensures window { OnOk result (has_window setup.now ≡ true) }
     {
         match Cluster::<D, R, InboxLink<R>>::start(rt, alloc, setup) {
             Ok(cluster) => Ok(ServiceNodes { cluster, part }),
-            Err(StartError::Setup) => Err(Fault::Value),
-            Err(_) => Err(Fault::Memory),
+            Err(error) => Err(fault_of(error)),
         }
     }
+}
 
-    /// The desks of all nodes.
-    pub(crate) fn desks(&self, alloc: Global, size: Size) -> Result<Vec<ServiceDesk<D, R>>, Fault> {
+/// Why nodes don't start.
+fn fault_of(error: StartError) -> Fault
+    ensures { result ≡ faults.start_fault error }
+{
+    match error {
+        StartError::Setup => Fault::Value,
+        StartError::Memory | StartError::Thread => Fault::Memory,
+    }
+}
+
+impl<D: Service + Send + Sync + 'static, R: System> ServiceNodes<D, R, TcpLink<R>> {
+    /// Starts the node of this number, or without one all nodes, which send to ports above this one. `Value` if they can't
+    /// begin so.
+    pub(crate) fn start_over(
+        rt: R,
+        alloc: Global,
+        setup: &Setup,
+        part: Share<D>,
+        base: u16,
+        node: Option<NodeId>,
+    ) -> Result<Self, Fault>
+        requires deployment { setup.now ≡ D.setup }
+        requires different { IsTrue (are_different setup.now.names) }
+        requires part { 0 < part.parts }
+        ensures nodes { IfOk result (λ nodes. nodes ≡ nodes_here setup.now.cluster node) }
+        ensures window { OnOk result (has_window setup.now ≡ true) }
+    {
+        if setup.window < 1 || setup.window > WIDEST_WINDOW {
+            return Err(Fault::Value);
+        }
+        let links = links_of(rt, alloc, setup.cluster, base, node)?;
+        match Cluster::<D, R, TcpLink<R>>::start_over(rt, alloc, setup, links) {
+            Ok(cluster) => Ok(ServiceNodes { cluster, part }),
+            Err(error) => Err(fault_of(error)),
+        }
+    }
+}
+
+/// A link of each node that runs here.
+fn links_of<R: System>(
+    rt: R,
+    alloc: Global,
+    size: Size,
+    base: u16,
+    node: Option<NodeId>,
+) -> Result<Vec<(NodeId, TcpLink<R>)>, Memory>
+    ensures { IfOk result (λ links. map (λ link. link.0) links.items ≡ nodes_here size node) }
+{
+    match node {
+        None => all_links(rt, alloc, size, base),
+        Some(node) => {
+            let mut links = Vec::new(alloc);
+            links.push((node, TcpLink::new(rt, alloc, base)?))?;
+            Ok(links)
+        }
+    }
+}
+
+/// A link of each node.
+fn all_links<R: System>(
+    rt: R,
+    alloc: Global,
+    size: Size,
+    base: u16,
+) -> Result<Vec<(NodeId, TcpLink<R>)>, Memory>
+    ensures { IfOk result (λ links. map (λ link. link.0) links.items ≡ all_nodes size) }
+{
+    let mut links = Vec::new(alloc);
+    for before in 0..size.get() {
+        let Some(node) = NodeId::new(before + 1) else {
+            unreachable!()
+        };
+        links.push((node, TcpLink::new(rt, alloc, base)?))?;
+    }
+    Ok(links)
+}
+
+impl<
+    D: Service + Send + Sync + 'static,
+    R: System,
+    L: Link + Drop + Send + Sync + 'static,
+> ServiceNodes<D, R, L> {
+    /// The desks of all nodes that run here.
+    pub(crate) fn desks(
+        &self,
+        alloc: Global,
+        size: Size,
+    ) -> Result<Vec<ServiceDesk<D, R, L>>, Fault> {
         let mut desks = Vec::new(alloc);
         for number in 1..=size.get() {
             if let Some(node) = NodeId::new(number) {
@@ -65,18 +160,33 @@ impl<D: Service + Send + Sync + 'static, R: System> ServiceNodes<D, R> {
         Ok(desks)
     }
 
-    /// A node asks to lead.
+    /// A node asks to lead, if it runs here.
     pub(crate) fn campaign(&self, node: NodeId) {
         self.cluster.campaign(node);
     }
 
-    /// Stops the nodes, and returns their logs. `None` if the state of one isn't under its lock.
-    pub(crate) fn stop(self) -> Option<ServiceLogs<D>> {
+    /// Stops all nodes of a service, and returns their logs. `None` if the state of one isn't under its lock.
+    pub(crate) fn stop(self) -> Option<ServiceLogs<D>>
+        requires { self ≡ all_nodes D.setup.cluster }
+    {
         let ServiceNodes { cluster, part } = self;
         let Ended { logs, kept } = cluster.stop()?;
         drop(kept);
         Some(ServiceLogs { logs, part })
     }
+
+    /// Stops a node whose service isn't audited here.
+    pub(crate) fn stop_unaudited(self) -> Unaudited<D> {
+        let ServiceNodes { cluster, part } = self;
+        drop(cluster);
+        Unaudited { part }
+    }
+}
+
+/// A node of a service has stopped, and there is no audit: its part of the ledger can't be that of logs any more.
+#[derive(Drop)]
+pub(crate) struct Unaudited<D: Service> {
+    part: Share<D>,
 }
 
 /// The logs of all nodes of a service, in the order of their numbers.
@@ -119,13 +229,43 @@ impl<D: Service> ServiceLogs<D> {
     }
 }
 
-/// The desk of a node of a service. There is none of another node, so what is served by it is in the logs that are audited.
+/// The desk of a node of a service that runs here. There is none of another service's node, so what is served by it goes to the
+/// nodes whose logs are audited, if they are.
 #[derive(Drop)]
-pub(crate) struct ServiceDesk<D: Service, R: System> {
-    desk: NodeDesk<D, R, InboxLink<R>>,
+pub(crate) struct ServiceDesk<D: Service, R: Wait, L: Link> {
+    desk: NodeDesk<D, R, L>,
 }
 
-impl<D: Service, R: System> ServedNode for ServiceDesk<D, R> {
+impl<D: Service, R: Wait + Clock + Copy, L: Link + Drop> ServiceDesk<D, R, L> {
+    /// Serves the session of a client that was greeted, at this node, to its end. No other call asks the node for what a session
+    /// asks for, so no session is served whose client wasn't greeted.
+    pub(crate) fn serve<I: Read, O: Write, G: Gate>(
+        self,
+        rt: R,
+        alloc: Global,
+        greeted: Greeted<D>,
+        accounts: &Accounts,
+        stamp: Stamp,
+        facts: SharedFacts,
+        reader: &mut I,
+        writer: &mut O,
+        gate: &mut G,
+    ) -> Served<D>
+        requires { accounts.now ≡ D.accounts }
+        ensures { IsReadAndWritten D.accounts stamp result
+            (I.remaining reader.old) (I.remaining reader.new) (O.contents writer.old) (O.contents writer.new) }
+    {
+        let ServiceDesk { desk } = self;
+        let mut desk = SessionDesk {
+            rt,
+            node: desk,
+            facts,
+        };
+        greeted.serve(alloc, reader, writer, accounts, stamp, &mut desk, gate)
+    }
+}
+
+impl<D: Service, R: Wait + Clock + Copy, L: Link> ServedNode for ServiceDesk<D, R, L> {
     fn me(&self) -> NodeId {
         self.desk.me()
     }
@@ -147,6 +287,10 @@ impl<D: Service, R: System> ServedNode for ServiceDesk<D, R> {
         self.desk.campaign();
     }
 
+    fn arrive(&self, envelope: Envelope<SharedCommand>) -> bool {
+        self.desk.arrive(envelope)
+    }
+
     fn has_unheard(&self) -> bool {
         self.desk.has_unheard()
     }
@@ -163,8 +307,8 @@ impl<D: Service, R: System> ServedNode for ServiceDesk<D, R> {
         self.desk.usage()
     }
 
-    fn submit(&self, user: Name, op: Op) -> Option<Ticket> {
-        self.desk.submit(user, op)
+    fn submit(&self, user: Name, op: OperatorOp) -> Option<Ticket> {
+        self.desk.submit(user, op.into_op())
     }
 
     fn outcome_within(
@@ -178,20 +322,5 @@ impl<D: Service, R: System> ServedNode for ServiceDesk<D, R> {
 
     fn forget(&self, user: Name, ticket: Ticket) {
         self.desk.forget(user, ticket);
-    }
-}
-
-impl<D: Service, R: System> Desk<Op, Outcome> for ServiceDesk<D, R> {
-    ghost use Rattle.std.specs.Prelude.{◌≡◌};
-    ghost use Rattle.cluster.specs.Members.{IsGiven};
-
-    ghost gives = { λ before given after. (after.desk ≡ before.desk) × IsGiven D.setup before.desk given };
-
-    fn ask(&mut self, name: Name, op: Op) -> Result<(Ticket, Outcome), DeskStopped> {
-        self.desk.ask(name, op)
-    }
-
-    fn tell(&mut self, name: Name, op: Op) -> Result<Ticket, DeskStopped> {
-        self.desk.tell(name, op)
     }
 }

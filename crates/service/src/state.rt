@@ -2,17 +2,20 @@
 ghost use Rattle.std.specs.Prelude.{◌≡◌, IfOk};
 ghost use Rattle.pop3_wire.specs.Reply.{invalid_login};
 
+use crate::announcements::Announcements;
 use crate::lock_breaker::LockBreaker;
-use crate::verdicts::Verdicts;
 use apop::{Accounts, Stamp, stamp};
 use ballot::{Items, Memory};
 use pop3_wire::Reply;
 use ports::{Opening, Stages};
-use session_log::{Counters, EventLog, OpenSessions};
+use session_log::{Counters, EventLog, OpenSessions, put};
 use std::alloc::Global;
 use std::random::RandomSource;
 use std::sync::{Arc, Mutex, Wait};
 use std::time::Clock;
+
+/// The line that ends an answer to an operator.
+const END: &[u8] = b"end\n";
 
 /// What all threads of a service share: who may log in, how far the service has come, and which sessions are open.
 #[derive(Drop)]
@@ -22,8 +25,10 @@ pub(crate) struct ServiceState {
     /// What a login that is refused is told.
     refusal: Items<u8>,
     idle_seconds: u64,
+    /// The line about what all nodes of the service must begin with, if its nodes have ports.
+    agreement: Option<Vec<u8>>,
     stages: Stages,
-    verdicts: Verdicts,
+    announcements: Announcements,
     /// The number of the last session.
     last_number: Mutex<u64>,
     sessions: OpenSessions,
@@ -49,6 +54,7 @@ impl ServiceState {
         accounts: Arc<Accounts>,
         host: Items<u8>,
         idle_seconds: u64,
+        agreement: Option<Vec<u8>>,
         log: EventLog,
     ) -> Result<Self, Memory> {
         let refusal = refusal_of(alloc)?;
@@ -57,8 +63,9 @@ impl ServiceState {
             host,
             refusal,
             idle_seconds,
+            agreement,
             stages: Stages::new(),
-            verdicts: Verdicts::new(),
+            announcements: Announcements::new(),
             last_number: Mutex::new(0),
             sessions: OpenSessions::new(alloc),
             counters: Counters::new(rt),
@@ -87,9 +94,9 @@ impl ServiceState {
         &self.stages
     }
 
-    /// The verdict on the run, for those who wait for it.
-    pub(crate) fn verdicts(&self) -> &Verdicts {
-        &self.verdicts
+    /// What is announced about the run, for those who wait for its end.
+    pub(crate) fn announcements(&self) -> &Announcements {
+        &self.announcements
     }
 
     /// The sessions that are open.
@@ -120,7 +127,13 @@ impl ServiceState {
         slots: u64,
     ) -> Result<Vec<u8>, Memory> {
         let open = self.sessions.count(rt);
-        self.counters.stats(rt, open, slots).text(alloc)
+        let mut text = self.counters.stats(rt, open, slots).text(alloc)?;
+        if let Some(line) = &self.agreement {
+            text.truncate(text.len().saturating_sub(END.len()));
+            put(&mut text, line.as_slice())?;
+            put(&mut text, END)?;
+        }
+        Ok(text)
     }
 
     /// The number of a new session, counted from 1, and the timestamp of its greeting: 16 random hexadecimal digits, a dot

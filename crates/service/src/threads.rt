@@ -1,24 +1,25 @@
 //! The threads of a service, from its start to its end.
 ghost use Rattle.std.specs.Prelude.{◌≡◌, Some, IfErr};
-ghost use Rattle.service.specs.Faults.{IsFaultAt, IsPopFault, IsPortFault};
+ghost use Rattle.service.specs.Faults.{IsFaultAt, IsLocalFaultAt, IsPeerFault, IsPopFault, IsPortFault};
 
 use crate::brand::Service;
 use crate::operator::OperatorHandler;
 use crate::options::Settings;
+use crate::peers::{PeerHandler, most_file};
 use crate::pop::PopHandler;
 use crate::served_node::ServedNode;
 use crate::served_sessions::ServedSessions;
+use crate::service_nodes::ServiceDesk;
 use crate::state::ServiceState;
 use crate::{majority, ticker};
 use ballot::NodeId;
-use maildrop::{Op, Outcome};
+use cluster::Link;
 use ports::{
     Fault, Handler, OperatorListener, OperatorStream, Port, System, listen_at, start_reserve,
     start_serving, start_taking,
 };
-use session::Desk;
 use std::alloc::Global;
-use std::net::{IpAddr, TcpListener, TcpStream};
+use std::net::{IpAddr, Ipv4Addr, TcpListener, TcpStream};
 use std::rt::Files;
 use std::sync::{Arc, Wait};
 use std::thread::JoinHandle;
@@ -29,6 +30,9 @@ const MOST_SESSIONS: usize = 4_096;
 
 /// The most connections of operators at a time.
 const MOST_OPERATORS: usize = 1_024;
+
+/// The most connections of other nodes at a node's port at a time.
+const MOST_PEERS: usize = 64;
 
 /// How many operators for whom there is no thread, no place or no memory wait for the thread of the reserve.
 const MOST_IN_RESERVE: usize = 16;
@@ -41,10 +45,18 @@ struct PopPort {
     port: Arc<Port<TcpStream, TcpListener>>,
 }
 
-/// The ports of a service: those of POP3 clients, and the operator's.
+/// A port at which other nodes send to a node.
+#[derive(Drop)]
+struct PeerPort {
+    node: NodeId,
+    port: Arc<Port<TcpStream, TcpListener>>,
+}
+
+/// The ports of a service: those of POP3 clients, those of its nodes, and the operator's.
 #[derive(Drop)]
 pub(crate) struct Ports {
     pop: Vec<PopPort>,
+    peers: Vec<PeerPort>,
     ctl: Arc<Port<OperatorStream, OperatorListener>>,
 }
 
@@ -78,8 +90,13 @@ fn open_node_ports<R: System>(
     ensures { IfErr result (λ fault. IsPopFault settings.now fault) }
 {
     for node in 1..=settings.cluster.get() {
-        let number = below.saturating_add(u16::from(node));
-        open_pop_port(rt, alloc, settings.listen, number, NodeId::new(node), ports)?;
+        let Some(me) = NodeId::new(node) else {
+            return Ok(());
+        };
+        if settings.runs(me) {
+            let number = below.saturating_add(u16::from(node));
+            open_pop_port(rt, alloc, settings.listen, number, Some(me), ports)?;
+        }
     }
     Ok(())
 }
@@ -102,6 +119,47 @@ fn open_pop_ports<R: System>(
     Ok(())
 }
 
+/// Listens at the port of each node that runs here at which others send to it.
+fn open_peer_ports<R: System>(
+    rt: &R,
+    alloc: Global,
+    settings: &Settings,
+    ports: &mut Vec<PeerPort>,
+) -> Result<(), Fault>
+    ensures { IfErr result (λ fault. IsPeerFault settings.now fault) }
+{
+    let Some(below) = settings.peer_port else {
+        return Ok(());
+    };
+    for node in 1..=settings.cluster.get() {
+        let Some(me) = NodeId::new(node) else {
+            return Ok(());
+        };
+        if settings.runs(me) {
+            let number = below.saturating_add(u16::from(node));
+            open_peer_port(rt, alloc, number, me, ports)?;
+        }
+    }
+    Ok(())
+}
+
+/// Listens at a port of this machine at which others send to a node.
+fn open_peer_port<R: System>(
+    rt: &R,
+    alloc: Global,
+    number: u16,
+    node: NodeId,
+    ports: &mut Vec<PeerPort>,
+) -> Result<(), Fault>
+    ensures { IfErr result (λ fault. IsLocalFaultAt number fault) }
+{
+    let listener = listen_at(rt, IpAddr::V4(Ipv4Addr::LOCALHOST), number)?;
+    let port = Port::new(alloc, listener, MOST_PEERS, 0)?;
+    let port = Arc::new(alloc, port)?;
+    ports.push(PeerPort { node, port })?;
+    Ok(())
+}
+
 impl Ports {
     /// Listens at all ports of a service. If it has no port for its operator, it has this socket.
     pub(crate) fn open<R: System + Files>(
@@ -114,16 +172,25 @@ impl Ports {
     {
         let mut pop = Vec::new(alloc);
         open_pop_ports(rt, alloc, settings, &mut pop)?;
+        let mut peers = Vec::new(alloc);
+        open_peer_ports(rt, alloc, settings, &mut peers)?;
         let listener = OperatorListener::listen(rt, settings.ctl_port, socket)?;
         let ctl = Port::new(alloc, listener, MOST_OPERATORS, MOST_IN_RESERVE)?;
         let ctl = Arc::new(alloc, ctl)?;
-        Ok(Ports { pop, ctl })
+        Ok(Ports { pop, peers, ctl })
     }
 
     /// Lets no POP3 client come any more.
     pub(crate) fn close_pop<R: Wait>(&self, rt: &R) {
         for port in &self.pop {
             port.port.close(rt);
+        }
+    }
+
+    /// Lets no node connect any more. What those have sent that are connected is heard no longer.
+    pub(crate) fn close_peers<R: Wait>(&self, rt: &R) {
+        for peer in &self.peers {
+            peer.port.close(rt);
         }
     }
 
@@ -140,6 +207,8 @@ pub(crate) struct ServiceThreads {
     pub(crate) sessions: Vec<JoinHandle<()>>,
     /// Those that look after the nodes. They end once the sessions have ended.
     pub(crate) nodes: Vec<JoinHandle<()>>,
+    /// Those of the nodes' ports. They end once these are closed.
+    pub(crate) peers: Vec<JoinHandle<()>>,
     /// Those of the operator's port. They end once it is closed and its connections have ended.
     pub(crate) operators: Vec<JoinHandle<()>>,
 }
@@ -149,11 +218,11 @@ pub(crate) struct ServiceThreads {
 pub(crate) fn start<
     D: Service + Send + Sync + 'static,
     R: System,
-    N: ServedNode + Desk<Op, Outcome> + Send + Sync + Drop + 'static,
+    L: Link + Drop + Send + Sync + 'static,
 >(
     rt: R,
     alloc: Global,
-    nodes: &Arc<Vec<N>>,
+    nodes: &Arc<Vec<ServiceDesk<D, R, L>>>,
     ports: &Ports,
     state: &Arc<ServiceState>,
     sessions: &Arc<ServedSessions<D>>,
@@ -162,6 +231,7 @@ pub(crate) fn start<
     let mut threads = ServiceThreads {
         sessions: Vec::new(alloc),
         nodes: Vec::new(alloc),
+        peers: Vec::new(alloc),
         operators: Vec::new(alloc),
     };
     let started = threads.start_all(rt, alloc, nodes, ports, state, sessions, settings);
@@ -177,18 +247,21 @@ impl ServiceThreads {
     fn start_all<
         D: Service + Send + Sync + 'static,
         R: System,
-        N: ServedNode + Desk<Op, Outcome> + Send + Sync + Drop + 'static,
+        L: Link + Drop + Send + Sync + 'static,
     >(
         &mut self,
         rt: R,
         alloc: Global,
-        nodes: &Arc<Vec<N>>,
+        nodes: &Arc<Vec<ServiceDesk<D, R, L>>>,
         ports: &Ports,
         state: &Arc<ServiceState>,
         sessions: &Arc<ServedSessions<D>>,
         settings: &Settings,
     ) -> Result<(), Fault> {
         start_nodes(rt, alloc, nodes, state, settings, &mut self.nodes)?;
+        for peer in &ports.peers {
+            start_peer(rt, alloc, nodes, peer, state, settings, &mut self.peers)?;
+        }
         for pop in &ports.pop {
             start_pop(rt, alloc, nodes, pop, state, sessions, &mut self.sessions)?;
         }
@@ -201,6 +274,9 @@ impl ServiceThreads {
             settings,
             &mut self.operators,
         )?;
+        for peer in &ports.peers {
+            start_taking(rt, &peer.port, state, &mut self.peers)?;
+        }
         for pop in &ports.pop {
             start_taking(rt, &pop.port, state, &mut self.sessions)?;
         }
@@ -218,7 +294,15 @@ fn start_nodes<R: System, N: ServedNode + Send + Sync + Drop + 'static>(
     threads: &mut Vec<JoinHandle<()>>,
 ) -> Result<(), Fault> {
     let tick = Duration::from_millis(settings.tick_ms);
-    ticker::start(rt, alloc, nodes, state, tick, threads)?;
+    ticker::start(
+        rt,
+        alloc,
+        nodes,
+        state,
+        tick,
+        settings.node.is_some(),
+        threads,
+    )?;
     if settings.no_majority_seconds > 0 {
         let limit_ms = settings.no_majority_seconds.saturating_mul(1_000);
         majority::start(rt, nodes, state, limit_ms, threads)?;
@@ -226,15 +310,35 @@ fn start_nodes<R: System, N: ServedNode + Send + Sync + Drop + 'static>(
     Ok(())
 }
 
-/// Starts what serves the sessions of a port.
-fn start_pop<
-    D: Service + Send + Sync + 'static,
-    R: System,
-    N: ServedNode + Desk<Op, Outcome> + Send + Sync + Drop + 'static,
->(
+/// Starts what receives what others send to a node, if it runs here.
+fn start_peer<R: System, N: ServedNode + Send + Sync + Drop + 'static>(
     rt: R,
     alloc: Global,
     nodes: &Arc<Vec<N>>,
+    peer: &PeerPort,
+    state: &Arc<ServiceState>,
+    settings: &Settings,
+    threads: &mut Vec<JoinHandle<()>>,
+) -> Result<(), Fault> {
+    for node in nodes.iter() {
+        if node.me() == peer.node {
+            let handler = PeerHandler {
+                rt,
+                alloc,
+                node: node.share()?,
+                state: Arc::try_clone(state)?,
+            };
+            return start_serving(rt, alloc, &peer.port, handler, threads);
+        }
+    }
+    Ok(())
+}
+
+/// Starts what serves the sessions of a port.
+fn start_pop<D: Service + Send + Sync + 'static, R: System, L: Link + Drop + Send + Sync + 'static>(
+    rt: R,
+    alloc: Global,
+    nodes: &Arc<Vec<ServiceDesk<D, R, L>>>,
     pop: &PopPort,
     state: &Arc<ServiceState>,
     sessions: &Arc<ServedSessions<D>>,
@@ -252,7 +356,7 @@ fn start_pop<
 }
 
 /// Starts what serves operators.
-fn start_operators<R: System, N: ServedNode + Desk<Op, Outcome> + Send + Sync + Drop + 'static>(
+fn start_operators<R: System, N: ServedNode + Send + Sync + Drop + 'static>(
     rt: R,
     alloc: Global,
     nodes: &Arc<Vec<N>>,
@@ -267,6 +371,7 @@ fn start_operators<R: System, N: ServedNode + Desk<Op, Outcome> + Send + Sync + 
         Arc::try_clone(nodes)?,
         Arc::try_clone(state)?,
         settings.delivery_bytes,
+        most_file(settings.peer_port),
     )?;
     start_reserve(rt, port, handler.share()?, threads)?;
     start_serving(rt, alloc, port, handler, threads)

@@ -14,6 +14,9 @@ use std::time::{Clock, Duration};
 /// How many milliseconds lie between two looks at the locks of sessions whose nodes are down.
 const LOCK_LOOK_MS: u64 = 1_000;
 
+/// How many milliseconds lie between two ticks of a node that is alone here, at most.
+const LONGEST_REST_MS: u64 = 1_000;
+
 /// How often in a row a tick is put off at most.
 const MOST_PUT_OFF: u32 = 50;
 
@@ -45,7 +48,8 @@ struct Look {
     are_at_rest: bool,
 }
 
-/// Tells the nodes on a thread of its own that time has passed, again and again, until the sessions have ended.
+/// Tells the nodes on a thread of its own that time has passed, again and again, until the sessions have ended. A node may be
+/// alone here, with the others elsewhere.
 pub(crate) fn start<
     R: Threads + Wait + Clock + Copy + Send + 'static,
     N: ServedNode + Send + Sync + Drop + 'static,
@@ -55,6 +59,7 @@ pub(crate) fn start<
     nodes: &Arc<Vec<N>>,
     state: &Arc<ServiceState>,
     every: Duration,
+    is_alone: bool,
     threads: &mut Vec<JoinHandle<()>>,
 ) -> Result<(), Fault> {
     threads.reserve(1)?;
@@ -66,7 +71,9 @@ pub(crate) fn start<
     }
     let nodes = Arc::try_clone(nodes)?;
     let state = Arc::try_clone(state)?;
-    let Ok(thread) = thread::spawn(&rt, move || run(&rt, watched, &nodes, &state, every)) else {
+    let Ok(thread) = thread::spawn(&rt, move || {
+        run(&rt, watched, &nodes, &state, every, is_alone)
+    }) else {
         return Err(Fault::Memory);
     };
     threads.push_reserved(thread);
@@ -76,16 +83,19 @@ pub(crate) fn start<
 /// A tick has the nodes send again whatever awaits an answer, and after a change of the leader that is all that was ever
 /// decided. So it is put off while something that was sent waits to be heard: the answer may lie there, and a node that
 /// has much to hear doesn't wait in vain. Nodes at rest need no time, and their logs don't grow by it. Nor do nodes without a
-/// majority, since nothing is decided there.
+/// majority, since nothing is decided there. A node that is alone can't see whether another one waits for it, or has come
+/// further, so it is never at rest for long.
 fn run<R: Wait + Clock, N: ServedNode + Drop>(
     rt: &R,
     mut watched: Vec<Watched<N>>,
     nodes: &[N],
     state: &ServiceState,
     every: Duration,
+    is_alone: bool,
 ) {
     let mut put_off = 0;
     let mut waited = Duration::ZERO;
+    let mut rested = Duration::ZERO;
     for _ in rt.forever() {
         if state.stages().pauses(rt, every) {
             return;
@@ -93,6 +103,7 @@ fn run<R: Wait + Clock, N: ServedNode + Drop>(
         // A thread that makes a long step holds the lock, and this waits for it.
         let look = look_at(&watched);
         waited = waited.saturating_add(every);
+        rested = rested.saturating_add(every);
         if look.up < nodes.len() && waited >= Duration::from_millis(LOCK_LOOK_MS) {
             waited = Duration::ZERO;
             let _more = state.lock_breaker().look(rt, nodes, state.log());
@@ -102,7 +113,9 @@ fn run<R: Wait + Clock, N: ServedNode + Drop>(
             continue;
         }
         put_off = 0;
-        if !look.are_at_rest && is_majority(look.up, nodes.len()) {
+        let is_long = is_alone && rested >= Duration::from_millis(LONGEST_REST_MS);
+        if (is_long || !look.are_at_rest) && is_majority(look.up, nodes.len()) {
+            rested = Duration::ZERO;
             tick_all(&mut watched);
         }
     }

@@ -1,5 +1,5 @@
 //! The transcripts of a service's sessions, as they lie under their lock.
-ghost use Rattle.std.specs.Prelude.{◌≡◌, ◌+◌, ◌++◌, ◌∷◌, [], List, true, false};
+ghost use Rattle.std.specs.Prelude.{◌≡◌, ◌⊎◌, ◌+◌, ◌++◌, ◌∷◌, [], List, true, false};
 ghost use Rattle.std.specs.declared.alloc.Global.{Global};
 ghost use Rattle.session.specs.declared.transcript.Transcript.{Transcript};
 ghost use Rattle.session.specs.Serve.{IsReadAndWritten};
@@ -7,7 +7,7 @@ ghost use Rattle.session.specs.Transcript.{IsHistory};
 ghost use Rattle.service.specs.Transcripts as spec;
 ghost use Rattle.service.specs.Transcripts.{AreEnded, WereServed};
 ghost use Rattle.service.specs.Verdicts.{CanServe, IsJudged, IsLegal, WasLegal, config_of};
-ghost use Rattle.service.specs.declared.verdict.Verdict.TheVariants.{Legal};
+ghost use Rattle.service.specs.declared.verdict.Verdict.TheVariants.{Legal, Memory};
 
 use crate::brand::Service;
 use crate::service_nodes::ServiceLogs;
@@ -50,8 +50,8 @@ impl<D: Service> Greeted<D> {
     }
 }
 
-/// What the session of a client that was greeted has left. It can't be dropped: `Transcripts::add` takes it, or `lose` once
-/// the service has ended.
+/// What the session of a client that was greeted has left. It can't be dropped: `Transcripts::add` takes it, or `lose` if
+/// it isn't kept.
 pub(crate) struct Served<D: Service> {
     transcript: Transcript,
     of: PhantomData<D>,
@@ -77,7 +77,7 @@ impl<D: Service> Served<D> {
         self.transcript.end
     }
 
-    /// It comes too late: the service has ended.
+    /// It isn't kept: the service has ended, or isn't audited.
     pub(crate) fn lose(self) {
         let Served {
             transcript: _,
@@ -160,7 +160,7 @@ impl<D: Service> Transcripts<D> {
     pub(crate) fn verdict(&self, alloc: Global, logs: &ServiceLogs<D>) -> Verdict
         requires { CanServe D.accounts D.setup }
         ensures judged { IsJudged logs.now self.now result }
-        ensures whole { result ≡ Legal → (self.now.is_short ≡ false) × (self.now.ended ≡ self.now.greeted) }
+        ensures whole { (result ≡ Memory) ⊎ ((self.now.is_short ≡ false) × (self.now.ended ≡ self.now.greeted)) }
         ensures legal { result ≡ Legal → (all : List (Transcript Global)) → AreEnded self.now all → WereServed D.accounts all
             → IsLegal (config_of D.accounts D.setup) logs.now all }
         ensures found { result ≡ Legal → WasLegal (config_of D.accounts D.setup) logs.now self.now.kept self.now.greeted }

@@ -52,6 +52,7 @@ pub fn options<'a>(accounts: &'a str, pop_port: u16, ctl_port: u16) -> ServeOpti
         listen: IpAddr::V4(Ipv4Addr::LOCALHOST),
         ctl_port: Some(u64::from(ctl_port)),
         ctl_socket: None,
+        peer_port: None,
         nodes: 3,
         window: 10,
         messages: 3,

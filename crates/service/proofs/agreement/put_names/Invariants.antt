@@ -1,0 +1,8 @@
+use Rattle.std.proofs.Common.{◌≡◌, ◌++◌, take}
+use Rattle.std.specs.List.{flat_map}
+use Rattle.service.specs.Agreements.{name_line}
+use Rattle.service.proofs.agreement.put_names.Given as goal
+
+-- the lines of the names so far
+abbrev pub invariant-loop-name : goal.invariant-loop-name
+invariant-loop-name l = l.text.items ≡ l.initial.text.items ++ flat_map name_line (take l.name-index l.names)

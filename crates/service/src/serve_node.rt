@@ -1,0 +1,208 @@
+//! `maildropd serve --node`: one node of a service, with its sessions and an operator's port, in a process of its own.
+ghost use Rattle.std.specs.Prelude.{◌≡◌, ◌≤◌, ◌<◌, ◌++◌, ◌∷◌, [], IsTrue, IsErrOf, OnOk, codes, map};
+ghost use Rattle.std.specs.Arc.{arc_value};
+ghost use Rattle.std.specs.Io.KnownBytes.{Appends};
+ghost use Rattle.service.specs.Options as spec;
+ghost use Rattle.apop.specs.Accounts.{name_of};
+ghost use Rattle.maildrop.specs.Name.{are_different};
+
+use crate::announcement::Announcement;
+use crate::brand::Service;
+use crate::mark::mark_start;
+use crate::options::{NodeOptions, Settings, node_settings_of};
+use crate::serve::{FIRST_LEADER, accounts_of, end_sessions, note_fault, setup_of, state_of};
+use crate::served_sessions::ServedSessions;
+use crate::service_nodes::ServiceNodes;
+use crate::state::ServiceState;
+use crate::threads;
+use crate::threads::{Ports, join_all};
+use apop::Accounts;
+use ballot::NodeId;
+use cluster::Setup;
+use ports::{Fault, System, remove_socket, say};
+use std::alloc::Global;
+use std::fs::File;
+use std::io::{Eprint, Write};
+use std::marker::Brand;
+use std::rt::Files;
+use std::sync::Arc;
+use std::sync::ledger::{Blank, Share};
+
+/// A node that runs alone in a process, and the port above which nodes have theirs.
+#[derive(Clone, Copy)]
+struct Place {
+    node: NodeId,
+    base: u16,
+}
+
+/// Runs a node and its sessions until an operator stops it, or it has been down for too long.
+fn serve_one<D: Service + Send + Sync + 'static, R: System>(
+    rt: R,
+    alloc: Global,
+    setup: &Setup,
+    settings: &Settings,
+    place: Place,
+    ports: &Ports,
+    state: &Arc<ServiceState>,
+    sessions: &Arc<ServedSessions<D>>,
+    part: Share<D>,
+) -> Result<(), Fault>
+    requires deployment { setup.now ≡ D.setup }
+    requires different { IsTrue (are_different setup.now.names) }
+    requires part { 0 < part.parts }
+{
+    let Place { node, base } = place;
+    let nodes = ServiceNodes::start_over(rt, alloc, setup, part, base, Some(node))?;
+    let desks = Arc::new(alloc, nodes.desks(alloc, settings.cluster)?)?;
+    if let Some(leader) = NodeId::new(FIRST_LEADER) {
+        nodes.campaign(leader);
+    }
+    let (threads, started) = threads::start(rt, alloc, &desks, ports, state, sessions, settings);
+    let operators = end_sessions(&rt, threads, ports, state);
+    let announcement = Announcement::stopped(&nodes.stop_unaudited());
+    state.announcements().announce(&rt, announcement);
+    join_all(&rt, operators);
+    started?;
+    if state.stages().lacks_majority(&rt) {
+        return Err(Fault::NoMajority);
+    }
+    Ok(())
+}
+
+/// Marks the node as started if there is a folder for that, and runs it.
+fn mark_and_serve<D: Service + Send + Sync + 'static, R: System + Files<File = File>>(
+    rt: R,
+    alloc: Global,
+    options: &NodeOptions<'_>,
+    settings: &Settings,
+    place: Place,
+    setup: &Setup,
+    state: &Arc<ServiceState>,
+    sessions: &Arc<ServedSessions<D>>,
+    part: Share<D>,
+) -> Result<(), Fault>
+    requires deployment { setup.now ≡ D.setup }
+    requires different { IsTrue (are_different setup.now.names) }
+    requires part { 0 < part.parts }
+{
+    let socket = options.service.ctl_socket;
+    let ports = Ports::open(&rt, alloc, settings, socket)?;
+    let marked = match options.mark {
+        Some(folder) => mark_start(&rt, alloc, folder, place.node),
+        None => Ok(()),
+    };
+    let end = match marked {
+        Ok(()) => serve_one::<D, R>(
+            rt, alloc, setup, settings, place, &ports, state, sessions, part,
+        ),
+        Err(fault) => Err(fault),
+    };
+    if let Some(path) = socket {
+        remove_socket(&rt, path);
+    }
+    end
+}
+
+/// Runs a node with these settings and accounts. No transcripts are kept: one node can't be audited.
+fn run_node<D: Service + Send + Sync + 'static, R: System + Files<File = File>>(
+    rt: R,
+    alloc: Global,
+    options: &NodeOptions<'_>,
+    settings: &Settings,
+    place: Place,
+    setup: &Setup,
+    accounts: Arc<Accounts>,
+    book: Blank,
+) -> Result<(), Fault>
+    requires deployment { setup.now ≡ D.setup }
+    requires accounts { arc_value accounts ≡ D.accounts }
+    requires name { book.name ≡ D.name }
+    requires parts { book.parts ≡ D.parts }
+    requires different { IsTrue (are_different setup.now.names) }
+    requires one { book.parts ≡ 1 }
+{
+    let state = state_of(&rt, alloc, &options.service, settings, &accounts)?;
+    let (book, part) = book.open::<D>();
+    let sessions = Arc::new(alloc, ServedSessions::new(alloc, accounts, book, false))?;
+    let end = mark_and_serve::<D, R>(
+        rt, alloc, options, settings, place, setup, &state, &sessions, part,
+    );
+    if let Err(fault) = &end {
+        note_fault(&rt, alloc, state.log(), *fault);
+    }
+    end
+}
+
+/// Runs a node with these settings.
+fn run_with<R: System + Files<File = File>>(
+    rt: R,
+    alloc: Global,
+    options: &NodeOptions<'_>,
+    settings: &Settings,
+) -> Result<(), Fault> {
+    let (Some(node), Some(base)) = (settings.node, settings.peer_port) else {
+        return Err(Fault::Value);
+    };
+    let place = Place { node, base };
+    let accounts = accounts_of(&rt, alloc, options.service.accounts)?;
+    let setup = setup_of(alloc, settings, &accounts)?;
+    let accounts = Arc::new(alloc, accounts)?;
+    let book = Blank::new(1);
+    run_node::<Brand, R>(rt, alloc, options, settings, place, &setup, accounts, book)
+}
+
+fn run<R: System + Files<File = File>>(
+    rt: R,
+    alloc: Global,
+    options: &NodeOptions<'_>,
+) -> Result<(), Fault>
+    ensures { (¬ spec.AreNodeGood options.now) → IsErrOf result Fault.Value }
+{
+    match node_settings_of(alloc, options) {
+        Ok(settings) => run_with(rt, alloc, options, &settings),
+        Err(fault) => Err(fault),
+    }
+}
+
+/// Runs a node, and writes `stopped` once it has ended.
+fn run_and_tell<R: System + Files<File = File>, W: Write>(
+    rt: R,
+    alloc: Global,
+    writer: &mut W,
+    options: &NodeOptions<'_>,
+) -> Result<(), Fault>
+    ensures values { (¬ spec.AreNodeGood options.now) → IsErrOf result Fault.Value }
+    ensures written { OnOk result (Appends (W.contents writer.old) (W.contents writer.new) (codes "stopped" ++ 10 ∷ [])) }
+{
+    match run(rt, alloc, options) {
+        Ok(()) => say(writer, b"stopped\n"),
+        Err(fault) => Err(fault),
+    }
+}
+
+/// Serves POP3 (RFC 1939) at one node of a service, whose other nodes run in other processes, and an operator's requests at
+/// a port of their own, until an operator stops it. Then no connection is taken any more, the sessions go on to their ends, the
+/// node stops for good, and `stopped` is written. The processes of a service must have the same accounts, limits, window and
+/// number of nodes, and no node may be started twice. Returns the exit status: 0 if that line was written, 1 after a fault
+/// of memory, reading, writing or the network, 2 for options or an accounts file that are none, or a node that was started
+/// before. A fault is reported on standard error.
+pub fn serve_node_run<R: System + Files<File = File> + Eprint, W: Write>(
+    rt: R,
+    alloc: Global,
+    writer: &mut W,
+    options: &NodeOptions<'_>,
+) -> u8
+    ensures values { (¬ spec.AreNodeGood options.now) → result ≡ 2 }
+    ensures statuses { result ≤ 2 }
+
+    // The status 0 comes only after the line.
+    ensures told { result ≡ 0 → Appends (W.contents writer.old) (W.contents writer.new) (codes "stopped" ++ 10 ∷ []) }
+{
+    match run_and_tell(rt, alloc, writer, options) {
+        Ok(()) => 0,
+        Err(fault) => {
+            let _untold = eprintln!(rt; "maildropd: {fault}");
+            fault.status()
+        }
+    }
+}
