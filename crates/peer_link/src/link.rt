@@ -8,6 +8,7 @@ use ballot::{Envelope, LAST_NODE, Memory, NodeId};
 use cluster::Link;
 use maildrop::SharedCommand;
 use std::alloc::Global;
+use std::marker::Model;
 use std::net::{Net, TcpListener, TcpStream};
 use std::slice;
 use std::sync::Wait;
@@ -19,13 +20,26 @@ use std::time::Clock;
 /// What is sent is lost if there is no connection then, or if the write fails. After such a write the connection is closed.
 /// An envelope that is too long for a frame is lost too, and so is one for which there is no memory. A connect or a write
 /// that takes 100 ms is given up. After such a connect none is tried for a second.
+///
+/// Contracts see a link as its base port. `port_of` says at which port a node listens then.
 #[derive(Drop)]
 pub struct TcpLink<R: Net<Listener = TcpListener, Stream = TcpStream> + Wait + Clock> {
     rt: R,
     base_port: u16,
     /// One for each number of a node.
     peers: Vec<Peer>,
-    ghost has_each: { peers.items ≡ all_nodes LAST_NODE },
+}
+
+impl<R: Net<Listener = TcpListener, Stream = TcpStream> + Wait + Clock> Model for TcpLink<R> {
+    ghost use Rattle.std.specs.Prelude.{◌≡◌, ℕ};
+    ghost use Rattle.ballot.specs.declared.node_id.TheConstants.{LAST_NODE};
+    ghost use Rattle.cluster.specs.Starts.{all_nodes};
+
+    ghost Value = { ℕ };
+
+    ghost view = { λ l. l.base_port };
+
+    ghost invariant = { λ l. l.peers.items ≡ all_nodes LAST_NODE };
 }
 
 fn new_peers(alloc: Global) -> Result<Vec<Peer>, Memory>
@@ -42,8 +56,10 @@ fn new_peers(alloc: Global) -> Result<Vec<Peer>, Memory>
 }
 
 impl<R: Net<Listener = TcpListener, Stream = TcpStream> + Wait + Clock + Copy> TcpLink<R> {
-    /// No connections yet. `port_of` says at which port a node listens.
-    pub fn new(rt: R, alloc: Global, base_port: u16) -> Result<Self, Memory> {
+    /// No connections yet.
+    pub fn new(rt: R, alloc: Global, base_port: u16) -> Result<Self, Memory>
+        ensures { IfOk result (λ link. link ≡ base_port) }
+    {
         let peers = new_peers(alloc)?;
         Ok(TcpLink {
             rt,
