@@ -231,7 +231,7 @@ fn operators_come_by_a_socket(rt: HostRuntime) -> Result<(), Fail> {
     let (plan, _site) = at_socket(&rt, alloc, ACCOUNTS, path.as_str())?;
     let thread = thread::spawn(&rt, move || run(rt, alloc, &plan)).map_err(|_| "no thread")?;
     let (broken, mode, stopped) = told_at_socket(&rt, alloc, path.as_str())?;
-    let (status, _) = thread.join(&rt);
+    let status = thread.join(&rt).status;
     assert!(rt; broken.is(0, b"done\n") && mode == 0o600);
     assert!(rt; stopped.is(0, b"stopping\naudit ok\n") && status == 0);
     assert!(rt; fs::metadata(&rt, path.as_str()).is_err());

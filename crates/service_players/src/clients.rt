@@ -40,6 +40,17 @@ pub fn read_all(alloc: Global, stream: &TcpStream) -> Result<Vec<u8>, Fail> {
     Ok(bytes)
 }
 
+/// Reads up to the end of the connection, which may also be reset: something that was sent was not read then.
+pub fn read_to_cut(alloc: Global, stream: &TcpStream) -> Result<Vec<u8>, Fail> {
+    let mut reader = stream;
+    let mut bytes = Vec::new(alloc);
+    match reader.read_to_end(&mut bytes) {
+        Ok(_) => Ok(bytes),
+        Err(error) if is_end(&error) => Ok(bytes),
+        Err(error) => Err(Fail::from(error)),
+    }
+}
+
 /// What a client hears that comes to a port at which nobody takes connections any more: nothing. Before the port is closed
 /// the system may still give it a connection, which then ends, or is reset.
 pub fn heard_at_last<R: Net<Stream = TcpStream>>(
@@ -47,18 +58,13 @@ pub fn heard_at_last<R: Net<Stream = TcpStream>>(
     alloc: Global,
     port: u16,
 ) -> Result<Vec<u8>, Fail> {
-    let mut heard = Vec::new(alloc);
-    let mut stream = match rt.connect(local(port)) {
+    let stream = match rt.connect(local(port)) {
         Ok(stream) => stream,
-        Err(error) if is_end(&error) => return Ok(heard),
+        Err(error) if is_end(&error) => return Ok(Vec::new(alloc)),
         Err(error) => return Err(Fail::from(error)),
     };
     stream.set_read_timeout(Some(Duration::from_secs(PATIENCE)))?;
-    match stream.read_to_end(&mut heard) {
-        Ok(_) => Ok(heard),
-        Err(error) if is_end(&error) => Ok(heard),
-        Err(error) => Err(Fail::from(error)),
-    }
+    read_to_cut(alloc, &stream)
 }
 
 /// Whether an error says that nobody listens at a port, or does any more.

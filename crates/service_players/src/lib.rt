@@ -3,12 +3,14 @@
 #![tactic(auto)]
 
 mod clients;
+mod nodes;
 mod plays;
 mod running;
 
-pub use clients::{GREETING, connect, line_after, local, read_all, replies, send};
-pub use plays::{Row, STOP, Scene, play, play_after};
+pub use clients::{GREETING, connect, line_after, local, read_all, read_to_cut, replies, send};
+pub use nodes::{NodePlan, NodeSite, Nodes, nodes_beside_deaf, nodes_with, run_node};
+pub use plays::{Row, STOP, Scene, play, play_after, play_at};
 pub use running::{
-    Plan, Ports, Running, STARTS, Site, Told, at_one_port, at_port, at_socket, begun, bounded,
-    ctl_with, file, free_ports, options, planned, remove, run, with_few_bytes,
+    Doors, Ended, Plan, Ports, Running, STARTS, Site, Told, at_one_port, at_port, at_socket, begun,
+    bounded, ctl_with, file, free_ports, options, over_ports, planned, remove, run, with_few_bytes,
 };

@@ -3,7 +3,7 @@
 use crate::clients::{
     GREETING, answer, connect, heard_at_last, line_after, read_all, send, whole_answer,
 };
-use crate::running::{Running, ctl, file, remove};
+use crate::running::{Doors, Running, ctl, file, remove};
 use std::alloc::Global;
 use std::io::{Eprint, Read};
 use std::net::{Net, Shutdown, TcpListener, TcpStream};
@@ -63,7 +63,7 @@ pub struct Scene {
 #[derive(Drop)]
 struct Stage {
     alloc: Global,
-    service: Running,
+    doors: Doors,
     /// The path of the mailbox file.
     path: String,
     clients: Vec<TcpStream>,
@@ -93,6 +93,11 @@ fn hears(alloc: Global, stream: &TcpStream, wanted: &[u8]) -> Result<bool, Fail>
 }
 
 impl Stage {
+    /// The port of a node.
+    fn node(&self, number: u16) -> u16 {
+        self.doors.pop_port.saturating_add(number)
+    }
+
     /// Whether `maildropd ctl` with these words ends with this status and prints this.
     fn is_told<R: Net<Listener = TcpListener, Stream = TcpStream> + Files + Eprint>(
         &self,
@@ -109,7 +114,7 @@ impl Stage {
                 word
             })?;
         }
-        let told = self.service.ctl(rt, self.alloc, parts.as_slice());
+        let told = ctl(rt, self.alloc, self.doors.ctl_port, parts.as_slice());
         Ok(told.is(status, lines.as_bytes()))
     }
 
@@ -119,7 +124,7 @@ impl Stage {
         rt: &R,
         part: &str,
     ) -> Result<bool, Fail> {
-        let told = self.service.ctl(rt, self.alloc, &["status"]);
+        let told = ctl(rt, self.alloc, self.doors.ctl_port, &["status"]);
         let text = std::str::from_utf8(told.lines.as_slice())?;
         Ok(told.status == 0 && text.contains(part))
     }
@@ -131,7 +136,7 @@ impl Stage {
         node: u16,
         status: u8,
     ) -> bool {
-        ctl(rt, self.alloc, self.service.node(node), &["status"]).status == status
+        ctl(rt, self.alloc, self.node(node), &["status"]).status == status
     }
 
     /// Whether the operator's port answers to these bytes with these.
@@ -141,7 +146,7 @@ impl Stage {
         bytes: &str,
         lines: &str,
     ) -> Result<bool, Fail> {
-        let port = self.service.ctl_port;
+        let port = self.doors.ctl_port;
         let said = whole_answer(rt, self.alloc, port, bytes.as_bytes())?;
         Ok(said.as_slice() == lines.as_bytes())
     }
@@ -153,13 +158,13 @@ impl Stage {
         bytes: &str,
         lines: &str,
     ) -> Result<bool, Fail> {
-        let said = answer(rt, self.alloc, self.service.ctl_port, bytes.as_bytes())?;
+        let said = answer(rt, self.alloc, self.doors.ctl_port, bytes.as_bytes())?;
         Ok(said.as_slice() == lines.as_bytes())
     }
 
     /// A client comes to a node. Gives whether it is greeted.
     fn come<R: Net<Stream = TcpStream>>(&mut self, rt: &R, node: u16) -> Result<bool, Fail> {
-        let client = connect(rt, self.service.node(node))?;
+        let client = connect(rt, self.node(node))?;
         let line = line_after(self.alloc, &client, 1)?;
         self.clients.push(client)?;
         self.greeted = self.greeted.saturating_add(1);
@@ -168,12 +173,12 @@ impl Stage {
 
     /// Whether a client comes to a node in vain.
     fn is_refused<R: Net<Stream = TcpStream>>(&self, rt: &R, node: u16) -> Result<bool, Fail> {
-        Ok(heard_at_last(rt, self.alloc, self.service.node(node))?.is_empty())
+        Ok(heard_at_last(rt, self.alloc, self.node(node))?.is_empty())
     }
 
     /// A client comes to the operator's port.
     fn come_as_operator<R: Net<Stream = TcpStream>>(&mut self, rt: &R) -> Result<bool, Fail> {
-        self.clients.push(connect(rt, self.service.ctl_port)?)?;
+        self.clients.push(connect(rt, self.doors.ctl_port)?)?;
         Ok(true)
     }
 
@@ -249,26 +254,32 @@ pub fn play<
 pub fn play_after<
     R: Net<Listener = TcpListener, Stream = TcpStream> + Threads + RandomSource + Files + Eprint,
 >(rt: &R, alloc: Global, service: Running, scene: &Scene, greeted: u64) -> Result<(), Fail> {
+    play_at(rt, alloc, service.doors(), scene, greeted)?;
+    let (status, written) = service.end(rt);
+    if status != 0 || written.as_slice() != b"audit ok\n".as_slice() {
+        return Err(Fail::from("another verdict"));
+    }
+    Ok(())
+}
+
+/// Plays a scene at a service that has greeted so many clients, and doesn't look at its end.
+pub fn play_at<R: Net<Listener = TcpListener, Stream = TcpStream> + RandomSource + Files + Eprint>(
+    rt: &R,
+    alloc: Global,
+    doors: Doors,
+    scene: &Scene,
+    greeted: u64,
+) -> Result<(), Fail> {
     let mut stage = Stage {
         alloc,
-        service,
+        doors,
         path: file(rt, alloc, "mailbox", scene.mailbox.as_bytes())?,
         clients: Vec::new(alloc),
         greeted,
     };
     stage.happen(rt, scene.rows)?;
-    let Stage {
-        alloc: _,
-        service,
-        path,
-        clients,
-        greeted: _,
-    } = stage;
+    let Stage { path, clients, .. } = stage;
     drop(clients);
     remove(rt, path.as_str());
-    let (status, written) = service.end(rt);
-    if status != 0 || written.as_slice() != b"audit ok\n".as_slice() {
-        return Err(Fail::from("another verdict"));
-    }
     Ok(())
 }

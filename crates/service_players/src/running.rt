@@ -2,7 +2,7 @@
 
 use crate::clients::{PATIENCE, local};
 use ctl::{CtlOptions, ctl_run};
-use service::{ServeOptions, serve_run};
+use service::{ServeOptions, ServiceEnd, serve_run};
 use std::alloc::Global;
 use std::fs::File;
 use std::io::{Eprint, Read, Write};
@@ -25,15 +25,39 @@ pub const STARTS: u8 = 5;
 
 /// The exit status of a service that can't listen at one of its ports, which writes nothing then. Other faults at a start
 /// end it so too.
-const CANNOT_LISTEN: u8 = 1;
+pub(crate) const CANNOT_LISTEN: u8 = 1;
 
 /// A service on a thread of its own.
 #[derive(Drop)]
 pub struct Running {
     /// Node n is at the first of these and n more.
     ports: Ports,
+    /// It takes what other nodes send at the first of these and n more, if the nodes have such ports.
+    peers: Option<Ports>,
     pub ctl_port: u16,
-    thread: JoinHandle<(u8, Vec<u8>)>,
+    thread: JoinHandle<Ended>,
+}
+
+/// What is known of a service that has ended.
+#[derive(Drop)]
+pub struct Ended {
+    pub status: u8,
+    /// What it wrote.
+    pub written: Vec<u8>,
+    /// How many sessions were greeted.
+    pub greeted: usize,
+    /// How many transcripts it left.
+    pub transcripts: usize,
+    /// How many of its nodes left a log that isn't empty.
+    pub logs_with_inputs: usize,
+}
+
+/// Where the clients and the operator of a service come.
+#[derive(Clone, Copy)]
+pub struct Doors {
+    /// Node n takes POP3 clients at this port and n more.
+    pub pop_port: u16,
+    pub ctl_port: u16,
 }
 
 /// What a call of `maildropd ctl` gave.
@@ -153,6 +177,8 @@ pub struct Plan {
     delivery_bytes: u64,
     /// Whether it has one port for all nodes, that of node 1, and ends after a second without a majority.
     has_one_port: bool,
+    /// The port above which its nodes send to one another, if they have ports for that.
+    peer_port: Option<u16>,
     has_ended: Arc<AtomicBool>,
 }
 
@@ -160,6 +186,7 @@ pub struct Plan {
 #[derive(Drop)]
 pub struct Site {
     ports: Ports,
+    peers: Option<Ports>,
     has_ended: Arc<AtomicBool>,
 }
 
@@ -180,9 +207,15 @@ pub fn planned<R: Net<Listener = TcpListener, Stream = TcpStream> + RandomSource
         socket: None,
         delivery_bytes: 1 << 30,
         has_one_port: false,
+        peer_port: None,
         has_ended: Arc::try_clone(&has_ended)?,
     };
-    Ok((plan, Site { ports, has_ended }))
+    let site = Site {
+        ports,
+        peers: None,
+        has_ended,
+    };
+    Ok((plan, site))
 }
 
 /// The same service with a log of this path, whose sessions may be silent for a second.
@@ -235,8 +268,21 @@ pub fn at_one_port<R: Net<Listener = TcpListener, Stream = TcpStream> + RandomSo
     Ok((plan, site))
 }
 
+/// The same service, whose nodes send to one another at ports.
+pub fn over_ports<R: Net<Listener = TcpListener, Stream = TcpStream> + RandomSource + Files>(
+    rt: &R,
+    alloc: Global,
+    accounts: &str,
+) -> Result<(Plan, Site), Fail> {
+    let peers = free_ports(rt)?;
+    let (mut plan, mut site) = planned(rt, alloc, accounts)?;
+    plan.peer_port = Some(peers.first);
+    site.peers = Some(peers);
+    Ok((plan, site))
+}
+
 /// A text, if there is one.
-fn text_of(text: &Option<String>) -> Option<&str> {
+pub(crate) fn text_of(text: &Option<String>) -> Option<&str> {
     match text {
         Some(text) => Some(text.as_str()),
         None => None,
@@ -249,6 +295,10 @@ fn options_of(plan: &Plan) -> ServeOptions<'_> {
     options.idle_seconds = plan.idle_seconds;
     options.delivery_bytes = plan.delivery_bytes;
     options.log = text_of(&plan.log);
+    options.peer_port = match plan.peer_port {
+        Some(port) => Some(u64::from(port)),
+        None => None,
+    };
     options.ctl_socket = text_of(&plan.socket);
     if options.ctl_socket.is_some() {
         options.ctl_port = None;
@@ -261,7 +311,18 @@ fn options_of(plan: &Plan) -> ServeOptions<'_> {
     options
 }
 
-/// Runs a service. Gives its exit status and what it wrote.
+/// How many of these logs have inputs.
+fn count_with_inputs(end: &ServiceEnd) -> usize {
+    let mut count: usize = 0;
+    for log in &end.logs {
+        if !log.inputs.get().is_empty() {
+            count = count.saturating_add(1);
+        }
+    }
+    count
+}
+
+/// Runs a service. Gives what is known of it at its end.
 pub fn run<
     R: Net<Listener = TcpListener, Stream = TcpStream>
         + Threads
@@ -274,13 +335,19 @@ pub fn run<
         + 'static
         + Files<File = File>
         + Eprint,
->(rt: R, alloc: Global, plan: &Plan) -> (u8, Vec<u8>) {
+>(rt: R, alloc: Global, plan: &Plan) -> Ended {
     let mut written = Vec::new(alloc);
     let options = options_of(plan);
-    let status = serve_run(rt, alloc, &mut written, &options).status;
+    let end = serve_run(rt, alloc, &mut written, &options);
     remove(&rt, plan.accounts.as_str());
     plan.has_ended.store(true, Ordering::SeqCst);
-    (status, written)
+    Ended {
+        status: end.status,
+        written,
+        greeted: end.greeted,
+        transcripts: end.transcripts.len(),
+        logs_with_inputs: count_with_inputs(&end),
+    }
 }
 
 /// What `status` is answered at a port.
@@ -293,23 +360,30 @@ fn told_at<R: Net<Stream = TcpStream>>(rt: &R, alloc: Global, port: u16) -> io::
     Ok(told)
 }
 
-/// Whether a service takes requests at this port.
-fn takes_requests<R: Net<Stream = TcpStream>>(rt: &R, alloc: Global, port: u16) -> bool {
+/// Whether a service whose first node has this line of `status` takes requests at this port.
+fn takes_requests<R: Net<Stream = TcpStream>>(
+    rt: &R,
+    alloc: Global,
+    port: u16,
+    line: &str,
+) -> bool {
     match told_at(rt, alloc, port) {
-        Ok(told) => told.as_slice().starts_with(b"node 1 up "),
+        Ok(told) => told.as_slice().starts_with(line.as_bytes()),
         Err(_) => false,
     }
 }
 
-/// Waits until a service takes requests or has ended. Gives whether it takes them.
-fn begins<R: Net<Stream = TcpStream> + Clock>(
+/// Waits until a service, whose first node has this number, takes requests or has ended. Gives whether it takes them.
+pub(crate) fn begins<R: Net<Stream = TcpStream> + Clock>(
     rt: &R,
     alloc: Global,
     ctl_port: u16,
+    number: u16,
     has_ended: &AtomicBool,
 ) -> Result<bool, Fail> {
+    let line = format!(in alloc; "node {number} up ")?;
     for _ in 0..TURNS {
-        if takes_requests(rt, alloc, ctl_port) {
+        if takes_requests(rt, alloc, ctl_port, line.as_str()) {
             return Ok(true);
         }
         if has_ended.load(Ordering::SeqCst) {
@@ -326,16 +400,21 @@ pub fn begun<R: Net<Stream = TcpStream> + Threads + Clock>(
     rt: &R,
     alloc: Global,
     site: Site,
-    thread: JoinHandle<(u8, Vec<u8>)>,
+    thread: JoinHandle<Ended>,
 ) -> Result<Option<Running>, Fail> {
-    let Site { ports, has_ended } = site;
+    let Site {
+        ports,
+        peers,
+        has_ended,
+    } = site;
     let ctl_port = ports.ctl();
     let service = Running {
         ports,
+        peers,
         ctl_port,
         thread,
     };
-    if begins(rt, alloc, ctl_port, &has_ended)? {
+    if begins(rt, alloc, ctl_port, 1, &has_ended)? {
         return Ok(Some(service));
     }
     match service.end(rt) {
@@ -417,6 +496,22 @@ impl Running {
         self.ports.first.saturating_add(number)
     }
 
+    /// The port at which a node takes what other nodes send, if it has one.
+    pub fn peer(&self, number: u16) -> Option<u16> {
+        match &self.peers {
+            Some(ports) => Some(ports.first.saturating_add(number)),
+            None => None,
+        }
+    }
+
+    /// Where its clients and its operator come.
+    pub fn doors(&self) -> Doors {
+        Doors {
+            pop_port: self.ports.first,
+            ctl_port: self.ctl_port,
+        }
+    }
+
     /// The port for all nodes, if the service has one.
     pub fn port_for_all(&self) -> u16 {
         self.node(1)
@@ -447,6 +542,12 @@ impl Running {
 
     /// Waits until the service has ended, and gives its exit status and what it wrote.
     pub fn end<R: Threads>(self, rt: &R) -> (u8, Vec<u8>) {
+        let ended = self.ended(rt);
+        (ended.status, ended.written)
+    }
+
+    /// Waits until the service has ended, and gives all that is known of it.
+    pub fn ended<R: Threads>(self, rt: &R) -> Ended {
         self.thread.join(rt)
     }
 }

@@ -1,7 +1,7 @@
 //! What POP3 clients are told at nodes that agree: of mail that is delivered, of locks that are broken, where nodes stop.
 
 use service_players::Row::{Asks, Comes, Ctl, Ends, Goes, Operator, Refused, Says, Shows};
-use service_players::{STOP, Scene, play, start};
+use service_players::{STOP, Scene, play, play_at, start};
 use std::test::*;
 
 /// A mailbox file with one message of 30 octets.
@@ -53,6 +53,25 @@ const ONE_MESSAGE: Scene = Scene {
         Says(1, QUIT, BYE),
         Ends(1),
         STOP,
+    ],
+};
+
+/// Two sessions that ask for something, and between them one that only quits.
+const THREE: Scene = Scene {
+    accounts: ACCOUNTS,
+    mailbox: "",
+    rows: &[
+        Comes(1),
+        Says(0, ALICE, EMPTY),
+        Says(0, QUIT, BYE),
+        Ends(0),
+        Comes(2),
+        Says(1, QUIT, BYE),
+        Ends(1),
+        Comes(3),
+        Says(2, BOB, EMPTY),
+        Says(2, QUIT, BYE),
+        Ends(2),
     ],
 };
 
@@ -415,5 +434,21 @@ fn nodes_and_the_service_stop(rt: HostRuntime) -> Result<(), Fail> {
         let service = start!(rt, alloc, scene.accounts);
         play(&rt, alloc, service, scene)?;
     }
+    Ok(())
+}
+
+/// A service returns how many sessions were greeted, the transcripts of those that asked for something, and the logs of all
+/// nodes, which have heard of them.
+#[test]
+fn all_that_ran_is_returned(rt: HostRuntime) -> Result<(), Fail> {
+    let alloc = rt.alloc();
+    let service = start!(rt, alloc, THREE.accounts);
+    play_at(&rt, alloc, service.doors(), &THREE, 0)?;
+    let told = service.ctl(&rt, alloc, &["stop"]);
+    let ended = service.ended(&rt);
+    assert!(rt; told.is(0, b"stopping\n") && ended.status == 0);
+    assert_eq!(rt; ended.greeted, 3);
+    assert_eq!(rt; ended.transcripts, 2);
+    assert_eq!(rt; ended.logs_with_inputs, 3);
     Ok(())
 }
