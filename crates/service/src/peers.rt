@@ -4,7 +4,7 @@ ghost use Rattle.service.specs.Peers as spec;
 
 use crate::served_node::ServedNode;
 use crate::state::ServiceState;
-use ballot::{Envelope, Memory};
+use ballot::{Cluster, Envelope, Memory};
 use maildrop::SharedCommand;
 use peer_wire::{Inbox, receive};
 use ports::Handler;
@@ -41,14 +41,17 @@ pub(crate) struct PeerHandler<R, N: ServedNode> {
     pub alloc: Global,
     /// The node that hears it.
     pub node: N,
+    /// The cluster. What others claim to send isn't heard.
+    pub cluster: Cluster,
     /// What all threads of the service see.
     pub state: Arc<ServiceState>,
 }
 
-/// The inbox of a node.
+/// The inbox of a node, for what nodes of its cluster send.
 #[derive(Drop)]
 struct NodeInbox<'a, N: ServedNode> {
     node: &'a N,
+    cluster: Cluster,
 }
 
 impl<N: ServedNode> Inbox<Envelope<SharedCommand>> for NodeInbox<'_, N> {
@@ -57,14 +60,17 @@ impl<N: ServedNode> Inbox<Envelope<SharedCommand>> for NodeInbox<'_, N> {
     ghost hears = { λ before _ after. after ≡ before };
 
     fn arrive(&mut self, envelope: Envelope<SharedCommand>) -> bool {
-        self.node.arrive(envelope)
+        self.cluster.contains(envelope.from) && self.node.arrive(envelope)
     }
 }
 
 impl<R: Wait + Copy, N: ServedNode + Drop> Handler<TcpStream> for PeerHandler<R, N> {
     fn serve(&mut self, stream: &Arc<TcpStream>, _peer: SocketAddr) {
         let mut reader: &TcpStream = stream;
-        let mut inbox = NodeInbox { node: &self.node };
+        let mut inbox = NodeInbox {
+            node: &self.node,
+            cluster: self.cluster,
+        };
         let _ended = receive(self.alloc, LONGEST_CONTENT, &mut reader, &mut inbox);
     }
 
@@ -79,6 +85,7 @@ impl<R: Wait + Copy, N: ServedNode + Drop> Handler<TcpStream> for PeerHandler<R,
             rt: self.rt,
             alloc: self.alloc,
             node,
+            cluster: self.cluster,
             state,
         })
     }

@@ -326,6 +326,7 @@ fn start_peer<R: System, N: ServedNode + Send + Sync + Drop + 'static>(
                 rt,
                 alloc,
                 node: node.share()?,
+                cluster: settings.cluster,
                 state: Arc::try_clone(state)?,
             };
             return start_serving(rt, alloc, &peer.port, handler, threads);

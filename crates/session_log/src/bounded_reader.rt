@@ -94,8 +94,7 @@ impl<'a, R: Wait + Clock> BoundedReader<'a, R> {
     fn take(&mut self, room: &mut [u8]) -> io::Result<usize>
         ensures { ReadsAtMost result room.new }
     {
-        let mut stream = self.stream;
-        match stream.read(room) {
+        match read_again(self.stream, room) {
             Ok(count) => {
                 self.note(&room[..count]);
                 Ok(count)
@@ -113,6 +112,17 @@ impl<'a, R: Wait + Clock> BoundedReader<'a, R> {
     fn note(&mut self, piece: &[u8]) {
         self.has_part = is_part(self.has_part, piece);
         self.facts.lock(&self.rt).read(piece.len());
+    }
+}
+
+/// Reads into the room, once more if that was interrupted: Linux does so to a process that was stopped for a while.
+fn read_again(stream: &TcpStream, room: &mut [u8]) -> io::Result<usize>
+    ensures { ReadsAtMost result room.new }
+{
+    let mut reader = stream;
+    match reader.read(room) {
+        Err(error) if error.kind() == io::ErrorKind::Interrupted => reader.read(room),
+        read => read,
     }
 }
 
