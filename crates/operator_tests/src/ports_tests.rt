@@ -68,7 +68,7 @@ const STOPPED: Scene = Scene {
         Ctl("stop", 0, "stopping\n"),
         Refused(1),
         Refused(3),
-        Shows("node 1 up active slot 1\n"),
+        Shows("node 1 up "),
         Ctl("stop", 0, "stopping\n"),
         Says(0, "QUIT\r\n", "+OK signing off\r\n"),
         Ends(0),
