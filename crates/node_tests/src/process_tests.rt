@@ -112,7 +112,7 @@ fn many_messages(alloc: Global) -> Result<Vec<u8>, Fail> {
     Ok(mailbox)
 }
 
-/// What an operator is told who has them delivered at node 1 to a user who isn't there.
+/// The answer to their delivery at node 1, to a user without an account.
 fn lines_for_many(alloc: Global) -> Result<Vec<u8>, Fail> {
     let mut lines = Vec::new(alloc);
     for number in 1..=MANY {
@@ -123,7 +123,7 @@ fn lines_for_many(alloc: Global) -> Result<Vec<u8>, Fail> {
     Ok(lines)
 }
 
-/// Whether an operator who has many messages delivered at node 1 is told what becomes of each.
+/// Whether the answer to a delivery of many messages at node 1 has a line for each.
 fn are_many_delivered<
     R: Net<Listener = TcpListener, Stream = TcpStream> + RandomSource + Files + Eprint,
 >(rt: &R, alloc: Global, nodes: &Nodes) -> Result<bool, Fail> {

@@ -38,7 +38,7 @@ pub(crate) const READ_ELSEWHERE: Scene = Scene {
     rows: READ,
 };
 
-/// What an operator of node 1 is told that runs alone of three. It asks for nothing that nodes must agree on.
+/// What node 1 answers its operator if neither of the other two nodes runs. Nothing is asked that nodes must agree on.
 pub(crate) const ALONE: Scene = Scene {
     accounts: ACCOUNTS,
     mailbox: MAILBOX,

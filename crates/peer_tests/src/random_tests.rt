@@ -52,7 +52,7 @@ fn check_read(alloc: Global, bytes: &[u8]) -> Result<bool, Fail> {
     Ok(true)
 }
 
-/// A frame with one to three other bytes behind its length. Returns whether it is read.
+/// Changes one to three bytes after a frame's length. Returns whether the frame is still read.
 fn check_changed(alloc: Global, random: &mut Random, kind: u8) -> Result<bool, Fail> {
     let envelope = some_envelope(alloc, random, kind)?;
     let mut frame = encode(alloc, &envelope)?;

@@ -1,5 +1,5 @@
-//! Tests of the service over TCP, with both ends in one process: what POP3 clients are told, and what is told of a run. There
-//! is nothing here but tests.
+//! Tests of the service over TCP, with both ends in one process: replies to POP3 clients, bounds, verdicts. There is nothing
+//! here but tests.
 #![tactic(auto)]
 
 #[cfg(test)]

@@ -1,4 +1,4 @@
-//! What POP3 clients are told at nodes that agree: of mail that is delivered, of locks that are broken, where nodes stop.
+//! Sessions at nodes that agree: delivered mail, broken locks, stopped nodes, and what `serve_run` returns.
 
 use service_players::Row::{Asks, Comes, Ctl, Ends, Goes, Operator, Refused, Says, Shows};
 use service_players::{STOP, Scene, play, play_at, start};
