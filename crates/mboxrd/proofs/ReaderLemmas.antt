@@ -502,3 +502,6 @@ read_of-none (b ∷ bs) is = elim (cases_Bool (are_messages (lines (b ∷ bs))))
 
 pub failed_reads_none : (bytes : List ℕ) (error : MboxError) → kept_after bytes ≡ Failed error → read_of bytes ≡ Err NoFromLine
 failed_reads_none bytes error is = read_of-disagree bytes ((failed bytes error (sym is)).0)
+
+pub never_begins : (bytes more : List ℕ) → agree bytes from ≡ false → kept_after (bytes ++ more) ≡ Failed NoFromLine
+never_begins bytes more is = kept_after-refused (bytes ++ more) (agree-false bytes more from is)

@@ -11,6 +11,6 @@ mod writing;
 
 pub use error::MboxError;
 pub use laws::written_texts_are_read_back;
-pub use reader::Reader;
+pub use reader::{Reader, can_begin};
 pub use reading::read;
 pub use writing::write;

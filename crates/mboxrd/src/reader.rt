@@ -1,5 +1,5 @@
 //! Reads mailboxes that come in pieces.
-ghost use Rattle.std.specs.Prelude.{◌≡◌, ◌↔◌, ◌++◌, ◌<◌, length, ℕ, List, [], ◌∷◌, false, None, Ok, Err, IsOk, IfOk, IfErr, OnOk, OnErr, IsErrOf};
+ghost use Rattle.std.specs.Prelude.{◌≡◌, ◌↔◌, ◌++◌, ◌<◌, length, ℕ, List, [], ◌∷◌, false, None, Ok, Err, IsOk, IfOk, IfErr, OnOk, OnErr, IsErrOf, codes};
 ghost use Rattle.std.specs.Str.Lines.{strip_carriage_return};
 ghost use Rattle.maildrop.specs.Text.{IsLine};
 ghost use Rattle.mboxrd.specs.declared.error.MboxError.{MboxError};
@@ -53,6 +53,16 @@ fn agree(bytes: &[u8], others: &[u8]) -> bool
         }
     }
     true
+}
+
+/// Whether a file that begins with these bytes can be a mailbox: they start with `From `, or are a prefix of it. Takes no
+/// memory.
+#[tactic(auto, using(crate::proofs::ReaderLemmas::never_begins))]
+pub fn can_begin(bytes: &[u8]) -> bool
+    ensures value { result ≡ spec.agree bytes.now (codes "From ") }
+    ensures refused { (more : List ℕ) → result ≡ false → kept_after (bytes.now ++ more) ≡ Failed MboxError.NoFromLine }
+{
+    agree(bytes, FROM)
 }
 
 /// Whether this piece may come next: a message has begun, or the piece goes on with what the first line starts with.

@@ -25,7 +25,7 @@ mod workers;
 pub use connection::{Connection, Listening};
 pub use delivery_budget::DeliveryBudget;
 pub use fault::Fault;
-pub use file::{read_file, read_within};
+pub use file::{ReadOn, read_file, read_within};
 pub use handler::Handler;
 pub use listener::{Port, listen_at, start_reserve, start_serving, start_taking};
 pub use opening::Opening;
