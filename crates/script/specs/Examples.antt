@@ -5,6 +5,7 @@ use Rattle.apop.specs.declared.method.Method.TheVariants.{Pass}
 use Rattle.maildrop.specs.declared.outcome.Outcome.TheVariants as outcome
 use Rattle.maildrop.specs.declared.op.Op.TheVariants as op
 use Rattle.pop3_wire.specs.declared.line.Line.TheVariants.{Whole, TooLong}
+use Rattle.script.specs.Beginnings.{may_begin_line}
 use Rattle.script.specs.Commands.{parsed}
 use Rattle.script.specs.Instructions.{instruction_of}
 use Rattle.script.specs.Output.{outcome_line, performed_line, refusal_line, reply_lines, slot_line}
@@ -198,6 +199,37 @@ one_account = refl
 
 name_twice : read_line with_alice (codes "account alice apop s4") ≡ Err NameTwice
 name_twice = refl
+
+-- what a line may begin with
+begins_with_nothing : may_begin_line [] ≡ true
+begins_with_nothing = refl
+
+begins_with_keyword : may_begin_line (codes "line s1") ≡ true
+begins_with_keyword = refl
+
+begins_with_setting : may_begin_line (codes "account alice") ≡ true
+begins_with_setting = refl
+
+begins_with_longest : may_begin_line (codes "campaign") ≡ true
+begins_with_longest = refl
+
+begins_with_too_long : may_begin_line (codes "campaigns") ≡ false
+begins_with_too_long = refl
+
+begins_with_too_many : may_begin_line (replicate 9 0) ≡ false
+begins_with_too_many = refl
+
+begins_with_other_word : may_begin_line (codes "tock 1") ≡ false
+begins_with_other_word = refl
+
+begins_with_space : may_begin_line (codes " ") ≡ false
+begins_with_space = refl
+
+begins_with_single_word : may_begin_line (codes "lose\r") ≡ true
+begins_with_single_word = refl
+
+begins_with_single_word_and_space : may_begin_line (codes "lose ") ≡ false
+begins_with_single_word_and_space = refl
 
 -- what an operator asks
 abbrev alice : List ℕ

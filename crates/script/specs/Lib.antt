@@ -6,6 +6,7 @@ pub mod Written
 pub mod Seen
 pub mod Rows
 pub mod Scripts
+pub mod Beginnings
 pub mod Output
 pub mod Keys
 pub mod Requests

@@ -42,7 +42,7 @@ pub use mail_text::text_of;
 pub use message_kind::MessageKind;
 pub use nonce::Nonce;
 pub use output::{put_outcome, put_performed, put_refusal, put_replies, put_slot};
-pub use parsing::parse;
+pub use parsing::{may_begin_line, parse};
 pub use refusal::Refusal;
 pub use request::{LARGEST_FILE, LONGEST_REQUEST, Request, parse_request};
 pub use request_text::put_request;

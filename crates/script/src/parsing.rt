@@ -1,6 +1,8 @@
 //! Reads a line of a script.
-ghost use Rattle.std.specs.Prelude.{◌≡◌};
+ghost use Rattle.std.specs.Prelude.{◌≡◌, false};
 ghost use Rattle.maildrop.specs.Text.{IsLine};
+ghost use Rattle.script.specs.Beginnings as beginnings;
+ghost use Rattle.script.specs.Beginnings.{BeginsNoLine};
 ghost use Rattle.script.specs.Commands as spec;
 
 use crate::command::Command;
@@ -10,6 +12,9 @@ use crate::keyword::{keyword_of, setting_keyword_of};
 use crate::setting_parsing::setting_with;
 use crate::statement::Statement;
 use crate::words::cut_at_space;
+
+/// How many bytes the longest keyword has.
+const LONGEST_KEYWORD: usize = 8;
 
 /// The statement of a first word and what stands behind its space.
 fn statement_with<'a>(word: &[u8], rest: &'a [u8]) -> Option<Statement<'a>>
@@ -57,5 +62,23 @@ pub fn parse(line: &[u8]) -> Result<Option<Statement<'_>>, ScriptFault>
     match statement_of(line) {
         Some(statement) => Ok(Some(statement)),
         None => Err(ScriptFault::NoStatement),
+    }
+}
+
+fn is_keyword(word: &[u8]) -> bool
+    ensures { result ≡ beginnings.is_keyword word.now }
+{
+    setting_keyword_of(word).is_some() || keyword_of(word).is_some()
+}
+
+/// Whether a line of the language may begin with these bytes: the first word is a keyword, or no space stands behind it
+/// yet and it isn't too long for one. Takes no memory.
+pub fn may_begin_line(bytes: &[u8]) -> bool
+    ensures value { result ≡ beginnings.may_begin_line bytes.now }
+    ensures none { result ≡ false → BeginsNoLine bytes.now }
+{
+    match cut_at_space(bytes) {
+        Some((word, _)) => is_keyword(word),
+        None => bytes.len() <= LONGEST_KEYWORD,
     }
 }

@@ -1,5 +1,6 @@
 pub mod FirstLine
 pub mod Parts
+pub mod Refusing
 pub mod Telling
 pub mod Flushing
 pub mod Playing

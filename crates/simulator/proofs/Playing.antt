@@ -8,12 +8,11 @@ use Rattle.script.specs.Scripts.{read_line}
 use Rattle.script.specs.declared.command.Command.{Command}
 use Rattle.script.specs.declared.fault.ScriptFault.{ScriptFault}
 use Rattle.script.specs.declared.fault.ScriptFault.TheVariants.{Memory, NoStatement, LateSetting, NameTwice}
-use Rattle.simulator.specs.Reading.{IsFlushed, IsRead, IsPlayed, IsPlayedLine, IsStopAt, left_of}
+use Rattle.simulator.specs.Reading.{BeginsWithNone, IsFlushed, IsRead, IsPlayed, IsPlayedLine, IsStopAt, left_of}
 use Rattle.simulator.specs.Runs.{Run, line_told, lines_told, told_by}
 use Rattle.simulator.specs.Statuses.{fault_at, fault_from, fault_by}
 use Rattle.simulator.specs.Told.{IsWritten, Told}
 use Rattle.simulator.specs.declared.fault.Fault.{Fault}
-use Rattle.simulator.specs.declared.fault.Fault.TheVariants as fault
 use Rattle.simulator.specs.declared.fault.Fault.TheVariants.{Line}
 use Rattle.simulator.proofs.FirstLine.{one_line, nothing_left}
 use Rattle.simulator.proofs.Flushing.{flushed_as, flushed_on}
@@ -32,11 +31,6 @@ by_fault number told Memory is = absurd (cc is)
 by_fault number told NoStatement is = cc is
 by_fault number told LateSetting is = cc is
 by_fault number told NameTwice is = cc is
-
--- a fault of memory or of reading is at no line
-pub no_line : {P : Type 0} (error : Fault) (number : ℕ) → (error ≡ fault.Memory) ⊎ (error ≡ fault.Read) → error ≡ Line number → P
-no_line error number (inl memory) line = absurd (cc (sym memory ∙ line))
-no_line error number (inr read) line = absurd (cc (sym read ∙ line))
 
 -- a line was read
 pub there_is : (line : List ℕ) (there : Bool) → there ≡ nat_lt 0 (length line) → there ≡ true → 0 < length line
@@ -126,4 +120,12 @@ module _ {A : Type 0} where
       played.same ∙ stop.here played.rest told read.first (there_is line there read.more is) line_told,
       flushed_as contents contents_now (report ++ left_of bytes run) (report_now ++ left_of played.rest later) report_last played.told
           (stop.told played.rest told read.first (there_is line there read.more is) line_told),
+    )
+
+    -- the first fault is in the next line, which is none of the language, and all before it is reported
+    pub refused : BeginsWithNone played.rest → (fault_from (lines bytes) 1 run.script ≡ Some number) × IsFlushed contents contents_now (report ++ left_of bytes run) report_now
+    refused next = (
+      played.same ∙ ap (λ ls. fault_from ls number later.script) next.first ∙ ap (fault_by (fault_from next.others (number + 1)) number) (next.none later.script),
+      flushed_as contents contents_now (report ++ left_of bytes run) (report_now ++ left_of played.rest later) report_now played.told
+          (ap (λ ls. report_now ++ (lines_told ls later).text) next.first ∙ ap (λ r. report_now ++ (told_by (lines_told next.others) later r).text) (next.none later.script) ∙ append-nil report_now),
     )

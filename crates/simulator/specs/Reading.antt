@@ -1,12 +1,14 @@
 -- Lines that are read from a reader whose bytes are known, and what is written of them. Only private contracts cite this.
-use Rattle.std.specs.Prelude.{◌≡◌, ℕ, ◌+◌, ◌<◌, List, ◌++◌, length, nat_lt, Bool, if◌then◌else◌, Option, Some}
+use Rattle.std.specs.Prelude.{◌≡◌, ◌⊎◌, ℕ, ◌+◌, ◌<◌, List, ◌∷◌, ◌++◌, length, nat_lt, Bool, if◌then◌else◌, Option, Some, Err}
 use Rattle.std.specs.Io.BufRead.{take_through, drop_through}
 use Rattle.std.specs.Str.Lines.{lines}
 use Rattle.std.specs.Io.KnownBytes.{Appends}
+use Rattle.script.specs.Scripts.{Script, read_line}
+use Rattle.script.specs.declared.fault.ScriptFault.TheVariants.{NoStatement}
 use Rattle.simulator.specs.Runs.{Run, lines_told}
 use Rattle.simulator.specs.Statuses.{fault_from}
 use Rattle.simulator.specs.declared.fault.Fault.{Fault}
-use Rattle.simulator.specs.declared.fault.Fault.TheVariants.{Line}
+use Rattle.simulator.specs.declared.fault.Fault.TheVariants.{Line, Memory, Read}
 
 -- the first line of the bytes was read, with its line feed, unless no byte was left
 pub record IsRead (bytes line : List ℕ) (now : Option (List ℕ)) (there : Bool) : Type 0 where
@@ -33,6 +35,17 @@ pub record IsBegun (bytes line : List ℕ) (now : Option (List ℕ)) : Type 0 wh
   pub known : now ≡ Some rest
   pub taken : take_through 10 bytes ≡ line ++ take_through 10 rest
   pub dropped : drop_through 10 bytes ≡ drop_through 10 rest
+
+-- a fault of memory or of reading, or that of the line of this number
+abbrev pub IsFaultAt : ℕ → Fault → Type 0
+IsFaultAt number fault = (fault ≡ Memory) ⊎ (fault ≡ Read) ⊎ (fault ≡ Line number)
+
+-- the first line of the bytes is none of the language, whatever stands before it
+pub record BeginsWithNone (bytes : List ℕ) : Type 0 where
+  pub line : List ℕ
+  pub others : List (List ℕ)
+  pub first : lines bytes ≡ line ∷ others
+  pub none : (script : Script) → read_line script line ≡ Err NoStatement
 
 -- so many bytes were written of a report, and the others are left
 pub record IsFlushed (contents contents_now : Option (List ℕ)) (report report_now : List ℕ) : Type 0 where

@@ -90,7 +90,7 @@ fn play_lines<R: Read, W: Write>(
     let mut reads_left = MOST_READS;
     for number in 1..u64::MAX {
         write_due(writer, &mut run.report, !reader.buffer().contains(&b'\n'))?;
-        if !read_line(reader, &mut reads_left, &mut line)? {
+        if !read_line(reader, &mut reads_left, number, &mut line)? {
             return Ok(());
         }
         if let Err(fault) = play_line(alloc, run, number, line.as_slice()) {

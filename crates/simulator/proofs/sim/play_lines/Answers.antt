@@ -1,9 +1,12 @@
-use Rattle.std.proofs.Common.{rules, ◌≡◌, true, false, refl, subst}
+use Rattle.std.proofs.Common.{rules, ◌≡◌, ◌++◌, true, false, Some, refl, subst}
+use Rattle.std.specs.Str.Lines.{lines}
 use Rattle.simulator.proofs.Ending.{handed_on}
-use Rattle.simulator.specs.Reading.{IsPlayedLine, IsStopAt}
+use Rattle.simulator.specs.Reading.{IsFlushed, IsPlayedLine, IsStopAt, left_of}
 use Rattle.simulator.specs.Runs.{run_of}
+use Rattle.simulator.specs.Statuses.{fault_from}
 use Rattle.simulator.proofs.Flushing.{flushed_nothing}
-use Rattle.simulator.proofs.Playing.{ends, flushes, goes_on, no_line, stopped}
+use Rattle.simulator.proofs.Playing.{ends, flushes, goes_on, refused, stopped}
+use Rattle.simulator.proofs.Refusing.{at_number}
 use Rattle.simulator.proofs.sim.play_lines.Goals as goal
 
 pub loop-number-init : goal.loop-number-init
@@ -12,12 +15,18 @@ loop-number-init g c bytes known = record { rest = bytes; known = known; same = 
 pub returns-in_err-read_line-clause-line : goal.returns-in_err-read_line-clause-line
 returns-in_err-read_line-clause-line g c =
     handed_on c.from_residual-in_err-read_line.result c.in_err-read_line.field-0.0 _ c.from_residual-in_err-read_line.ensures.1
-    (λ bytes number known line. no_line c.in_err-read_line.field-0.0 number c.in_err-read_line.ensures.fault line)
+    (λ bytes told known line.
+    let played = flushes (c.loop-number.invariant bytes known) c.in_ok-write_due.ensures.flushed in
+    at_number (λ n. fault_from (lines bytes) 1 c.args.run.now.script ≡ Some n) c.in_err-read_line.field-0.0 c.loop-number.number told c.in_err-read_line.ensures.fault line
+    (λ here. (refused played (c.in_err-read_line.ensures.none played.rest played.known here)).0))
 
 pub returns-in_err-read_line-clause-told_before : goal.returns-in_err-read_line-clause-told_before
 returns-in_err-read_line-clause-told_before g c =
     handed_on c.from_residual-in_err-read_line.result c.in_err-read_line.field-0.0 _ c.from_residual-in_err-read_line.ensures.1
-    (λ bytes number known line. no_line c.in_err-read_line.field-0.0 number c.in_err-read_line.ensures.fault line)
+    (λ bytes told known line.
+    let played = flushes (c.loop-number.invariant bytes known) c.in_ok-write_due.ensures.flushed in
+    at_number (λ n. IsFlushed (g.W.Write.contents c.args.writer.now) (g.W.Write.contents c.write_due.new.writer) (c.args.run.now.report ++ left_of bytes (run_of c.args.run.now)) c.write_due.new.report) c.in_err-read_line.field-0.0 c.loop-number.number told c.in_err-read_line.ensures.fault line
+    (λ here. (refused played (c.in_err-read_line.ensures.none played.rest played.known here)).1))
 
 pub returns-then-not-branch-clause-sound : goal.returns-then-not-branch-clause-sound
 returns-then-not-branch-clause-sound g c bytes known =
