@@ -15,7 +15,7 @@ use std::{io, mem};
 /// the others for longer.
 const LONGEST_WAIT_MS: u64 = 100;
 
-/// For how many milliseconds no connect is tried after one that took too long.
+/// For how many milliseconds nothing is tried after a connect or a write that took too long.
 const PAUSE_MS: u64 = 1_000;
 
 /// The most bytes of memory that are kept for the next frames.
@@ -25,7 +25,7 @@ const MOST_KEPT: usize = 1 << 20;
 #[derive(Drop)]
 pub(crate) struct Connection {
     stream: Option<TcpStream>,
-    /// When the last connect was given up, if it took too long.
+    /// When the last connect or write was given up, if it took too long.
     gave_up: Option<Instant>,
     /// Memory for the next frames.
     buffer: Vec<u8>,
@@ -43,8 +43,8 @@ impl Connection {
         }
     }
 
-    /// Sends the frames of envelopes by one write. Connects first if there is no connection. If there is none then either,
-    /// the envelopes are lost. After a write that fails there is no connection.
+    /// Sends the frames of envelopes by one write. Connects first if there is no connection. If that fails, the envelopes
+    /// are lost. After a write that fails there is no connection.
     pub(crate) fn send<R: Net<Listener = TcpListener, Stream = TcpStream> + Clock>(
         &mut self,
         rt: &R,
@@ -61,13 +61,21 @@ impl Connection {
         let mut frames = mem::replace(&mut self.buffer, Vec::new(alloc));
         add_frames(&mut frames, envelopes);
         let mut writer = stream;
-        if writer.write_all(&frames).is_err() {
+        if let Err(error) = writer.write_all(&frames) {
             self.stream = None;
+            self.note(rt, error.kind());
         }
         self.keep(frames);
     }
 
-    /// Whether the last connect took too long, and not long ago.
+    /// Notes when a connect or a write took too long. The system reports such a write as one that would block.
+    fn note<R: Clock>(&mut self, rt: &R, kind: io::ErrorKind) {
+        if kind == io::ErrorKind::TimedOut || kind == io::ErrorKind::WouldBlock {
+            self.gave_up = Instant::now(rt).ok();
+        }
+    }
+
+    /// Whether a connect or a write took too long, and not long ago.
     fn pauses<R: Clock>(&self, rt: &R) -> bool {
         match self.gave_up {
             Some(time) => match time.elapsed(rt) {
@@ -85,10 +93,7 @@ impl Connection {
     ) {
         match connected(rt, port) {
             Ok(stream) => self.stream = Some(stream),
-            Err(error) if error.kind() == io::ErrorKind::TimedOut => {
-                self.gave_up = Instant::now(rt).ok();
-            }
-            Err(_) => {}
+            Err(error) => self.note(rt, error.kind()),
         }
     }
 
@@ -101,8 +106,8 @@ impl Connection {
     }
 }
 
-/// A connection to a port of this machine. If nobody listens there, the system may connect the port to itself. This counts as
-/// refused.
+/// A connection to a port of this machine. If nobody listens there, the system may connect the port to itself. This counts
+/// as refused.
 fn connected<R: Net<Listener = TcpListener, Stream = TcpStream>>(
     rt: &R,
     port: u16,

@@ -1,5 +1,5 @@
 //! A link over TCP.
-ghost use Rattle.std.specs.Prelude.{◌≡◌, [], IfOk};
+ghost use Rattle.std.specs.Prelude.{◌≡◌, [], true, false, IfOk};
 ghost use Rattle.ballot.specs.declared.node_id.TheConstants.{LAST_NODE};
 ghost use Rattle.cluster.specs.Starts.{all_nodes};
 
@@ -15,29 +15,32 @@ use std::sync::Wait;
 use std::time::Clock;
 
 /// Sends to each node over a connection of its own, to the node's port on this machine. It connects if there is something to
-/// send and no connection. It also carries what a node sends to itself.
+/// send and no connection.
 ///
 /// What is sent is lost if there is no connection then, or if the write fails. After such a write the connection is closed.
 /// An envelope that is too long for a frame is lost too, and so is one for which there is no memory. A connect or a write
-/// that takes 100 ms is given up. After such a connect none is tried for a second.
+/// that takes 100 ms is given up, and then nothing is sent to that node for a second.
 ///
-/// Contracts see a link as its base port. `port_of` says at which port a node listens then.
+/// Contracts see a link as its base port, and whether it carries what a node sends to itself. `port_of` defines a node's
+/// port above the base.
 #[derive(Drop)]
 pub struct TcpLink<R: Net<Listener = TcpListener, Stream = TcpStream> + Wait + Clock> {
     rt: R,
     base_port: u16,
+    carries_own: bool,
     /// One for each number of a node.
     peers: Vec<Peer>,
 }
 
 impl<R: Net<Listener = TcpListener, Stream = TcpStream> + Wait + Clock> Model for TcpLink<R> {
-    ghost use Rattle.std.specs.Prelude.{◌≡◌, ℕ};
+    ghost use Rattle.std.specs.Prelude.{◌≡◌};
     ghost use Rattle.ballot.specs.declared.node_id.TheConstants.{LAST_NODE};
     ghost use Rattle.cluster.specs.Starts.{all_nodes};
+    ghost use Rattle.peer_link.specs.Links.{Link};
 
-    ghost Value = { ℕ };
+    ghost Value = { Link };
 
-    ghost view = { λ l. l.base_port };
+    ghost view = { λ l. record { base_port = l.base_port; carries_own = l.carries_own } };
 
     ghost invariant = { λ l. l.peers.items ≡ all_nodes LAST_NODE };
 }
@@ -56,16 +59,31 @@ fn new_peers(alloc: Global) -> Result<Vec<Peer>, Memory>
 }
 
 impl<R: Net<Listener = TcpListener, Stream = TcpStream> + Wait + Clock + Copy> TcpLink<R> {
-    /// No connections yet.
-    pub fn new(rt: R, alloc: Global, base_port: u16) -> Result<Self, Memory>
-        ensures { IfOk result (λ link. link ≡ base_port) }
+    fn unconnected(rt: R, alloc: Global, base_port: u16, carries_own: bool) -> Result<Self, Memory>
+        ensures { IfOk result (λ link. link ≡ record { base_port = base_port; carries_own = carries_own }) }
     {
         let peers = new_peers(alloc)?;
         Ok(TcpLink {
             rt,
             base_port,
+            carries_own,
             peers,
         })
+    }
+
+    /// No connections yet. The link also carries what a node sends to itself.
+    pub fn new(rt: R, alloc: Global, base_port: u16) -> Result<Self, Memory>
+        ensures { IfOk result (λ link. link ≡ record { base_port = base_port; carries_own = true }) }
+    {
+        Self::unconnected(rt, alloc, base_port, true)
+    }
+
+    /// No connections yet. A node hears at once what it sends to itself. Over a connection that would come back as a copy,
+    /// and each promise with all that the node has accepted.
+    pub fn to_others(rt: R, alloc: Global, base_port: u16) -> Result<Self, Memory>
+        ensures { IfOk result (λ link. link ≡ record { base_port = base_port; carries_own = false }) }
+    {
+        Self::unconnected(rt, alloc, base_port, false)
     }
 }
 
@@ -92,5 +110,11 @@ impl<R: Net<Listener = TcpListener, Stream = TcpStream> + Wait + Clock> Link for
     {
         self.put(to, envelopes);
         envelopes.clear();
+    }
+
+    fn carries_own(&self) -> bool
+        ensures { result ≡ self.now.carries_own }
+    {
+        self.carries_own
     }
 }

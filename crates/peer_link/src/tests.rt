@@ -57,7 +57,7 @@ fn link_to<R: Net<Listener = TcpListener, Stream = TcpStream> + Wait + Clock + C
     Ok(TcpLink::new(rt, alloc, base_port)?)
 }
 
-/// The next envelope is the Ask for this slot.
+/// Checks that the next envelope is the Ask for this slot.
 fn check_next(alloc: Global, stream: &TcpStream, number: u64) -> Result<(), Fail> {
     stream.set_read_timeout(Some(Duration::from_secs(WAIT_SECONDS)))?;
     let mut bytes = [0u8; ASK];
