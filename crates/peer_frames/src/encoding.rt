@@ -39,7 +39,7 @@ fn put_content<A: Allocator + Copy, F: Front>(
     written
 }
 
-/// Writes the length of the content behind it, which is all that the buffer has there.
+/// Writes the length of a content at its place before the content, which ends the buffer. After an error nothing has changed.
 #[tactic(auto, unfolding(crate::specs::Frames::u32_bytes))]
 fn set_length<A: Allocator>(bytes: &mut Vec<u8, A>, start: usize) -> Result<(), EncodeError>
     requires { start + 4 ≤ length bytes.old.items }

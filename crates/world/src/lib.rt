@@ -1,5 +1,5 @@
-//! A whole service under a list of events: what its nodes decide and what its clients are told, whatever is lost,
-//! repeated, late or crashed.
+//! A whole service under a list of events: what its nodes decide and what its clients read, whatever is lost, repeated,
+//! late or crashed.
 #![tactic(auto)]
 
 mod act;
