@@ -8,14 +8,14 @@ use Rattle.ctl.specs.declared.answer.Ending.TheVariants.{Broken, Refused, Wrong,
 refused : is_refusal (codes "bad mbox") ≡ true
 refused = refl
 
--- a node that is down, as `status` tells it, is no refusal
+-- a node that is down, as `status` reports it, is no refusal
 told : is_refusal (codes "node 3 down") ≡ false
 told = refl
 
 nobody : is_refusal (codes "no such user") ≡ false
 nobody = refl
 
--- an answer to `status` that breaks off behind a node
+-- an answer to `status` that breaks off after a node
 broken_off : ending_by (Ask request.Status) (codes "node 1 up active slot 1") ≡ Broken
 broken_off = refl
 

@@ -38,7 +38,7 @@ abbrev pub awaits_verdict : Instruction → Bool
 awaits_verdict (instruction.Ask (request.Stop now wait)) = wait
 awaits_verdict asked = false
 
--- a line that says that what was asked wasn't done
+-- a line that reports that the request wasn't done
 abbrev pub is_refusal : List ℕ → Bool
 is_refusal line =
     bytes_eq line (codes "bad request") || bytes_eq line (codes "bad mbox") || bytes_eq line (codes "down")
@@ -46,8 +46,8 @@ is_refusal line =
 abbrev pub is_verdict : List ℕ → Bool
 is_verdict line = starts_with nat_eq line (codes "audit ")
 
--- the last line of an answer to a request to stop. If the end is waited for, it is the verdict that all is in order, or that one
--- node of several has stopped, which has no verdict
+-- the last line of an answer to a request to stop. If the end is waited for, it is the verdict that all is in order, or
+-- `stopped` for one node of several, which has no verdict
 abbrev pub ends_stop : Bool → List ℕ → Bool
 ends_stop waits line =
     if waits then bytes_eq line (codes "audit ok") || bytes_eq line (codes "stopped") else bytes_eq line (codes "stopping")
@@ -56,7 +56,7 @@ ends_stop waits line =
 abbrev pub ends_put : List ℕ → Bool
 ends_put line = bytes_eq line (codes "end") || bytes_eq line (codes "no such user")
 
--- the last line of an answer that tells what was asked
+-- the last line of a whole answer to a request
 abbrev pub ends_request : Request → List ℕ → Bool
 ends_request (request.Deliver node user count key) line = bytes_eq line (codes "end")
 ends_request (request.Put addressed user count key) line = ends_put line

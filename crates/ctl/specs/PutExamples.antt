@@ -18,7 +18,7 @@ too_large = refl
 unknown : outcome_of (codes "op zoe 1/2 no such user") ≡ Some NoSuchUser
 unknown = refl
 
--- a line that ends an answer says nothing of a message
+-- a line that ends an answer reports nothing of a message
 ended : outcome_of (codes "end") ≡ None
 ended = refl
 
@@ -38,7 +38,7 @@ status_of_too_large = refl
 status_of_down : puts.status_by Refused None ≡ Ok 75
 status_of_down = refl
 
--- the answer breaks off after the line that says that the message is stored
+-- the answer breaks off after the line that reports the message as stored
 broken_off : puts.status_by Broken (Some Stored) ≡ Err fault.Read
 broken_off = refl
 

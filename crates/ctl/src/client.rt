@@ -7,12 +7,25 @@ ghost use Rattle.ctl.specs.Puts as puts;
 use crate::answer::REFUSED;
 use crate::exchange::{Message, exchange};
 use crate::put::{put_message, status_at};
-use ports::{Fault, OperatorPlace, read_file, say};
-use script::{Instruction, Request, WordsFault, instruction_of};
+use mboxrd::can_begin;
+use ports::{Fault, OperatorPlace, ReadOn, read_file, say};
+use script::{Instruction, LARGEST_FILE, Request, WordsFault, instruction_of};
 use std::alloc::Global;
+use std::fs;
 use std::io::{Eprint, Read, Write};
 use std::net::{Net, TcpListener, TcpStream};
 use std::rt::Files;
+
+/// Reads a mailbox file.
+#[derive(Drop)]
+struct Mailbox;
+
+impl ReadOn for Mailbox {
+    /// The service refuses a file whose first bytes can't begin a mailbox, whatever comes after them.
+    fn reads_on(&mut self, bytes: &[u8]) -> bool {
+        can_begin(bytes)
+    }
+}
 
 /// What `maildropd ctl` was called with.
 #[derive(Clone, Copy)]
@@ -60,6 +73,39 @@ fn bytes_of<'a>(alloc: Global, words: &[&'a str]) -> Result<Vec<&'a [u8]>, Fault
     Ok(parts)
 }
 
+/// The bytes of a mailbox file, or only as many as show that it isn't one. Returns nothing if it has more than a request may
+/// announce. Its size is looked at before it is read.
+fn mailbox_of<R: Files>(rt: &R, alloc: Global, path: &str) -> Result<Option<Vec<u8>>, Fault> {
+    if let Ok(metadata) = fs::metadata(rt, path) {
+        if metadata.len() > LARGEST_FILE {
+            return Ok(None);
+        }
+    }
+    let body = read_file(rt, alloc, path, LARGEST_FILE, &mut Mailbox)?;
+    if body.len() as u64 > LARGEST_FILE {
+        return Ok(None);
+    }
+    Ok(Some(body))
+}
+
+/// Sends a request, with these bytes after its line, and prints the answer. Returns the exit status that it brings.
+fn send<R: Net<Listener = TcpListener, Stream = TcpStream>, W: Write>(
+    rt: &R,
+    alloc: Global,
+    writer: &mut W,
+    place: &OperatorPlace<'_>,
+    instruction: &Instruction<'_>,
+    request: &Request,
+    body: Vec<u8>,
+) -> Result<u8, Fault>
+    ensures { IfOk result IsStatus }
+{
+    let message = Message::new(alloc, request, body)?;
+    exchange(rt, alloc, writer, place, instruction, &message)?
+        .ending
+        .status()
+}
+
 /// Has the messages of a mailbox file delivered, and prints the answer. Returns the exit status that it brings.
 fn deliver<R: Net<Listener = TcpListener, Stream = TcpStream> + Files, W: Write>(
     rt: &R,
@@ -82,17 +128,24 @@ fn deliver<R: Net<Listener = TcpListener, Stream = TcpStream> + Files, W: Write>
     let Ok(path) = std::str::from_utf8(file.get()) else {
         return Err(Fault::Read);
     };
-    let body = read_file(rt, alloc, path)?;
+    let Some(body) = mailbox_of(rt, alloc, path)? else {
+        return refuse(writer);
+    };
     let request = Request::Deliver {
         node: *node,
         user: *user,
         count: body.len() as u64,
         key: *key,
     };
-    let message = Message::new(alloc, &request, body)?;
-    exchange(rt, alloc, writer, place, instruction, &message)?
-        .ending
-        .status()
+    send(rt, alloc, writer, place, instruction, &request, body)
+}
+
+/// Prints what the service would answer to a request that it doesn't read. Returns the exit status that this brings.
+fn refuse<W: Write>(writer: &mut W) -> Result<u8, Fault>
+    ensures { IfOk result IsStatus }
+{
+    say(writer, b"bad request\n")?;
+    Ok(REFUSED)
 }
 
 /// Makes a request of one line, and prints the answer. Returns the exit status that it brings.
@@ -108,10 +161,15 @@ fn ask<R: Net<Listener = TcpListener, Stream = TcpStream>, W: Write>(
     let Instruction::Ask(request) = instruction else {
         return Err(Fault::Value);
     };
-    let message = Message::new(alloc, request, Vec::new(alloc))?;
-    exchange(rt, alloc, writer, place, instruction, &message)?
-        .ending
-        .status()
+    send(
+        rt,
+        alloc,
+        writer,
+        place,
+        instruction,
+        request,
+        Vec::new(alloc),
+    )
 }
 
 /// The same for a request whose verdict is waited for. Only `stop` and `stop now` have one.
@@ -150,11 +208,7 @@ fn run_words<R: Net<Listener = TcpListener, Stream = TcpStream> + Files, W: Writ
     let instruction = match instruction_of(parts.as_slice()) {
         Ok(instruction) => instruction,
         Err(WordsFault::Value) => return Err(Fault::Value),
-        // What the service would answer.
-        Err(WordsFault::Key) => {
-            say(writer, b"bad request\n")?;
-            return Ok(REFUSED);
-        }
+        Err(WordsFault::Key) => return refuse(writer),
     };
     if options.waits {
         return ask_for_verdict(rt, alloc, writer, place, &instruction);
@@ -199,12 +253,13 @@ fn report<R: Eprint>(rt: &R, fault: Fault) {
 
 /// Makes an operator's request to a service on this machine, and prints its answer: `deliver NODE USER FILE`, with a key
 /// after it or without, `put NODE USER`, with a key or without, for the message that the reader has, `break NODE USER`,
-/// `kick USER`, `crash NODE`, `status`, `sessions`, `stats`, `stop` or `stop now`. Returns the exit status. After `put` it
-/// is one of sysexits: 0 if the message is stored, 67 if there is no such user, 65 if it is too large, 64 for words that are
-/// none, and 75 if it may be sent again. After other requests it is 0 after a whole answer, 1 after a verdict that isn't
-/// `audit ok` (a node in a process of its own stops without one, as `stopped`), 3 if the answer says `bad request`, `bad mbox` or `down`, 1 if it breaks off or after another fault of
-/// memory, reading, writing or the network, 2 for words that are none. It is 2 if the options name no place, or two. A fault
-/// is reported on standard error.
+/// `kick USER`, `crash NODE`, `status`, `sessions`, `stats`, `locks`, `users`, `stop` or `stop now`. Returns the exit
+/// status. After `put` it is one of sysexits: 0 if the message is stored, 67 if there is no such user, 65 if it is too
+/// large, 64 for words that are none, and 75 if it may be sent again. After other requests it is 0 after a whole answer, 1
+/// after a verdict other than `audit ok` (a node in a process of its own has no verdict, but `stopped`), 3 if the answer is
+/// `bad request`, `bad mbox` or `down`, 1 if it breaks off or after another fault of memory, reading, writing or the
+/// network, 2 for words that are no request. It is 2 if the options name no place, or two. A fault is reported on standard
+/// error.
 pub fn ctl_run<
     R: Net<Listener = TcpListener, Stream = TcpStream> + Files + Eprint,
     S: Read,

@@ -2,11 +2,13 @@
 
 use crate::arguments::{Choice, Kind, Presence, bytes_of, with_options};
 use clap::{ArgMatches, Command, Error};
+use mboxrd::can_begin;
+use ports::{ReadOn, read_file};
 use server::{Fault, LoneOptions, lone_run};
 use std::alloc::Global;
+use std::io;
 use std::io::BufWriter;
 use std::rt::Files;
-use std::{fs, io};
 
 /// How many bytes of replies are gathered at most before they are written.
 const GATHERED: usize = 65_536;
@@ -62,6 +64,16 @@ const OPTIONS: &[Choice] = &[
     },
 ];
 
+/// Reads a mailbox file up to first bytes that can't begin one. What was read is refused as the whole file would be.
+#[derive(Drop)]
+struct Mailbox;
+
+impl ReadOn for Mailbox {
+    fn reads_on(&mut self, bytes: &[u8]) -> bool {
+        can_begin(bytes)
+    }
+}
+
 /// The command `lone` of the command line.
 pub(crate) fn lone<'a>(alloc: Global) -> Result<Command<'a>, Error> {
     let lone = Command::new(alloc, "lone")
@@ -103,15 +115,9 @@ pub(crate) fn run_lone<R: AllocGlobal + Files + Input + Print + Eprint>(
     let Some(path) = matches.get_str("mbox") else {
         return run_with(rt, matches, None);
     };
-    match fs::read(rt, path) {
+    match read_file(rt, rt.alloc(), path, u64::MAX, &mut Mailbox) {
         Ok(bytes) => run_with(rt, matches, Some(bytes.as_slice())),
-        Err(error) => {
-            let fault = if error.kind() == io::ErrorKind::OutOfMemory {
-                Fault::Memory
-            } else {
-                Fault::Read
-            };
-            tell(rt, fault)
-        }
+        Err(ports::Fault::Memory) => tell(rt, Fault::Memory),
+        Err(_) => tell(rt, Fault::Read),
     }
 }
