@@ -1,4 +1,4 @@
--- Worked examples of what is told of a run.
+-- Worked examples of what is reported about a run.
 use Rattle.std.specs.Prelude.{◌≡◌, refl, [], ◌∷◌}
 use Rattle.service.specs.Transcripts.{numbered}
 use Rattle.service.specs.Verdicts.{status_of}

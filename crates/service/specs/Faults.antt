@@ -12,7 +12,7 @@ use Rattle.ports.specs.declared.fault.Fault.{Fault}
 use Rattle.ports.specs.declared.fault.Fault.TheVariants.{Value, Account, NameTwice, Listen, StartedBefore, Mark, Memory}
 use Rattle.service.specs.declared.options.Settings.{Settings}
 
--- what an accounts file means for the program that is none
+-- the fault of an accounts file that is malformed
 abbrev pub fault_of : AccountsError → Fault
 fault_of (error.Line line) = Account line
 fault_of (error.Twice line) = NameTwice line
@@ -40,7 +40,7 @@ IsLocalFaultAt port (Listen address number) = IsLocal address × (number ≡ por
 IsLocalFaultAt port Memory = Unit {0}
 IsLocalFaultAt port fault = ⊥
 
--- a port of the nodes, which lie above this one, or the last port there is where that has none above it
+-- a port of the nodes, which are above this one, or the last port there is if none is above it
 abbrev pub IsNodePort : Option ℕ → Settings → ℕ → Type 0
 IsNodePort base settings port =
     IfSome base (λ below. (min (below + 1) last_port ≤ port) × (port ≤ below + settings.cluster))

@@ -14,3 +14,4 @@ pub mod MailboxErrors
 pub mod Maildrops
 pub mod Locks
 pub mod OperatorExamples
+pub mod Paces

@@ -1,4 +1,4 @@
--- Worked examples of what operators are told, and of which locks are broken.
+-- Worked examples of answers to operators, and of which locks are broken.
 use Rattle.std.specs.Prelude.{◌≡◌, refl, [], ◌∷◌, true, false, codes, None, Some}
 use Rattle.std.specs.Fmt.{digits}
 use Rattle.service.specs.Locks.{may_try, locks_of_down}

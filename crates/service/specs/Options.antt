@@ -83,7 +83,7 @@ nine_nodes = refl
 no_room_for_nodes : may_be_between 0 (last_port - 1) (Some 65535) ≡ false
 no_room_for_nodes = refl
 
--- node 3 of three runs alone, and node 4 doesn't
+-- node 3 of three may run in a process of its own, and node 4 may not
 third_node : nodes_here 3 (Some 3) ≡ 3 ∷ []
 third_node = refl
 

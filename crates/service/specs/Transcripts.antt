@@ -10,8 +10,8 @@ use Rattle.session.specs.declared.transcript.Transcript.{Transcript}
 use Rattle.service.specs.declared.verdict.Verdict.{Verdict}
 use Rattle.service.specs.declared.verdict.Verdict.TheVariants.{Legal, NoOrder, WrongAnswer, Memory}
 
--- This is what `session::serve` leaves of a session over these accounts: for the greeting of some stamp the transcript is one of
--- the session function, and it counts some bytes that were written as that function says.
+-- This is what `session::serve` leaves of a session over these accounts: for the greeting of some stamp the transcript is
+-- one of the session function, and it counts some bytes that were written as that function defines.
 pub record IsServed (accounts : List Account) (transcript : Transcript Global) : Type 0 where
   pub stamp : Stamp
   pub written : List ℕ

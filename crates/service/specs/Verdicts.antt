@@ -1,4 +1,4 @@
--- What is told of a run once it has ended.
+-- What is reported about a run that has ended.
 use Rattle.std.specs.Prelude.{◌≡◌, ℕ, length, List, [], ◌++◌, map, Some, None, true, codes, slice_get}
 use Rattle.std.specs.List.{filter}
 use mathlib.Core.Logic.{◌⊎◌}
@@ -27,7 +27,7 @@ use Rattle.service.specs.declared.announcement.Report.TheVariants as report
 use Rattle.service.specs.declared.verdict.Verdict.{Verdict}
 use Rattle.service.specs.declared.verdict.Verdict.TheVariants.{Legal, NoOrder, WrongAnswer, Memory}
 
--- the line that tells it, up to its line feed
+-- the line that reports it, up to its line feed
 abbrev pub text_of : Verdict → List ℕ
 text_of Legal = codes "audit ok"
 text_of (NoOrder number) = codes "audit no order at node " ++ decimal number
@@ -39,12 +39,12 @@ abbrev pub report_of : Report → List ℕ
 report_of (report.Audit verdict) = text_of verdict
 report_of report.Stopped = codes "stopped"
 
--- 0 where the audit found all in order, else 1
+-- 0 if the audit found all in order, else 1
 abbrev pub status_of : Verdict → ℕ
 status_of Legal = 0
 status_of verdict = 1
 
--- what is told after an audit that gives no events
+-- what is reported after an audit that returns no events
 abbrev pub verdict_by : AuditError → Verdict
 verdict_by (error.NoOrder number) = NoOrder number
 verdict_by (error.WrongAnswer session) = WrongAnswer session
@@ -88,15 +88,15 @@ pub record CanServe (accounts : List Account) (setup : Setup) : Type 0 where
   pub names : setup.names ≡ map name_of accounts
   pub fit : is_fit (opening_of setup 1) ≡ true
 
--- The logs of all nodes of such a service and transcripts of sessions, as many as were greeted, have a legal order. Of these
--- transcripts those of sessions that asked something are kept.
+-- The logs of all nodes of such a service and transcripts of sessions, as many as were greeted, have a legal order. Only the
+-- transcripts of sessions that asked something are kept.
 pub record WasLegal (config : Config Global) (logs : List (NodeLog Global)) (kept : List (Transcript Global)) (greeted : ℕ) : Type 0 where
   pub transcripts : List (Transcript Global)
   pub counted : greeted ≡ length transcripts
   pub asking : kept ≡ filter has_asked transcripts
   pub legal : IsLegal config logs transcripts
 
--- It is the verdict on these logs and on what was kept of sessions. A session that it names has its number among all sessions.
+-- This is the verdict on these logs and on what was kept of sessions. It names a session by its number among all sessions.
 abbrev pub IsJudged : List (NodeLog Global) → TranscriptsValue → Verdict → Type 0
 IsJudged logs transcripts verdict =
     (verdict ≡ Memory) ⊎ ((found : Verdict) × IsVerdict logs transcripts.kept found × (verdict ≡ numbered transcripts.numbers found))

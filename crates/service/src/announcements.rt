@@ -11,7 +11,7 @@ pub(crate) struct Announcements {
 }
 
 impl Announcements {
-    /// Of a run that has not ended.
+    /// The announcements of a run that has not ended.
     pub(crate) fn new() -> Self {
         Announcements {
             announced: Mutex::new(None),

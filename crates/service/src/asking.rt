@@ -24,7 +24,7 @@ pub(crate) struct Absence {
 }
 
 impl Absence {
-    /// Of a client that is there.
+    /// A client that is there.
     pub(crate) fn new() -> Self {
         Absence { seems_gone: false }
     }

@@ -1,4 +1,4 @@
-//! A service that has ended, with what its audit said.
+//! A service that has ended, with the verdict of its audit.
 ghost use Rattle.std.specs.Prelude.{◌≡◌, IfSome};
 ghost use Rattle.std.specs.Option.{option_map_or};
 ghost use Rattle.service.specs.Verdicts.{CanServe, WasLegal, config_of};

@@ -27,7 +27,7 @@ pub(crate) enum DeliveryError {
 }
 
 impl DeliveryError {
-    /// Reports it. Of memory nothing is said.
+    /// Reports it, except a lack of memory.
     pub(crate) fn tell(self, stream: &OperatorStream) -> Result<(), Fault> {
         let mut writer = stream;
         match self {
@@ -143,7 +143,7 @@ pub(crate) struct Delivered {
 }
 
 impl Delivered {
-    /// Of no messages.
+    /// Nothing was delivered yet.
     pub(crate) fn new() -> Self
         ensures { result ≡ spec.none_delivered }
     {

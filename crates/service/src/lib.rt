@@ -1,6 +1,7 @@
 //! The command `maildropd serve`: a service of one to nine nodes.
 #![tactic(auto)]
 
+mod account_lines;
 mod agreement;
 mod announcement;
 mod announcements;
@@ -9,6 +10,7 @@ mod audited;
 mod brand;
 mod delivery;
 mod furthest;
+mod hearing;
 mod lock_breaker;
 mod login_gate;
 mod maildrop_lines;
@@ -17,6 +19,7 @@ mod mark;
 mod operator;
 mod operator_limits;
 mod options;
+mod pace;
 mod peers;
 mod pop;
 mod serve;

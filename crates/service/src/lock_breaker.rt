@@ -1,6 +1,6 @@
 //! Breaks the locks that sessions of nodes which are down hold.
 //!
-//! A session asks one node only. Once that is down the session can't commit, and nobody else would give its lock back.
+//! A session asks one node only. Once that is down the session can't commit, and nobody else would free its lock.
 //!
 //! A Break has no condition: it takes the lock from whoever holds it when it is decided, and that could be a session which
 //! lives, if the lock was free in between. So there is one Break at most for a lock, that is, for a user and the ticket of
@@ -129,9 +129,9 @@ impl LockBreaker {
         }
     }
 
-    /// Has each lock broken that a session of a node holds which is down, as far as a node shows it that is up. Nothing if no
-    /// node is down, or without a majority, as nothing is decided then. Returns whether there is more to wait for: outcomes,
-    /// or what a node had performed that is down now. After `Memory` some locks may be left to the next look.
+    /// Has each lock broken that a session of a node which is down holds, as far as a node that is up shows it. Does nothing
+    /// if no node is down, or without a majority, as nothing is decided then. Returns whether there is more to wait for:
+    /// outcomes, or what a node had performed that is down now. After `Memory` some locks may be left to the next look.
     pub(crate) fn look<R: Wait + Clock, N: ServedNode>(
         &self,
         rt: &R,

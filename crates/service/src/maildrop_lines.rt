@@ -1,4 +1,4 @@
-//! What an operator is told of the maildrops at a node.
+//! What is reported to an operator about the maildrops at a node.
 ghost use Rattle.std.specs.Prelude.{◌≡◌, ◌++◌, IfOk, OnOk};
 ghost use Rattle.std.specs.List.{flat_map};
 ghost use Rattle.service.specs.Maildrops as spec;

@@ -97,7 +97,7 @@ fn watch<R: Wait + Clock, N: ServedNode>(rt: &R, nodes: &[N], state: &ServiceSta
     }
 }
 
-/// Stops the nodes that are left, so that whoever waits for one is told, and then the service with all its sessions.
+/// Stops the nodes that are left, so that whoever waits for one gets an answer, and then the service with all its sessions.
 fn end_service<R: Wait + Clock, N: ServedNode>(rt: &R, nodes: &[N], state: &ServiceState) {
     for node in nodes {
         let _was_up = node.crash();

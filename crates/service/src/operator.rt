@@ -50,7 +50,7 @@ pub(crate) struct OperatorHandler<R, N: ServedNode> {
     /// What all threads of the service see.
     state: Arc<ServiceState>,
     limits: Arc<SharedLimits>,
-    /// How many bytes a file has at most that is delivered.
+    /// The most bytes of a file that is delivered.
     most_file: u64,
     /// A short answer. Its room is taken before the connection comes.
     answer: Vec<u8>,
@@ -128,8 +128,8 @@ fn put_status<N: ServedNode>(nodes: &[N], text: &mut Vec<u8>) -> Result<(), Memo
 }
 
 impl<R: Wait + Clock + Copy, N: ServedNode + Drop> OperatorHandler<R, N> {
-    /// Answers operators of these nodes. The files that are delivered at a time have so many bytes together, and each at most
-    /// so many.
+    /// Answers operators of these nodes. All files that are delivered at a time have at most `delivery_bytes`, each at most
+    /// `most_file`.
     pub(crate) fn new(
         rt: R,
         alloc: Global,
@@ -298,7 +298,7 @@ impl<R: Wait + Clock + Copy, N: ServedNode + Drop> OperatorHandler<R, N> {
         }
     }
 
-    /// Stops the service, and reports it, and how it has ended if the client waits for that. Sessions that are open are cut if the
+    /// Stops the service, and reports that, and how it has ended if the client waits for that. Cuts open sessions if the
     /// service is to stop now.
     fn stop(
         &self,

@@ -76,7 +76,7 @@ pub struct NodeOptions<'a> {
     pub service: ServeOptions<'a>,
     /// The node's number: 1 to the number of nodes.
     pub node: u64,
-    /// The path of a folder that gets a mark of the node, if there is one. No node starts of which it has one.
+    /// The path of a folder that gets a mark of the node, if there is one. A node that has a mark there doesn't start.
     pub mark: Option<&'a str>,
 }
 
@@ -240,12 +240,22 @@ fn may_be_alone(options: &NodeOptions<'_>) -> bool
     options.service.peer_port.is_some() && is_between(1, options.service.nodes, options.node)
 }
 
-/// What the options of a process with one node say, or `Value` if one is out of its range.
+/// The settings of a process with one node, or `Value` if an option is out of its range.
 pub(crate) fn node_settings_of(alloc: Global, options: &NodeOptions<'_>) -> Result<Settings, Fault>
     ensures value { IsErrOf result Fault.Value ↔ ¬ spec.AreNodeGood options.now }
     ensures cluster { IfOk result (λ settings. settings.cluster ≡ options.now.service.nodes) }
+    ensures window { IfOk result (λ settings. settings.window ≡ options.now.service.window) }
+    ensures limits { IfOk result (λ settings. settings.limits ≡ spec.limits_of options.now.service) }
+    ensures host { IfOk result (λ settings. settings.host ≡ options.now.service.host.now) }
+    ensures port { IfOk result (λ settings. settings.port ≡ options.now.service.port) }
+    ensures pop_port { IfOk result (λ settings. settings.pop_port ≡ options.now.service.pop_port) }
     ensures peer_port { IfOk result (λ settings. settings.peer_port ≡ options.now.service.peer_port) }
     ensures node { IfOk result (λ settings. settings.node ≡ Some options.now.node) }
+    ensures ctl_port { IfOk result (λ settings. settings.ctl_port ≡ options.now.service.ctl_port) }
+    ensures tick { IfOk result (λ settings. settings.tick_ms ≡ options.now.service.tick_ms) }
+    ensures idle { IfOk result (λ settings. settings.idle_seconds ≡ options.now.service.idle_seconds) }
+    ensures no_majority { IfOk result (λ settings. settings.no_majority_seconds ≡ options.now.service.no_majority_seconds) }
+    ensures delivery { IfOk result (λ settings. settings.delivery_bytes ≡ options.now.service.delivery_bytes) }
 {
     if !may_be_alone(options) {
         return Err(Fault::Value);

@@ -12,17 +12,17 @@ use std::alloc::Global;
 use std::net::{SocketAddr, TcpStream};
 use std::sync::{Arc, Wait};
 
-/// How many bytes the content of a frame has at most. What a node has accepted is one frame, so this is the format's own bound.
+/// The most bytes of a frame's content. What a node has accepted is one frame, so this is the format's own bound.
 const LONGEST_CONTENT: usize = 1 << 30;
 
-/// How many bytes a file has at most that is delivered. A line end is one byte there, and the length of a line takes four in a
-/// frame, so with these a message has a frame.
+/// The most bytes of a file that is delivered. A line end is one byte there, and the length of a line takes four in a frame.
+/// So a message of such a file has a frame.
 const MOST_SENT: u64 = 240 << 20;
 
 /// The same if nodes send nothing by frames: as many as an operator may announce.
 const MOST_ANNOUNCED: u64 = 1 << 30;
 
-/// How many bytes a file has at most that is delivered in a service whose nodes send to ports above this one, or have none.
+/// The most bytes of a file that is delivered, in a service whose nodes send to ports above this one, or have none.
 pub(crate) fn most_file(peer_port: Option<u16>) -> u64
     ensures { result ≡ spec.most_file peer_port }
 {
@@ -43,35 +43,34 @@ pub(crate) struct PeerHandler<R, N: ServedNode> {
     pub node: N,
     /// The cluster. What others claim to send isn't heard.
     pub cluster: Cluster,
+    /// Whether the node is alone in its process, so that it is noted which others are heard.
+    pub is_alone: bool,
     /// What all threads of the service see.
     pub state: Arc<ServiceState>,
 }
 
-/// The inbox of a node, for what nodes of its cluster send.
-#[derive(Drop)]
-struct NodeInbox<'a, N: ServedNode> {
-    node: &'a N,
-    cluster: Cluster,
-}
-
-impl<N: ServedNode> Inbox<Envelope<SharedCommand>> for NodeInbox<'_, N> {
+/// The inbox of its node, for what nodes of the cluster send.
+impl<R: Wait, N: ServedNode> Inbox<Envelope<SharedCommand>> for PeerHandler<R, N> {
     ghost use Rattle.std.specs.Prelude.{◌≡◌};
 
     ghost hears = { λ before _ after. after ≡ before };
 
     fn arrive(&mut self, envelope: Envelope<SharedCommand>) -> bool {
-        self.cluster.contains(envelope.from) && self.node.arrive(envelope)
+        if !self.cluster.contains(envelope.from) {
+            return false;
+        }
+        if self.is_alone && envelope.from != self.node.me() {
+            self.state.heard_nodes().note(&self.rt, envelope.from);
+        }
+        self.node.arrive(envelope)
     }
 }
 
 impl<R: Wait + Copy, N: ServedNode + Drop> Handler<TcpStream> for PeerHandler<R, N> {
     fn serve(&mut self, stream: &Arc<TcpStream>, _peer: SocketAddr) {
         let mut reader: &TcpStream = stream;
-        let mut inbox = NodeInbox {
-            node: &self.node,
-            cluster: self.cluster,
-        };
-        let _ended = receive(self.alloc, LONGEST_CONTENT, &mut reader, &mut inbox);
+        let alloc = self.alloc;
+        let _ended = receive(alloc, LONGEST_CONTENT, &mut reader, self);
     }
 
     fn serve_briefly(&mut self, _stream: &TcpStream, _peer: SocketAddr) {
@@ -86,6 +85,7 @@ impl<R: Wait + Copy, N: ServedNode + Drop> Handler<TcpStream> for PeerHandler<R,
             alloc: self.alloc,
             node,
             cluster: self.cluster,
+            is_alone: self.is_alone,
             state,
         })
     }

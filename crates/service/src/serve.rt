@@ -13,6 +13,7 @@ ghost use Rattle.apop.specs.Accounts.{name_of};
 ghost use Rattle.cluster.specs.Starts.{all_nodes};
 ghost use Rattle.maildrop.specs.Name.{are_different};
 
+use crate::account_lines::{AccountLines, LARGEST_ACCOUNTS};
 use crate::agreement::agreement_line;
 use crate::announcement::Announcement;
 use crate::audited::{Audited, Left, left_by};
@@ -68,9 +69,13 @@ fn accounts_in(alloc: Global, bytes: &[u8]) -> Result<Accounts, Fault>
     }
 }
 
-/// The accounts of the file of this path.
+/// The accounts of the file of this path. `Value` if it is too large. It is read up to the first line that is no account.
 pub(crate) fn accounts_of<R: Files>(rt: &R, alloc: Global, path: &str) -> Result<Accounts, Fault> {
-    let bytes = read_file(rt, alloc, path)?;
+    let mut lines = AccountLines::new();
+    let bytes = read_file(rt, alloc, path, LARGEST_ACCOUNTS, &mut lines)?;
+    if bytes.len() as u64 > LARGEST_ACCOUNTS {
+        return Err(Fault::Value);
+    }
     accounts_in(alloc, bytes.as_slice())
 }
 
@@ -146,7 +151,7 @@ fn serve_cluster<D: Service + Send + Sync + 'static, R: System>(
     }
 }
 
-/// Runs sessions over the nodes of a service until an operator stops them, or they have been without a majority for too long.
+/// Runs sessions over the nodes of a service until an operator stops them, or they lacked a majority for too long.
 fn serve_nodes<
     D: Service + Send + Sync + 'static,
     R: System,
@@ -178,7 +183,7 @@ fn serve_nodes<
     Ok(ClusterEnd { audited, fault })
 }
 
-/// Waits until the service has ended, and audits all that was done. Operators who wait for the verdict are told it.
+/// Waits until the service has ended, and audits all that was done. Announces the verdict to the operators who wait for it.
 fn audit_at_end<
     D: Service + Send + Sync + 'static,
     R: System,
@@ -203,8 +208,8 @@ fn audit_at_end<
     audited
 }
 
-/// Stops the nodes of a service whose sessions have ended, and audits all that was done. `None` if a node left no log, or the
-/// transcripts are gone.
+/// Stops the nodes of a service whose sessions have ended, and audits all that was done. Returns `None` if a node left no
+/// log, or the transcripts are gone.
 fn audit_all<D: Service + Send + Sync + 'static, R: System, L: Link + Drop + Send + Sync + 'static>(
     rt: &R,
     alloc: Global,
@@ -219,8 +224,8 @@ fn audit_all<D: Service + Send + Sync + 'static, R: System, L: Link + Drop + Sen
     Some(Audited::new(alloc, logs, transcripts))
 }
 
-/// Waits until the service stops and its sessions have ended. Then no operator comes any more, the nodes need no more time, and
-/// what others send to them is heard no longer. Returns the threads of operators, who may still wait for the end.
+/// Waits until the service stops and its sessions have ended. Then no operator comes any more, the nodes need no more time,
+/// and what others send to them isn't heard. Returns the threads of operators, who may still wait for the end.
 pub(crate) fn end_sessions<R: System>(
     rt: &R,
     threads: ServiceThreads,
@@ -340,13 +345,20 @@ fn run<R: System + Files<File = File>>(
     }
 }
 
-/// Writes the line that reports a verdict, and returns the exit status.
+/// Writes the line that reports a verdict, and returns the exit status. A good audit needs no memory for that, nor does one
+/// that had none.
 fn tell<W: Write>(alloc: Global, writer: &mut W, verdict: &Verdict) -> Result<u8, Fault>
     ensures status { IfOk result (λ status. status ≡ verdicts.status_of verdict.now) }
     ensures written { OnOk result (Appends (W.contents writer.old) (W.contents writer.new) (verdicts.text_of verdict.now ++ 10 ∷ [])) }
 {
-    let line = verdict.line(alloc)?;
-    say(writer, line.as_bytes())?;
+    match verdict {
+        Verdict::Legal => say(writer, b"audit ok\n")?,
+        Verdict::Memory => say(writer, b"audit no memory\n")?,
+        Verdict::NoOrder(_) | Verdict::WrongAnswer(_) => {
+            let line = verdict.line(alloc)?;
+            say(writer, line.as_bytes())?;
+        }
+    }
     Ok(verdict.status())
 }
 
@@ -409,11 +421,11 @@ fn fail<R: Eprint>(rt: &R, alloc: Global, fault: Fault) -> ServiceEnd
     }
 }
 
-/// Serves POP3 (RFC 1939) at a port of each node, and an operator's requests at a port of their own, until an operator
-/// stops it: then no connection is taken any more, the sessions go on to their ends, the nodes stop, and what an audit
-/// says of all that they did is written. Returns what the service leaves, with the exit status: 0 if that is `audit ok`, 1 if
-/// it is something else and after a fault of memory, reading, writing or the network, 2 for options or an accounts file that
-/// are none. A fault is reported on standard error.
+/// Serves POP3 (RFC 1939) at the ports of its options, and an operator's requests at a port or socket of their own, until an
+/// operator stops it. Then no connection is taken any more, the sessions go on to their ends, the nodes stop, and the
+/// verdict of an audit of all that they did is written. Returns what the service leaves, with the exit status: 0 if the
+/// verdict is `audit ok`, 1 after another verdict or a fault of memory, reading, writing or the network, 2 for options out
+/// of range or a malformed accounts file. A fault is reported on standard error.
 pub fn serve_run<R: System + Files<File = File> + Eprint, W: Write>(
     rt: R,
     alloc: Global,

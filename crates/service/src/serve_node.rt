@@ -181,11 +181,11 @@ fn run_and_tell<R: System + Files<File = File>, W: Write>(
 }
 
 /// Serves POP3 (RFC 1939) at one node of a service, whose other nodes run in other processes, and an operator's requests at
-/// a port of their own, until an operator stops it. Then no connection is taken any more, the sessions go on to their ends, the
-/// node stops for good, and `stopped` is written. The processes of a service must have the same accounts, limits, window and
-/// number of nodes, and no node may be started twice. Returns the exit status: 0 if that line was written, 1 after a fault
-/// of memory, reading, writing or the network, 2 for options or an accounts file that are none, or a node that was started
-/// before. A fault is reported on standard error.
+/// a port or socket of their own, until an operator stops it. Then no connection is taken any more, the sessions go on to
+/// their ends, the node stops for good, and `stopped` is written. The processes of a service must have the same accounts,
+/// limits, window and number of nodes, and no node may be started twice. Returns the exit status: 0 if that line was
+/// written, 1 after a fault of memory, reading, writing or the network, 2 for options out of range, a malformed accounts
+/// file, or a node that was started before. A fault is reported on standard error.
 pub fn serve_node_run<R: System + Files<File = File> + Eprint, W: Write>(
     rt: R,
     alloc: Global,

@@ -48,13 +48,13 @@ pub trait ServedNode {
     /// The node asks to lead.
     fn campaign(&self);
 
-    /// Takes what another node has sent to this one. Returns false if it is lost: it is to another node, say.
+    /// Takes what another node has sent to this one. Returns false if it is lost, as when it is for another node.
     fn arrive(&self, envelope: Envelope<SharedCommand>) -> bool;
 
     /// Whether something that was sent to a node of the service was not heard yet.
     fn has_unheard(&self) -> bool;
 
-    /// How the node stands, or nothing once its cluster has ended.
+    /// The node's state, or nothing once its cluster has ended.
     fn status(&self) -> Option<Status>;
 
     /// The users whose maildrop is locked at the node, each with the ticket of the Take that holds the lock.
@@ -63,8 +63,8 @@ pub trait ServedNode {
     /// All users, each with what the maildrop has at the node.
     fn usage(&self) -> Result<Vec<(Name, Usage)>, Memory>;
 
-    /// Submits an operation. Returns its ticket, or nothing if the node has stopped. The outcome is kept until it is taken by
-    /// `outcome_within` or let go by `forget`.
+    /// Submits an operation. Returns its ticket, or nothing if the node has stopped. The outcome is kept until
+    /// `outcome_within` takes it or `forget` lets it go.
     fn submit(&self, user: Name, op: OperatorOp) -> Option<Ticket>;
 
     /// The outcome of an operation that was submitted here, which may be awaited at most this long. Nothing if it isn't there

@@ -41,7 +41,7 @@ impl<D: Service> Model for ServedSessions<D> {
 }
 
 impl<D: Service> ServedSessions<D> {
-    /// Of a service that has greeted nobody. Transcripts are kept if it is audited at its end.
+    /// The sessions of a service that has greeted nobody. Transcripts are kept if it is audited at its end.
     pub(crate) fn new(
         alloc: Global,
         accounts: Arc<Accounts>,
@@ -58,8 +58,8 @@ impl<D: Service> ServedSessions<D> {
         }
     }
 
-    /// Greets a client and serves its session at a node to the end, whose transcript is kept if the service is audited. Returns
-    /// how it ended. Once the service has ended nobody is greeted.
+    /// Greets a client and serves its session at a node to the end. Keeps the transcript if the service is audited. Returns
+    /// how the session ended. Once the service has ended nobody is greeted.
     pub(crate) fn serve<R: Wait + Clock + Copy, L: Link + Drop, I: Read, O: Write, G: Gate>(
         &self,
         rt: R,

@@ -27,8 +27,8 @@ use std::sync::Wait;
 use std::sync::ledger::Share;
 use std::time::{Clock, Duration};
 
-/// Nodes of a service that run here. To start them takes a part of the service's ledger, which has one part, so no other nodes'
-/// logs are those of the service, and no other nodes have its desks. Contracts see it as their numbers.
+/// Nodes of a service that run here. To start them takes a part of the service's ledger, which has one part. So only their
+/// logs are those of the service, and only they have its desks. Contracts see the nodes' numbers.
 #[derive(Drop)]
 pub(crate) struct ServiceNodes<D: Service + Send + Sync + 'static, R: System, L: Link> {
     cluster: Cluster<D, R, L>,
@@ -72,8 +72,8 @@ fn fault_of(error: StartError) -> Fault
 }
 
 impl<D: Service + Send + Sync + 'static, R: System> ServiceNodes<D, R, TcpLink<R>> {
-    /// Starts the node of this number, or without one all nodes, which send to ports above this one. `Value` if they can't
-    /// begin so.
+    /// Starts the node of this number, or all nodes if there is no number. They send to ports above this one. `Value` if
+    /// they can't begin so.
     pub(crate) fn start_over(
         rt: R,
         alloc: Global,
@@ -113,7 +113,7 @@ fn links_of<R: System>(
         None => all_links(rt, alloc, size, base),
         Some(node) => {
             let mut links = Vec::new(alloc);
-            links.push((node, TcpLink::new(rt, alloc, base)?))?;
+            links.push((node, TcpLink::to_others(rt, alloc, base)?))?;
             Ok(links)
         }
     }
@@ -133,7 +133,7 @@ fn all_links<R: System>(
         let Some(node) = NodeId::new(before + 1) else {
             unreachable!()
         };
-        links.push((node, TcpLink::new(rt, alloc, base)?))?;
+        links.push((node, TcpLink::to_others(rt, alloc, base)?))?;
     }
     Ok(links)
 }
@@ -183,7 +183,7 @@ impl<
     }
 }
 
-/// A node of a service has stopped, and there is no audit: its part of the ledger can't be that of logs any more.
+/// A node of a service has stopped without an audit. Its part of the ledger can't be that of logs any more.
 #[derive(Drop)]
 pub(crate) struct Unaudited<D: Service> {
     part: Share<D>,
@@ -229,7 +229,7 @@ impl<D: Service> ServiceLogs<D> {
     }
 }
 
-/// The desk of a node of a service that runs here. There is none of another service's node, so what is served by it goes to the
+/// The desk of a node of a service that runs here. Another service's node has none here. So what a desk serves goes to the
 /// nodes whose logs are audited, if they are.
 #[derive(Drop)]
 pub(crate) struct ServiceDesk<D: Service, R: Wait, L: Link> {
@@ -237,8 +237,8 @@ pub(crate) struct ServiceDesk<D: Service, R: Wait, L: Link> {
 }
 
 impl<D: Service, R: Wait + Clock + Copy, L: Link + Drop> ServiceDesk<D, R, L> {
-    /// Serves the session of a client that was greeted, at this node, to its end. No other call asks the node for what a session
-    /// asks for, so no session is served whose client wasn't greeted.
+    /// Serves the session of a client that was greeted, at this node, to its end. Only this call asks the node for what a
+    /// session asks for. So no session is served whose client wasn't greeted.
     pub(crate) fn serve<I: Read, O: Write, G: Gate>(
         self,
         rt: R,

@@ -1,4 +1,4 @@
-//! What an operator is told of the nodes.
+//! What is reported to an operator about the nodes.
 ghost use Rattle.std.specs.Prelude.{◌≡◌, ◌++◌, OnOk};
 ghost use Rattle.service.specs.Standings as spec;
 

@@ -3,6 +3,7 @@ ghost use Rattle.std.specs.Prelude.{◌≡◌, IfOk};
 ghost use Rattle.pop3_wire.specs.Reply.{invalid_login};
 
 use crate::announcements::Announcements;
+use crate::hearing::HeardNodes;
 use crate::lock_breaker::LockBreaker;
 use apop::{Accounts, Stamp, stamp};
 use ballot::{Items, Memory};
@@ -35,6 +36,7 @@ pub(crate) struct ServiceState {
     counters: Counters,
     log: EventLog,
     lock_breaker: LockBreaker,
+    heard_nodes: HeardNodes,
 }
 
 /// What a login that is refused is told.
@@ -47,7 +49,8 @@ fn refusal_of(alloc: Global) -> Result<Items<u8>, Memory>
 }
 
 impl ServiceState {
-    /// Of a service that has seen nobody yet, whose sessions may be silent for so many seconds, or for ever if that is 0.
+    /// What threads share at the start of a service, whose sessions may be silent for so many seconds, or for ever if that
+    /// is 0.
     pub(crate) fn new<R: Clock>(
         rt: &R,
         alloc: Global,
@@ -71,6 +74,7 @@ impl ServiceState {
             counters: Counters::new(rt),
             log,
             lock_breaker: LockBreaker::new(alloc),
+            heard_nodes: HeardNodes::new(),
         })
     }
 
@@ -117,6 +121,11 @@ impl ServiceState {
     /// What breaks the locks of sessions whose nodes are down.
     pub(crate) fn lock_breaker(&self) -> &LockBreaker {
         &self.lock_breaker
+    }
+
+    /// Which nodes of other processes were heard.
+    pub(crate) fn heard_nodes(&self) -> &HeardNodes {
+        &self.heard_nodes
     }
 
     /// The answer to an operator who asks what the service has done: a line for each number, and `end`.

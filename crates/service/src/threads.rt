@@ -119,7 +119,7 @@ fn open_pop_ports<R: System>(
     Ok(())
 }
 
-/// Listens at the port of each node that runs here at which others send to it.
+/// Listens at the port of each node that runs here, to which other nodes send.
 fn open_peer_ports<R: System>(
     rt: &R,
     alloc: Global,
@@ -143,7 +143,7 @@ fn open_peer_ports<R: System>(
     Ok(())
 }
 
-/// Listens at a port of this machine at which others send to a node.
+/// Listens at a port of this machine to which other nodes send.
 fn open_peer_port<R: System>(
     rt: &R,
     alloc: Global,
@@ -187,7 +187,7 @@ impl Ports {
         }
     }
 
-    /// Lets no node connect any more. What those have sent that are connected is heard no longer.
+    /// Lets no node connect any more. Those that are connected aren't heard any more.
     pub(crate) fn close_peers<R: Wait>(&self, rt: &R) {
         for peer in &self.peers {
             peer.port.close(rt);
@@ -294,15 +294,8 @@ fn start_nodes<R: System, N: ServedNode + Send + Sync + Drop + 'static>(
     threads: &mut Vec<JoinHandle<()>>,
 ) -> Result<(), Fault> {
     let tick = Duration::from_millis(settings.tick_ms);
-    ticker::start(
-        rt,
-        alloc,
-        nodes,
-        state,
-        tick,
-        settings.node.is_some(),
-        threads,
-    )?;
+    let elsewhere = settings.node.map(|_| settings.cluster);
+    ticker::start(rt, alloc, nodes, state, tick, elsewhere, threads)?;
     if settings.no_majority_seconds > 0 {
         let limit_ms = settings.no_majority_seconds.saturating_mul(1_000);
         majority::start(rt, nodes, state, limit_ms, threads)?;
@@ -327,6 +320,7 @@ fn start_peer<R: System, N: ServedNode + Send + Sync + Drop + 'static>(
                 alloc,
                 node: node.share()?,
                 cluster: settings.cluster,
+                is_alone: settings.node.is_some(),
                 state: Arc::try_clone(state)?,
             };
             return start_serving(rt, alloc, &peer.port, handler, threads);

@@ -1,8 +1,11 @@
 //! The time of the nodes.
 
+use crate::hearing::Hearing;
 use crate::majority::is_majority;
+use crate::pace::Pace;
 use crate::served_node::ServedNode;
 use crate::state::ServiceState;
+use ballot::Cluster;
 use cluster::Patience;
 use ports::Fault;
 use std::alloc::Global;
@@ -13,9 +16,6 @@ use std::time::{Clock, Duration};
 
 /// How many milliseconds lie between two looks at the locks of sessions whose nodes are down.
 const LOCK_LOOK_MS: u64 = 1_000;
-
-/// How many milliseconds lie between two ticks of a node that is alone here, at most.
-const LONGEST_REST_MS: u64 = 1_000;
 
 /// How often in a row a tick is put off at most.
 const MOST_PUT_OFF: u32 = 50;
@@ -48,8 +48,34 @@ struct Look {
     are_at_rest: bool,
 }
 
-/// Tells the nodes on a thread of its own that time has passed, again and again, until the sessions have ended. A node may be
-/// alone here, with the others elsewhere.
+/// A node that is alone here, with the other nodes of its cluster elsewhere.
+#[derive(Drop)]
+struct Alone {
+    hearing: Hearing,
+    pace: Pace,
+    hears: bool,
+}
+
+impl Alone {
+    /// So much time has passed. Returns whether the node ticks now. Notes in the log if it hears too few others from now on.
+    fn is_due<R: Wait + Clock>(
+        &mut self,
+        rt: &R,
+        state: &ServiceState,
+        passed_ms: u64,
+        is_busy: bool,
+    ) -> bool {
+        let heard = self.hears;
+        self.hears = self.hearing.look(rt, state.heard_nodes(), passed_ms);
+        if heard && !self.hears {
+            state.log().no_majority(rt);
+        }
+        self.pace.is_due(passed_ms, is_busy, self.hears)
+    }
+}
+
+/// Ticks the nodes again and again, on a thread of its own, until the sessions have ended. `elsewhere` is the cluster of a
+/// node that is alone here.
 pub(crate) fn start<
     R: Threads + Wait + Clock + Copy + Send + 'static,
     N: ServedNode + Send + Sync + Drop + 'static,
@@ -59,7 +85,7 @@ pub(crate) fn start<
     nodes: &Arc<Vec<N>>,
     state: &Arc<ServiceState>,
     every: Duration,
-    is_alone: bool,
+    elsewhere: Option<Cluster>,
     threads: &mut Vec<JoinHandle<()>>,
 ) -> Result<(), Fault> {
     threads.reserve(1)?;
@@ -71,8 +97,13 @@ pub(crate) fn start<
     }
     let nodes = Arc::try_clone(nodes)?;
     let state = Arc::try_clone(state)?;
+    let alone = elsewhere.map(|cluster| Alone {
+        hearing: Hearing::new(cluster),
+        pace: Pace::new(),
+        hears: true,
+    });
     let Ok(thread) = thread::spawn(&rt, move || {
-        run(&rt, watched, &nodes, &state, every, is_alone)
+        run(&rt, watched, &nodes, &state, every, alone)
     }) else {
         return Err(Fault::Memory);
     };
@@ -81,21 +112,20 @@ pub(crate) fn start<
 }
 
 /// A tick has the nodes send again whatever awaits an answer, and after a change of the leader that is all that was ever
-/// decided. So it is put off while something that was sent waits to be heard: the answer may lie there, and a node that
-/// has much to hear doesn't wait in vain. Nodes at rest need no time, and their logs don't grow by it. Nor do nodes without a
-/// majority, since nothing is decided there. A node that is alone can't see whether another one waits for it, or has come
-/// further, so it is never at rest for long.
+/// decided. So it is put off while something that was sent waits to be heard: the answer may be there, and a node that has
+/// much to hear doesn't wait in vain. Nodes at rest need no time, and their logs don't grow by it. Nor do nodes without a
+/// majority, since nothing is decided there. A node that is alone keeps a pace of its own.
 fn run<R: Wait + Clock, N: ServedNode + Drop>(
     rt: &R,
     mut watched: Vec<Watched<N>>,
     nodes: &[N],
     state: &ServiceState,
     every: Duration,
-    is_alone: bool,
+    mut alone: Option<Alone>,
 ) {
+    let every_ms = u64::try_from(every.as_millis()).unwrap_or(u64::MAX);
     let mut put_off = 0;
     let mut waited = Duration::ZERO;
-    let mut rested = Duration::ZERO;
     for _ in rt.forever() {
         if state.stages().pauses(rt, every) {
             return;
@@ -103,7 +133,6 @@ fn run<R: Wait + Clock, N: ServedNode + Drop>(
         // A thread that makes a long step holds the lock, and this waits for it.
         let look = look_at(&watched);
         waited = waited.saturating_add(every);
-        rested = rested.saturating_add(every);
         if look.up < nodes.len() && waited >= Duration::from_millis(LOCK_LOOK_MS) {
             waited = Duration::ZERO;
             let _more = state.lock_breaker().look(rt, nodes, state.log());
@@ -113,9 +142,12 @@ fn run<R: Wait + Clock, N: ServedNode + Drop>(
             continue;
         }
         put_off = 0;
-        let is_long = is_alone && rested >= Duration::from_millis(LONGEST_REST_MS);
-        if (is_long || !look.are_at_rest) && is_majority(look.up, nodes.len()) {
-            rested = Duration::ZERO;
+        let is_busy = !look.are_at_rest;
+        let is_due = match &mut alone {
+            None => is_busy,
+            Some(alone) => alone.is_due(rt, state, every_ms, is_busy),
+        };
+        if is_due && is_majority(look.up, nodes.len()) {
             tick_all(&mut watched);
         }
     }

@@ -1,4 +1,4 @@
-//! The transcripts of a service's sessions, as they lie under their lock.
+//! The transcripts of a service's sessions, as they are under their lock.
 ghost use Rattle.std.specs.Prelude.{◌≡◌, ◌⊎◌, ◌+◌, ◌++◌, ◌∷◌, [], List, true, false};
 ghost use Rattle.std.specs.declared.alloc.Global.{Global};
 ghost use Rattle.session.specs.declared.transcript.Transcript.{Transcript};
@@ -77,7 +77,7 @@ impl<D: Service> Served<D> {
         self.transcript.end
     }
 
-    /// It isn't kept: the service has ended, or isn't audited.
+    /// Drops it: the service has ended, or isn't audited.
     pub(crate) fn lose(self) {
         let Served {
             transcript: _,
@@ -116,7 +116,7 @@ impl<D: Service> Model for Transcripts<D> {
 }
 
 impl<D: Service> Transcripts<D> {
-    /// Of a service that has greeted nobody. Takes no memory.
+    /// The transcripts of a service that has greeted nobody. Takes no memory.
     pub(crate) fn new(alloc: Global, book: Book<D>) -> Self
         ensures { result ≡ spec.no_transcripts }
     {
@@ -155,8 +155,8 @@ impl<D: Service> Transcripts<D> {
         self.is_short = self.is_short | !is_added;
     }
 
-    /// What an audit says of all that the service's nodes and sessions did, by the logs of all nodes. `Memory` if the transcript
-    /// of a session that was greeted is missing.
+    /// The verdict of an audit on all that the service's nodes and sessions did, by the logs of all nodes. `Memory` if the
+    /// transcript of a session that was greeted is missing.
     pub(crate) fn verdict(&self, alloc: Global, logs: &ServiceLogs<D>) -> Verdict
         requires { CanServe D.accounts D.setup }
         ensures judged { IsJudged logs.now self.now result }
@@ -202,7 +202,7 @@ fn count_one(count: &mut usize) -> bool
     }
 }
 
-/// Adds what a session left to the transcripts, and its number to the numbers, or only counts it if it asked nothing. Returns
+/// Adds what a session left to the transcripts, and its number to the numbers. Only counts it if it asked nothing. Returns
 /// whether there was room for it.
 fn add_to(
     kept: &mut Vec<Transcript>,
