@@ -8,6 +8,7 @@
 //! | `C` | a line of the client, which first awaits all replies before it |
 //! | `raw` | bytes that the client sends without waiting |
 //! | `S` | a line of the server |
+//! | `got` | bytes of the server before the rest of a line |
 //! | `status`, `told` | the exit status, if it isn't 0, and a line on standard error |
 //! | `meanwhile` | what others do to the maildrop at this place: `mail LINES`, `take` or `break` |
 //! | `left` | the unique ids that the next session gets, or `locked` |
@@ -15,7 +16,7 @@
 //! | `out` | a line that the script writes |
 //! | `only` | what the lines begin with that count; the others may be any |
 //!
-//! `mbox`, `C`, `raw`, `S`, `in`, `out` and `told` may say how often their value stands there, as in `C x 3: NOOP`. A case
+//! `mbox`, `C`, `raw`, `S`, `got`, `in`, `out` and `told` may say how often their value stands there, as in `C x 3: NOOP`. A case
 //! with `meanwhile` or `left` is one session over a desk, with the limits of nine messages and 1,000 octets.
 
 use crate::case::{Case, Turn};
@@ -68,6 +69,7 @@ fn add_bytes(case: &mut Case, key: &str, count: u32, bytes: &[u8]) -> Result<boo
         "raw" => extend(&mut case.sent, count, bytes, b"")?,
         "out" => extend(&mut case.wanted, count, bytes, b"\n")?,
         "S" => extend(&mut case.wanted, count, bytes, b"\r\n")?,
+        "got" => extend(&mut case.wanted, count, bytes, b"")?,
         "told" => extend(&mut case.told, count, bytes, b"\n")?,
         _ => return Ok(false),
     }
