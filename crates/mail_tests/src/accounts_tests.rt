@@ -78,6 +78,7 @@ const ROWS: &[(Source, Names, u64)] = &[
         Err(AccountsError::Twice(3)),
         6,
     ),
+    (Source::Table(""), Ok(&[]), 0),
     (Source::Single("s3"), Ok(&["alice"]), 6),
     (Source::Single(""), Err(AccountsError::Line(0)), 0),
 ];

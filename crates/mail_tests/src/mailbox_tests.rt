@@ -11,7 +11,7 @@ use std::test::Fail;
 
 const FROM_LINE: &str = "From a@b Thu Jan  1 00:00:00 1970";
 
-const MAILBOX: &str = "From a@b Thu Jan  1 00:00:00 1970\nSubject: x\n\nhi\n.\n>From me\n\n";
+const MAILBOX: &[u8] = b"From a@b Thu Jan  1 00:00:00 1970\nSubject: x\n\nhi\n.\n>From me\n\n";
 
 const LINES: &[&str] = &["Subject: x", "", "hi", ".", "From me"];
 
@@ -21,25 +21,60 @@ const LINES: &[&str] = &["Subject: x", "", "hi", ".", "From me"];
 /// byte by byte, each in turn. The first of a text is for as many bytes as stand behind the line that begins it, where
 /// some do. A text takes one more to give back what its block doesn't need, if it has lines, and one to be shared; a list
 /// of up to four texts takes one.
-const ROWS: &[(&str, Result<&str, MboxError>, u64, u64)] = &[
-    (MAILBOX, Ok("Subject: x\n\nhi\n.\nFrom me\n--\n"), 5, 10),
-    ("", Ok(""), 0, 0),
-    ("hello\n", Err(MboxError::NoFromLine), 0, 0),
-    ("\nFrom x\n", Err(MboxError::NoFromLine), 0, 0),
-    (">From x\n", Err(MboxError::NoFromLine), 0, 0),
-    ("from x\n", Err(MboxError::NoFromLine), 0, 0),
-    ("Fr", Err(MboxError::NoFromLine), 0, 1),
-    ("From\n", Err(MboxError::NoFromLine), 0, 1),
-    ("From x", Ok("--\n"), 3, 3),
-    ("From x\r\n>>From a\r\n", Ok(">From a\n--\n"), 4, 7),
-    ("From x\n\n\n", Ok("\n--\n"), 4, 5),
-    ("From x\na\n\nFrom y\nb", Ok("a\n--\nb\n--\n"), 8, 8),
-    ("From x\nFrom y\n", Ok("--\n--\n"), 4, 4),
-    ("From x\na\rb\r\r\nc\r", Ok("a\rb\r\nc\r\n--\n"), 6, 6),
+const ROWS: &[(&[u8], Result<&[u8], MboxError>, u64, u64)] = &[
+    (MAILBOX, Ok(b"Subject: x\n\nhi\n.\nFrom me\n--\n"), 5, 10),
+    (b"", Ok(b""), 0, 0),
+    (b"hello\n", Err(MboxError::NoFromLine), 0, 0),
+    (b"\nFrom x\n", Err(MboxError::NoFromLine), 0, 0),
+    (b">From x\n", Err(MboxError::NoFromLine), 0, 0),
+    (b"from x\n", Err(MboxError::NoFromLine), 0, 0),
+    (b"\x00From x\n", Err(MboxError::NoFromLine), 0, 0),
+    (b"From\x80x\n", Err(MboxError::NoFromLine), 0, 1),
+    (b"Fr", Err(MboxError::NoFromLine), 0, 1),
+    (b"From\n", Err(MboxError::NoFromLine), 0, 1),
+    (b"From ", Ok(b"--\n"), 3, 3),
+    (b"From x", Ok(b"--\n"), 3, 3),
+    (b"From x\r\n>>From a\r\n", Ok(b">From a\n--\n"), 4, 7),
+    (b"From x\n\n\n", Ok(b"\n--\n"), 4, 5),
+    (b"From x\na\n\nFrom y\nb", Ok(b"a\n--\nb\n--\n"), 8, 8),
+    (b"From x\nFrom y\n", Ok(b"--\n--\n"), 4, 4),
+    (b"From x\na\rb\r\r\nc\r", Ok(b"a\rb\r\nc\r\n--\n"), 6, 6),
     (
-        "From x\n>hi\n> From a\nfrom b\nFrom:c\n From d",
-        Ok(">hi\n> From a\nfrom b\nFrom:c\n From d\n--\n"),
+        b"From x\n>hi\n> From a\nfrom b\nFrom:c\n From d",
+        Ok(b">hi\n> From a\nfrom b\nFrom:c\n From d\n--\n"),
         6,
+        8,
+    ),
+    // Each byte that is no ASCII, and NUL, in one line.
+    (
+        b"From x\n\x00\
+        \x80\x81\x82\x83\x84\x85\x86\x87\x88\x89\x8a\x8b\x8c\x8d\x8e\x8f\
+        \x90\x91\x92\x93\x94\x95\x96\x97\x98\x99\x9a\x9b\x9c\x9d\x9e\x9f\
+        \xa0\xa1\xa2\xa3\xa4\xa5\xa6\xa7\xa8\xa9\xaa\xab\xac\xad\xae\xaf\
+        \xb0\xb1\xb2\xb3\xb4\xb5\xb6\xb7\xb8\xb9\xba\xbb\xbc\xbd\xbe\xbf\
+        \xc0\xc1\xc2\xc3\xc4\xc5\xc6\xc7\xc8\xc9\xca\xcb\xcc\xcd\xce\xcf\
+        \xd0\xd1\xd2\xd3\xd4\xd5\xd6\xd7\xd8\xd9\xda\xdb\xdc\xdd\xde\xdf\
+        \xe0\xe1\xe2\xe3\xe4\xe5\xe6\xe7\xe8\xe9\xea\xeb\xec\xed\xee\xef\
+        \xf0\xf1\xf2\xf3\xf4\xf5\xf6\xf7\xf8\xf9\xfa\xfb\xfc\xfd\xfe\xff\n",
+        Ok(
+            b"\x00\
+        \x80\x81\x82\x83\x84\x85\x86\x87\x88\x89\x8a\x8b\x8c\x8d\x8e\x8f\
+        \x90\x91\x92\x93\x94\x95\x96\x97\x98\x99\x9a\x9b\x9c\x9d\x9e\x9f\
+        \xa0\xa1\xa2\xa3\xa4\xa5\xa6\xa7\xa8\xa9\xaa\xab\xac\xad\xae\xaf\
+        \xb0\xb1\xb2\xb3\xb4\xb5\xb6\xb7\xb8\xb9\xba\xbb\xbc\xbd\xbe\xbf\
+        \xc0\xc1\xc2\xc3\xc4\xc5\xc6\xc7\xc8\xc9\xca\xcb\xcc\xcd\xce\xcf\
+        \xd0\xd1\xd2\xd3\xd4\xd5\xd6\xd7\xd8\xd9\xda\xdb\xdc\xdd\xde\xdf\
+        \xe0\xe1\xe2\xe3\xe4\xe5\xe6\xe7\xe8\xe9\xea\xeb\xec\xed\xee\xef\
+        \xf0\xf1\xf2\xf3\xf4\xf5\xf6\xf7\xf8\xf9\xfa\xfb\xfc\xfd\xfe\xff\n--\n",
+        ),
+        5,
+        11,
+    ),
+    // The same bytes beside `From `, `>` and line ends.
+    (
+        b"From \x00\x80\xff\n\x00From a\n\x80From b\n>\xffFrom c\n\xff>From d\n>\x00\r\n\xff\r\r\n\x80\n",
+        Ok(b"\x00From a\n\x80From b\n>\xffFrom c\n\xff>From d\n>\x00\n\xff\r\n\x80\n--\n"),
+        5,
         8,
     ),
 ];
@@ -76,10 +111,10 @@ fn shown<A: Allocator + Copy>(alloc: Global, texts: &[Text<A>]) -> Result<Vec<u8
 fn is_right<A: Allocator + Copy>(
     alloc: Global,
     answer: &Result<Vec<Text<A>, A>, MboxError>,
-    wanted: Result<&str, MboxError>,
+    wanted: Result<&[u8], MboxError>,
 ) -> Result<bool, Memory> {
     match (answer, wanted) {
-        (Ok(texts), Ok(wanted)) => Ok(shown(alloc, texts)?.as_slice() == wanted.as_bytes()),
+        (Ok(texts), Ok(wanted)) => Ok(shown(alloc, texts)?.as_slice() == wanted),
         (Err(error), Err(wanted)) => Ok(*error == wanted),
         _ => Ok(false),
     }
@@ -90,8 +125,8 @@ fn is_right<A: Allocator + Copy>(
 #[derive(Clone, Copy)]
 struct Read {
     alloc: Global,
-    mailbox: &'static str,
-    wanted: Result<&'static str, MboxError>,
+    mailbox: &'static [u8],
+    wanted: Result<&'static [u8], MboxError>,
     size: usize,
 }
 
@@ -99,9 +134,9 @@ impl Scenario for Read {
     fn run(&self, heap: Heap, refusal: Refusal) -> Result<(), Fail> {
         heap.refuse(refusal);
         let answer = if self.size == 0 {
-            read(heap, self.mailbox.as_bytes())
+            read(heap, self.mailbox)
         } else {
-            read_in_pieces(heap, self.mailbox.as_bytes(), self.size)
+            read_in_pieces(heap, self.mailbox, self.size)
         };
         heap.grant_all();
         if matches!(&answer, Err(MboxError::Memory)) {
@@ -122,7 +157,7 @@ impl Scenario for Written {
         let answer = write(heap, FROM_LINE.as_bytes(), &texts);
         heap.grant_all();
         match answer {
-            Ok(bytes) => check(bytes.as_slice() == MAILBOX.as_bytes(), "another mailbox"),
+            Ok(bytes) => check(bytes.as_slice() == MAILBOX, "another mailbox"),
             Err(Memory) => check(heap.has_refused(), "no memory"),
         }
     }
@@ -142,7 +177,7 @@ fn a_mailbox_is_refused_or_whole(rt: HostRuntime) -> Result<(), Fail> {
                 size,
             };
             let requests = requests(alloc, &reading, most)?;
-            println!(rt; "mboxrd, {mailbox:?} by {size}: {requests}")?;
+            println!(rt; "mboxrd, {} by {size}: {requests}", mailbox.escape_ascii())?;
         }
     }
     Ok(())

@@ -16,7 +16,7 @@ use std::time::Clock;
 /// The path of a folder that isn't there.
 const ABSENT: &str = "/tmp/none/such";
 
-/// A new folder. Gives its path.
+/// Makes a new folder. Returns its path.
 fn folder<R: RandomSource + Files>(rt: &R, alloc: Global) -> Result<String, Fail> {
     let path = file(rt, alloc, "marks", b"")?;
     remove(rt, path.as_str());

@@ -17,7 +17,7 @@ use std::time::Clock;
 const ABSENT: &str = "/tmp/none/such";
 
 /// How many nodes there are, the port below theirs, if they have any, and the exit status of a service with these whose
-/// accounts file can't be read: 1, or 2 where the last node's port is none.
+/// accounts file can't be read: 1, or 2 if the last node has no port.
 const PEER_PORTS: &[(u64, Option<u64>, u8)] = &[
     (3, None, 1),
     (3, Some(0), 1),
@@ -32,8 +32,8 @@ const PEER_PORTS: &[(u64, Option<u64>, u8)] = &[
     (9, Some(65_527), 2),
 ];
 
-/// How many nodes there are, the port below theirs, if they have any, a node's number, and the exit status of that node
-/// if its accounts file can't be read: 1, or 2 where a value is out of its range.
+/// How many nodes there are, the port below theirs, if they have any, a node's number, and the exit status of that node if
+/// its accounts file can't be read: 1, or 2 if a value is out of its range.
 const NODES: &[(u64, Option<u64>, u64, u8)] = &[
     (3, Some(12_000), 0, 2),
     (3, Some(12_000), 1, 1),
@@ -47,7 +47,7 @@ const NODES: &[(u64, Option<u64>, u64, u8)] = &[
     (1, Some(12_000), 2, 2),
     (3, Some(0), 1, 1),
     (3, Some(65_532), 3, 1),
-    // The last node's port is none, though node 1's is one.
+    // The last node has no port, though node 1 has one.
     (3, Some(65_533), 1, 2),
     (3, Some(65_536), 1, 2),
     // Without ports no node runs in a process of its own.

@@ -20,17 +20,17 @@ const AGREED: &[u8] = b"\nsettings ed2e1286f827a721\nend\n";
 /// The same with one more user.
 const OTHERWISE: &[u8] = b"\nsettings 553a3fd9fa7ab482\nend\n";
 
-/// The bytes of a client that takes the port for another one.
+/// The bytes of a client that mistakes the port for another one.
 const NO_FRAME: &[u8] = b"GET / HTTP/1.0\r\n\r\n";
 
-/// How many messages are delivered to a node that reads nothing. Each is proposed, accepted and decided there, so together
-/// they have 18 MB. A connection of which nothing is read holds far less.
+/// How many messages are delivered beside a node that reads nothing. Each is sent to it as a proposal, to be accepted and as
+/// decided, 18 MB in all. An unread connection holds far less.
 const MANY: u32 = 60;
 
 /// How many bytes each of them has.
 const LINE: usize = 100_000;
 
-/// What alice says who has no mail.
+/// What alice sends, who has no mail.
 const LOOK: &[u8] = b"USER alice\r\nPASS s3\r\nSTAT\r\nQUIT\r\n";
 
 const NO_MAIL: &[u8] =
@@ -42,15 +42,15 @@ const ALL: &[(u16, &str)] = &[(1, ACCOUNTS), (2, ACCOUNTS), (3, ACCOUNTS)];
 /// Two nodes with the same accounts.
 const TWO: &[(u16, &str)] = &[(1, ACCOUNTS), (2, ACCOUNTS)];
 
-/// Two nodes, of which one has an account more.
+/// Two nodes. One has an account more.
 const UNLIKE: &[(u16, &str)] = &[(1, ACCOUNTS), (2, MORE_ACCOUNTS)];
 
-/// Whether `stats` says so at its end.
+/// Whether `stats` ends so.
 fn ends_with(told: &Told, end: &[u8]) -> bool {
     told.status == 0 && told.lines.as_slice().ends_with(end)
 }
 
-/// Whether a connection at which these bytes come that are no frame is closed without a word.
+/// Whether a connection is closed without a word after these bytes, which are no frame.
 fn is_closed<R: Net<Stream = TcpStream>>(rt: &R, alloc: Global, port: u16) -> Result<bool, Fail> {
     let client = connect(rt, port)?;
     send(&client, NO_FRAME)?;
@@ -133,7 +133,7 @@ fn are_many_delivered<
     Ok(told.is(0, lines_for_many(alloc)?.as_slice()))
 }
 
-/// Nodes send to a listener that accepts and never reads as to a node, also what no connection holds.
+/// Nodes go on while a listener in place of node 3 accepts and never reads, also after more than a connection holds.
 #[test]
 fn a_node_reads_nothing(rt: HostRuntime) -> Result<(), Fail> {
     let alloc = rt.alloc();

@@ -21,7 +21,7 @@ const ACCOUNTS: &str = "alice pass s3\nbob pass s4\n";
 /// A message whose lines end in both ways, and that looks like a mailbox. Its last line has no end.
 const MESSAGE: &[u8] = b"Subject: x\r\n\nFrom me\n.\nhi";
 
-/// What alice hears who fetches it: 12 + 2 + 9 + 3 + 4 octets.
+/// What alice gets when she fetches it: 12 + 2 + 9 + 3 + 4 octets.
 const FETCHED: &[u8] =
     b"+OK send PASS\r\n+OK maildrop has 3 messages (42 octets)\r\n+OK 30 octets\r\nSubject: x\r\n\r\nFrom me\r\n..\r\nhi\r\n.\r\n+OK signing off\r\n";
 
@@ -109,7 +109,7 @@ fn messages_are_put(rt: HostRuntime) -> Result<(), Fail> {
     Ok(())
 }
 
-/// What an operator is told who waits for the verdict after `stop now`, while a session is open.
+/// The answer to an operator who waits for the verdict after `stop now`, while a session is open.
 fn stopped_now<R: Net<Listener = TcpListener, Stream = TcpStream> + Files + Eprint>(
     rt: &R,
     alloc: Global,
@@ -142,7 +142,7 @@ fn the_verdict_is_waited_for(rt: HostRuntime) -> Result<(), Fail> {
 }
 
 /// A file waits until one that came before it is given up, since both have more bytes than may come at a time. Operators who
-/// go before their answer is there leave nothing behind.
+/// go before their answer is there leave nothing.
 const WAITING: Scene = Scene {
     accounts: ACCOUNTS,
     mailbox: "",

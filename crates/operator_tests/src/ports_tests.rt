@@ -13,7 +13,7 @@ use std::test::*;
 
 const ACCOUNTS: &str = "alice pass s3\n";
 
-/// What a session of alice says, who has no mail.
+/// What a session of alice, who has no mail, sends.
 const EMPTY: &[u8] =
     b"+OK send PASS\r\n+OK maildrop has 0 messages (0 octets)\r\n+OK signing off\r\n";
 

@@ -1,7 +1,7 @@
-//! What an operator is answered.
+//! Answers to operators.
 
 use service_players::Row::{Asks, AsksAtEnd, Ctl, Misled, Operator, Says, Shows};
-use service_players::{STOP, Scene, file, play, remove, start};
+use service_players::{STOP, Scene, play, start};
 use std::test::*;
 
 const REQUESTS: Scene = Scene {
@@ -44,7 +44,14 @@ const REQUESTS: Scene = Scene {
         Asks("break 1 -x\n", "no such user\n"),
         Asks("break 4 alice\n", "down\n"),
         Asks("break 9 zoe\n", "down\n"),
+        // A second request in a connection is not heard.
+        Asks("break 1 alice\nbreak 1 alice\n", "done\n"),
+        Asks("kick zoe\nstop\n", "kicked 0\n"),
+        // Nor are bytes after the announced ones: the message has a line of three octets, which are five with its end.
+        Asks("put 1 alice 3\nabcdef", "op alice 1/3 stored 1\nend\n"),
+        Asks("users\n", "user alice messages 1 octets 5 next_id 2\nend\n"),
         Ctl("break 1 zoe", 0, "no such user\n"),
+        Ctl("deliver 1 alice FILE", 3, "bad mbox\n"),
         // The file is read before its user is looked for, who isn't there either.
         Ctl("deliver 1 bob FILE", 3, "bad mbox\n"),
         Operator,
@@ -54,10 +61,11 @@ const REQUESTS: Scene = Scene {
             "xxxxxxxxxxxxxxxxxxxxxxxxxxxxxxxxxxxxxxxxxxxxxxxxxxxxxxxxxxxxxxxxxxxxxxxxxxxxxxxxxxxxxxxxxxxxxxxxxxxxxxxxxxxxxxxxxxxxxxxxxxxxxxxxxxxxxxxxxxxxxxxxxxxxxxxxxxxxxxxxxxxxxxxxxxxxxxxxxxxxxxxxxxxxxxxxxxxxxxxxxxxxxxxxxxxxxxxxxxxxxxxxxxxxxxxxxxxxxxxxxxxxxxxxxxxxxxxxxxxxxxxxxxxxxxxxxxxxxxxxxxxxxxxxxxxxxxxxxxxxxxxxxxxxxxxxxxxxxxxxxxxxxxxxxxxxxxxxxxxxxxxxxxxxxxxxxxxxxxxxxxxxxxxxxxxxxxxxxxxxxxxxxxxxxxxxxxxxxxxxxxxxxxxxxxxxxxxxxxxxxxxxxxxxxxxxxxxxxxxxxxxxxxxxxxxxxxxxxxxxxxxxxxxxxxxxxxxxxxxxxxxxxxxxxxxxxxxxxxxxxxxxxxxxxxxx",
             "bad request\n",
         ),
-        // What a POP3 client is told answers no operator.
+        // A reply to a POP3 client is no answer to an operator.
         Misled(1, 1),
-        // Four slots were decided: one for each `break` above that is answered `done` or `no such user`.
-        Shows("node 1 up active slot 5\nnode 2 up passive slot "),
+        // Six slots were decided: one for the message, and one for each `break` above that is answered `done` or `no such
+        // user`.
+        Shows("node 1 up active slot 7\nnode 2 up passive slot "),
         STOP,
     ],
 };
@@ -68,6 +76,7 @@ const DELIVERIES: Scene = Scene {
     rows: &[
         Asks("deliver 1 alice 5\nFrom ", "op alice 1/1 stored 1\nend\n"),
         Asks("deliver 1 alice 0\n", "end\n"),
+        Asks("deliver 1 alice 0\nFrom x\n", "end\n"),
         Asks("deliver 4 alice 0\n", "down\n"),
         Asks(
             "deliver 1 zoe 7\nFrom x\n",
@@ -97,6 +106,11 @@ const DELIVERIES: Scene = Scene {
             "op alice 1/3 stored 3\nop alice 1/4 full\nend\n",
         ),
         Asks("deliver 1 alice 5 k\nFrom ", "op alice 1/5 stored 2\nend\n"),
+        // What stands behind the five bytes is not read: there is one message.
+        Asks(
+            "deliver 1 alice 5 k\nFrom x\n\nFrom y\n",
+            "op alice 1/6 stored 2\nend\n",
+        ),
         STOP,
     ],
 };
@@ -114,28 +128,5 @@ fn operators_are_answered(rt: HostRuntime) -> Result<(), Fail> {
         let service = start!(rt, alloc, scene.accounts);
         play(&rt, alloc, service, scene)?;
     }
-    Ok(())
-}
-
-/// A file that is no mailbox: it has no From line.
-const NO_MAILBOX: &[u8] = b"hello\n";
-
-/// How many bytes it has in all. A connection of which little is read holds far fewer.
-const MANY: usize = 16_000_000;
-
-/// The service refuses a file by its first bytes, while most of it was not sent yet, and the operator is told so.
-#[test]
-fn a_large_file_is_refused_early(rt: HostRuntime) -> Result<(), Fail> {
-    let alloc = rt.alloc();
-    let service = start!(rt, alloc, "alice pass s3\n");
-    let mut bytes = Vec::new(alloc);
-    bytes.extend_from_slice(NO_MAILBOX)?;
-    bytes.resize(MANY, b'x')?;
-    let path = file(&rt, alloc, "large", bytes.as_slice())?;
-    let told = service.ctl(&rt, alloc, &["deliver", "1", "alice", path.as_str()]);
-    remove(&rt, path.as_str());
-    assert!(rt; told.is(3, b"bad mbox\n"));
-    let (status, _) = service.stop(&rt, alloc)?;
-    assert_eq!(rt; status, 0);
     Ok(())
 }

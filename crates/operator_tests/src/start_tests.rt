@@ -30,8 +30,8 @@ enum Choice {
     Ids,
 }
 
-/// Values at the ends of their ranges, and the exit status of a service with them whose accounts file can't be read: 1,
-/// or 2 where the value is out of its range. Node 3 is at the third port above `PopPort`.
+/// Values at the ends of their ranges, and the exit status of a service with them whose accounts file can't be read: 1, or 2
+/// if the value is out of its range. Node 3 is at the third port above `PopPort`.
 const EDGES: &[(Choice, u64, u8)] = &[
     (Choice::PopPort, 0, 1),
     (Choice::PopPort, 65_532, 1),
@@ -111,8 +111,8 @@ fn options_are_in_their_ranges(rt: HostRuntime) -> Result<(), Fail> {
     Ok(())
 }
 
-/// Words of `maildropd ctl`, with `/` between two, and the exit status where nobody listens at the port and no file can
-/// be read: 1, or 2 for words that are none, or 3 for a key that is none.
+/// Words of `maildropd ctl`, with `/` between two, and the exit status if nobody listens at the port and no file can be
+/// read: 1, or 2 for words that are no request, or 3 for a malformed key.
 const WORDS: &[(&str, u8)] = &[
     ("", 2),
     ("status", 1),
@@ -162,7 +162,7 @@ const WORDS: &[(&str, u8)] = &[
     ("users/", 2),
     ("kick/alice", 1),
     ("kick", 2),
-    // The words of `put` have statuses of their own: 64 for words that are none, and 75 if nobody listens.
+    // The words of `put` have statuses of their own: 64 for words that are no request, and 75 if nobody listens.
     ("put", 64),
     ("put/0/alice", 75),
     ("put/9/alice/any key is one", 75),
@@ -171,7 +171,7 @@ const WORDS: &[(&str, u8)] = &[
     ("put/1/alice/k/k", 64),
 ];
 
-/// The exit status of `maildropd ctl` with these words. It prints `bad request` where the status is 3, and else nothing.
+/// The exit status of `maildropd ctl` with these words. It prints `bad request` if the status is 3, and else nothing.
 fn status_of<R: Net<Listener = TcpListener, Stream = TcpStream> + Files + Eprint>(
     rt: &R,
     alloc: Global,
@@ -246,7 +246,7 @@ fn status_with<
     Ok(status)
 }
 
-/// Accounts files, and the exit status of a service that has one port twice: 1, or 2 where the file is none.
+/// Accounts files, and the exit status of a service that has one port twice: 1, or 2 if the file is malformed.
 const ACCOUNTS: &[(&str, u8)] = &[
     ("alice pass s3\n", 1),
     ("alice pass s3\n\nbob apop s4", 1),

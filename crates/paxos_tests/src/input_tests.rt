@@ -11,7 +11,7 @@ use std::test::Fail;
 
 /// A message between nodes. If it has a command, that is the Take for alice which is submitted first.
 #[derive(Clone, Copy, Debug)]
-enum Told {
+pub enum Told {
     /// The Take is proposed for slot 2.
     Propose,
     /// The ballot of node 1 and this round is asked for.
@@ -30,7 +30,7 @@ enum Told {
 
 /// An input of node 2 among three.
 #[derive(Clone, Copy, Debug)]
-enum Given {
+pub enum Given {
     /// A Take for this user.
     Take(&'static str),
     /// A message comes of this node that is for that node.
@@ -182,7 +182,7 @@ fn message_of<'h>(
     })
 }
 
-fn input_of<'h>(heap: Heap<'h>, given: Given) -> Result<Input<Heap<'h>>, Fail> {
+pub fn input_of<'h>(heap: Heap<'h>, given: Given) -> Result<Input<Heap<'h>>, Fail> {
     Ok(match given {
         Given::Take(user) => Input::Submit(name(user)?, Shared::new(heap, Op::Take)?),
         Given::Gets(from, to, told) => Input::Arrive(Envelope {
@@ -197,7 +197,7 @@ fn input_of<'h>(heap: Heap<'h>, given: Given) -> Result<Input<Heap<'h>>, Fail> {
 }
 
 /// Node 2 of three.
-fn new_node<'h>(heap: Heap<'h>) -> Result<Node<Heap<'h>>, Fail> {
+pub fn new_node<'h>(heap: Heap<'h>) -> Result<Node<Heap<'h>>, Fail> {
     let names = [alice()?];
     let (me, cluster, limits) = (node(2)?, three()?, limits()?);
     Ok(Node::new(heap, me, cluster, 5, &names, limits)?.ok_or("no node")?)

@@ -11,6 +11,8 @@ mod input_tests;
 #[cfg(test)]
 mod leader_tests;
 #[cfg(test)]
+mod no_request_tests;
+#[cfg(test)]
 mod plain_acceptor;
 #[cfg(test)]
 mod plain_scout;
@@ -20,5 +22,7 @@ mod random;
 mod refusing_tests;
 #[cfg(test)]
 mod replica_tests;
+#[cfg(test)]
+mod replicas;
 #[cfg(test)]
 mod sent;

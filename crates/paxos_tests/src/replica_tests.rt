@@ -1,37 +1,11 @@
 //! Each call of a replica.
-ghost use Rattle.std.specs.Prelude.{◌≡◌};
 
+use crate::replicas::{Role, new_replica};
 use crate::sent::{Sent, Short, check_sent};
-use ballot::{Machine, Memory, Payload};
+use ballot::{Memory, Payload};
 use refusing::Refusal;
-use replica::Replica;
-use samples::{Heap, Number, Scenario, check, new_number, node, refuse, requests, slot, three};
-use std::alloc::Allocator;
-use std::mem;
+use samples::{Heap, Scenario, check, new_number, refuse, requests, slot};
 use std::test::Fail;
-
-/// A machine that answers a command by the one that it performed before.
-#[derive(Drop)]
-struct Last<A: Allocator> {
-    command: Number<A>,
-}
-
-impl<A: Allocator + Copy> Machine for Last<A> {
-    type Command = Number<A>;
-
-    type Answer = Number<A>;
-
-    ghost answer_to = { λ m c. m.command };
-
-    ghost after = { λ m c. record { command = c } };
-
-    fn apply(&mut self, command: &Number<A>) -> Result<Number<A>, Memory> {
-        let command = command.copy()?;
-        Ok(mem::replace(&mut self.command, command))
-    }
-}
-
-type Role<'h> = Replica<Last<Heap<'h>>, Heap<'h>>;
 
 /// A call of a replica of node 1 among three, with a window of 1.
 #[derive(Clone, Copy, Debug)]
@@ -94,13 +68,6 @@ fn check_performed<'h>(replica: &Role<'h>, expected: &[(u64, u64)]) -> Result<()
         check((entry.0.get(), entry.1.id()) == expected, "another command")?;
     }
     Ok(())
-}
-
-fn new_replica<'h>(heap: Heap<'h>) -> Result<Role<'h>, Fail> {
-    let machine = Last {
-        command: new_number(heap, 0)?,
-    };
-    Ok(Replica::new(heap, node(1)?, three()?, 1, machine))
 }
 
 /// Makes a call. Some of its requests may be refused.

@@ -40,6 +40,31 @@ impl Read for Pieces<'_> {
     }
 }
 
+/// Bytes that come in two pieces. The read between them may fail.
+#[derive(Drop)]
+pub struct Cut<'a> {
+    pub first: &'a [u8],
+    pub second: &'a [u8],
+    pub fails: bool,
+}
+
+impl Read for Cut<'_> {
+    fn read(&mut self, buf: &mut [u8]) -> io::Result<usize> {
+        if self.first.is_empty() && self.fails {
+            return Err(io::Error::from(io::ErrorKind::ConnectionReset));
+        }
+        let is_first = !self.first.is_empty();
+        let mut rest = if is_first { self.first } else { self.second };
+        let count = give(&mut rest, usize::MAX, buf);
+        if is_first {
+            self.first = rest;
+        } else {
+            self.second = rest;
+        }
+        Ok(count)
+    }
+}
+
 /// Brings a length of 2^30 with each read, and never ends.
 #[derive(Drop)]
 pub struct Endless {

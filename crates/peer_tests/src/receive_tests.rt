@@ -1,12 +1,13 @@
 //! What is received of a connection's bytes.
 
-use crate::readers::{Endless, Kept, Pieces};
+use crate::readers::{Cut, Endless, Kept, Pieces};
 use ballot::{Envelope, Message};
 use maildrop::{Command, SharedCommand};
 use peer_frames::{FrameFault, encode};
 use peer_wire::{End, Received, receive};
 use samples::{alice, check, mail, node, slot, ticket};
 use std::alloc::Global;
+use std::io::Read;
 use std::test::Fail;
 
 /// How many frames a connection brings.
@@ -60,10 +61,10 @@ fn frames(alloc: Global) -> Result<Vec<u8>, Fail> {
 }
 
 /// Receives the bytes in pieces, and compares what arrived and the end.
-fn check_received(
+fn check_received<R: Read>(
     alloc: Global,
     longest: usize,
-    reader: &mut Pieces,
+    reader: &mut R,
     loses: bool,
     wanted: &[u8],
     received: Received,
@@ -106,6 +107,59 @@ fn a_connection_ends(rt: HostRuntime) -> Result<(), Fail> {
 fn a_connection_fails(rt: HostRuntime) -> Result<(), Fail> {
     check_all(rt.alloc(), &[], true, End::ReadFault)?;
     check_all(rt.alloc(), &[0, 0, 0, 12, 2], true, End::ReadFault)
+}
+
+/// How many of the frames are whole within so many bytes, and how many bytes these have.
+fn whole_within(alloc: Global, most: usize) -> Result<(u64, usize), Fail> {
+    let (ask, decision) = (ask(alloc, 1)?.len(), decision(alloc)?.len());
+    let mut count = 0;
+    let mut end: usize = 0;
+    for len in [ask, ask, decision, ask, ask, ask] {
+        if end.saturating_add(len) > most {
+            break;
+        }
+        end = end.saturating_add(len);
+        count += 1;
+    }
+    Ok((count, end))
+}
+
+/// The frames come in two pieces, the second of which begins at this place.
+fn check_cut(alloc: Global, frames: &[u8], place: usize) -> Result<(), Fail> {
+    let (first, second) = frames.split_at(place);
+    let (whole, end) = whole_within(alloc, place)?;
+    for fails in [false, true] {
+        let mut reader = Cut {
+            first,
+            second,
+            fails,
+        };
+        let (wanted, received) = if fails {
+            let received = Received {
+                count: whole,
+                end: End::ReadFault,
+            };
+            (&frames[..end], received)
+        } else {
+            let received = Received {
+                count: FRAMES,
+                end: End::Ended,
+            };
+            (frames, received)
+        };
+        check_received(alloc, LONGEST, &mut reader, false, wanted, received)?;
+    }
+    Ok(())
+}
+
+/// A frame that is cut arrives once it is whole. If the read between its parts fails, only the frames before it have arrived.
+#[test]
+fn frames_are_cut_at_each_place(rt: HostRuntime) -> Result<(), Fail> {
+    let frames = frames(rt.alloc())?;
+    for place in 0..=frames.len() {
+        check_cut(rt.alloc(), &frames, place)?;
+    }
+    Ok(())
 }
 
 /// A frame of this kind and of 12 bytes after its length, and then an Ask that isn't read any more.

@@ -1,13 +1,15 @@
 //! POP3 clients of a service, and raw connections to it.
 
+use libc::net;
 use std::alloc::Global;
 use std::io;
 use std::io::{Read, Write};
 use std::net::{Ipv4Addr, Net, Shutdown, SocketAddr, TcpStream};
+use std::os::fd::AsRawFd;
 use std::test::Fail;
 use std::time::Duration;
 
-/// How many seconds a client waits for what it is told. A test that meets this bound fails.
+/// How many seconds a client waits for bytes. A test that meets this bound fails.
 pub const PATIENCE: u64 = 30;
 
 /// What each greeting begins with.
@@ -30,6 +32,16 @@ pub fn send(stream: &TcpStream, bytes: &[u8]) -> Result<(), Fail> {
     let mut writer = stream;
     writer.write_all(bytes)?;
     Ok(())
+}
+
+/// How many bytes the address of a socket has.
+const ADDRESS_BYTES: u32 = 16;
+
+/// Resets a connection: its peer is told so at once, whatever was sent and isn't read. The system does this for a socket that
+/// connects to an address of no family. Returns whether it did.
+pub fn reset(stream: &TcpStream) -> bool {
+    let no_family = [0u8; 128];
+    unsafe { net::connect(stream.as_raw_fd(), &no_family, ADDRESS_BYTES) == 0 }
 }
 
 /// Reads up to the end of the connection.
@@ -67,7 +79,7 @@ pub fn heard_at_last<R: Net<Stream = TcpStream>>(
     read_to_cut(alloc, &stream)
 }
 
-/// Whether an error says that nobody listens at a port, or does any more.
+/// Whether an error shows that nobody listens at a port, or does any more.
 fn is_end(error: &io::Error) -> bool {
     matches!(
         error.kind(),
@@ -75,7 +87,7 @@ fn is_end(error: &io::Error) -> bool {
     )
 }
 
-/// Reads so many lines, and gives the last one.
+/// Reads so many lines. Returns the last one.
 pub fn line_after(alloc: Global, stream: &TcpStream, count: usize) -> Result<Vec<u8>, Fail> {
     let mut reader = stream;
     let mut line = Vec::new(alloc);
@@ -118,7 +130,7 @@ pub fn whole_answer<R: Net<Stream = TcpStream>>(
     read_all(alloc, &stream)
 }
 
-/// What a node says to a client that sends these lines, behind the greeting.
+/// What a node replies to a client that sends these lines, after the greeting.
 pub fn replies<R: Net<Stream = TcpStream>>(
     rt: &R,
     alloc: Global,

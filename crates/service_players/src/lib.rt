@@ -1,13 +1,17 @@
 //! What tests of a service share: services that run while a test looks on, operators and POP3 clients, and scenes that they
-//! play row by row. No product crate stands on it.
+//! play row by row. No crate of the program uses it.
 #![tactic(auto)]
 
 mod clients;
+mod holdings;
 mod nodes;
 mod plays;
 mod running;
 
-pub use clients::{GREETING, connect, line_after, local, read_all, read_to_cut, replies, send};
+pub use clients::{
+    GREETING, connect, line_after, local, read_all, read_to_cut, replies, reset, send, whole_answer,
+};
+pub use holdings::{descriptors, descriptors_fall_to, threads, threads_fall_to};
 pub use nodes::{NodePlan, NodeSite, Nodes, nodes_beside_deaf, nodes_with, run_node};
 pub use plays::{Row, STOP, Scene, play, play_after, play_at};
 pub use running::{

@@ -1,4 +1,4 @@
-//! Nodes of a service, each on a thread of its own as in a process of its own, that run while a test looks on.
+//! Nodes of a service that run while a test looks on, each on a thread of its own as if in a process of its own.
 
 use crate::clients::local;
 use crate::running::{
@@ -17,10 +17,10 @@ use std::test::Fail;
 use std::thread::{JoinHandle, Threads};
 use std::time::Clock;
 
-/// What a node writes that has ended well.
+/// What a node that has ended well writes.
 const STOPPED: &[u8] = b"stopped\n";
 
-/// The node whose place another listener may have.
+/// The node that another listener may replace.
 const THIRD: u16 = 3;
 
 /// A node that is to be started: the path of its accounts, and its ports.
@@ -66,7 +66,7 @@ pub struct Nodes {
     running: Vec<RunningNode>,
 }
 
-/// Ports of three nodes, of which none is started. Their marks go into the folder of this path, if there is one.
+/// Ports of three nodes, none of which is started. Their marks go into the folder of this path, if there is one.
 pub fn nodes_with<R: Net<Listener = TcpListener, Stream = TcpStream>>(
     rt: &R,
     alloc: Global,
@@ -86,7 +86,7 @@ pub fn nodes_with<R: Net<Listener = TcpListener, Stream = TcpStream>>(
     })
 }
 
-/// The same without marks, where something listens in the place of node 3 and reads nothing.
+/// The same without marks. In place of node 3 something listens that reads nothing.
 pub fn nodes_beside_deaf<R: Net<Listener = TcpListener, Stream = TcpStream>>(
     rt: &R,
     alloc: Global,
@@ -98,7 +98,7 @@ pub fn nodes_beside_deaf<R: Net<Listener = TcpListener, Stream = TcpStream>>(
     Ok(nodes)
 }
 
-/// Runs a node. Gives its exit status and what it wrote.
+/// Runs a node. Returns its exit status and what it wrote.
 pub fn run_node<
     R: Net<Listener = TcpListener, Stream = TcpStream>
         + Threads
@@ -126,8 +126,8 @@ pub fn run_node<
     (status, written)
 }
 
-/// Starts these nodes, given as numbers with their accounts, at ports that are given anew where one is taken, and waits
-/// until they take requests. A macro, since a test alone may give a thread all that a node asks of the system.
+/// Starts these nodes, given as numbers with their accounts, and waits until they take requests. If a port is taken, they
+/// start at other ones. A macro, since only a test may give a thread all that a node asks of the system.
 #[macro_export]
 macro_rules! start_nodes {
     ($rt:ident, $alloc:ident, $nodes:expr, $members:expr) => {{
@@ -150,12 +150,12 @@ macro_rules! start_nodes {
 }
 
 impl RunningNode {
-    /// Waits until it has ended, and gives its exit status and what it wrote.
+    /// Waits until it has ended. Returns its exit status and what it wrote.
     fn end<R: Threads>(self, rt: &R) -> (u8, Vec<u8>) {
         self.thread.join(rt)
     }
 
-    /// Waits until it has ended, which it is to do well.
+    /// Waits until it has ended, which it must do well.
     fn ends_well<R: Threads>(self, rt: &R) -> Result<(), Fail> {
         let (status, written) = self.end(rt);
         if status != 0 || written.as_slice() != STOPPED {
@@ -181,7 +181,7 @@ impl Nodes {
         self.ctl.first.saturating_add(number)
     }
 
-    /// Where clients come, and the operator of a node.
+    /// Where the clients and the operator of a node come.
     pub fn doors(&self, number: u16) -> Doors {
         Doors {
             pop_port: self.pop.first,
@@ -209,7 +209,7 @@ impl Nodes {
         Ok(stream)
     }
 
-    /// A node with these accounts, as its thread has it and as the test.
+    /// A node with these accounts, for its thread and for the test.
     pub fn plan<R: RandomSource + Files>(
         &self,
         rt: &R,
@@ -240,8 +240,8 @@ impl Nodes {
         Ok(())
     }
 
-    /// These nodes, once all take requests. Gives none where one ends at once, as where somebody else has taken one of its
-    /// ports. The others are stopped then.
+    /// These nodes, once all take requests. Returns none if one ends at once, as when somebody else has taken one of its
+    /// ports. Then the others are stopped.
     pub fn begun<
         R: Net<Listener = TcpListener, Stream = TcpStream> + Threads + Clock + Files + Eprint,
     >(self, rt: &R, alloc: Global) -> Result<Option<Nodes>, Fail> {
@@ -258,7 +258,7 @@ impl Nodes {
         Ok(None)
     }
 
-    /// Waits until all have ended. Those that still run are stopped, the others can't listen at one of their ports.
+    /// Stops the nodes that still run, and waits until all have ended. The others can't listen at one of their ports.
     fn give_up<R: Net<Listener = TcpListener, Stream = TcpStream> + Threads + Files + Eprint>(
         self,
         rt: &R,
@@ -285,7 +285,7 @@ impl Nodes {
         Ok(())
     }
 
-    /// Has each node stopped in its turn, and waits until it has ended. Each is to end well.
+    /// Stops each node in turn, and waits until it has ended. Each must end well.
     pub fn stop<R: Net<Listener = TcpListener, Stream = TcpStream> + Threads + Files + Eprint>(
         self,
         rt: &R,
@@ -306,7 +306,7 @@ impl Nodes {
         Ok(())
     }
 
-    /// Waits until all have ended. Each is to end well.
+    /// Waits until all have ended. Each must end well.
     pub fn end<R: Threads>(self, rt: &R) -> Result<(), Fail> {
         for node in self.running {
             node.ends_well(rt)?;

@@ -1,4 +1,4 @@
-//! Scenes: what operators and POP3 clients do at a service, row by row, and what each is told.
+//! Scenes: what operators and POP3 clients do at a service, row by row, and what each gets.
 
 use crate::clients::{
     GREETING, answer, connect, heard_at_last, line_after, read_all, send, whole_answer,
@@ -162,7 +162,7 @@ impl Stage {
         Ok(said.as_slice() == lines.as_bytes())
     }
 
-    /// A client comes to a node. Gives whether it is greeted.
+    /// A client comes to a node. Returns whether it is greeted.
     fn come<R: Net<Stream = TcpStream>>(&mut self, rt: &R, node: u16) -> Result<bool, Fail> {
         let client = connect(rt, self.node(node))?;
         let line = line_after(self.alloc, &client, 1)?;
@@ -189,7 +189,7 @@ impl Stage {
         }
     }
 
-    /// A client sends these bytes. Gives whether it hears those.
+    /// A client sends these bytes. Returns whether it hears those.
     fn says(&self, number: usize, bytes: &str, wanted: &str) -> Result<bool, Fail> {
         let client = self.client(number)?;
         send(client, bytes.as_bytes())?;
@@ -207,7 +207,7 @@ impl Stage {
         Ok(true)
     }
 
-    /// Has a row happen. Gives whether all is told as it says.
+    /// Plays a row. Returns whether each answer is as in the row.
     fn happens<R: Net<Listener = TcpListener, Stream = TcpStream> + Files + Eprint>(
         &mut self,
         rt: &R,
@@ -228,7 +228,7 @@ impl Stage {
         }
     }
 
-    /// Has all rows happen, up to the first that isn't as it says, which is told.
+    /// Plays all rows up to the first whose answers differ, which is reported.
     fn happen<R: Net<Listener = TcpListener, Stream = TcpStream> + Files + Eprint>(
         &mut self,
         rt: &R,
@@ -243,7 +243,7 @@ impl Stage {
     }
 }
 
-/// Plays a scene at a service that has just begun, and that is to end with `audit ok`.
+/// Plays a scene at a service that has just begun, and that must end with `audit ok`.
 pub fn play<
     R: Net<Listener = TcpListener, Stream = TcpStream> + Threads + RandomSource + Files + Eprint,
 >(rt: &R, alloc: Global, service: Running, scene: &Scene) -> Result<(), Fail> {

@@ -60,7 +60,7 @@ pub struct Doors {
     pub ctl_port: u16,
 }
 
-/// What a call of `maildropd ctl` gave.
+/// The exit status and the lines of a call of `maildropd ctl`.
 #[derive(Drop)]
 pub struct Told {
     pub status: u8,
@@ -97,8 +97,8 @@ const PORTS: u16 = 5;
 /// The first of the ports that tests use. The system takes none of them for the ends of clients.
 const FIRST_PORT: u16 = 10_000;
 
-/// Five ports, one behind another. Nobody listened at the last four when they were looked for. The first is kept as long as
-/// this is, so that no other test takes any of them.
+/// Five ports in a row. Nobody listened at the last four when they were looked for. The first is kept as long as this is, so
+/// that no other test takes any of them.
 #[derive(Drop)]
 pub struct Ports {
     pub first: u16,
@@ -106,7 +106,7 @@ pub struct Ports {
 }
 
 impl Ports {
-    /// The port of the operator, behind those of three nodes.
+    /// The port of the operator, after those of three nodes.
     fn ctl(&self) -> u16 {
         self.first.saturating_add(4)
     }
@@ -140,8 +140,8 @@ pub fn free_ports<R: Net<Listener = TcpListener, Stream = TcpStream>>(
     Err(Fail::from("no free ports"))
 }
 
-/// A file of these bytes in the system's folder for such files, under a name with random digits, so that no two tests share one.
-/// Gives its path.
+/// A file of these bytes in the system's folder for such files, under a name with random digits, so that no two tests share
+/// one. Returns its path.
 pub fn file<R: RandomSource + Files>(
     rt: &R,
     alloc: Global,
@@ -190,7 +190,7 @@ pub struct Site {
     has_ended: Arc<AtomicBool>,
 }
 
-/// A service of three nodes with these accounts, as its thread has it and as the test.
+/// A service of three nodes with these accounts, for its thread and for the test.
 pub fn planned<R: Net<Listener = TcpListener, Stream = TcpStream> + RandomSource + Files>(
     rt: &R,
     alloc: Global,
@@ -322,7 +322,7 @@ fn count_with_inputs(end: &ServiceEnd) -> usize {
     count
 }
 
-/// Runs a service. Gives what is known of it at its end.
+/// Runs a service. Returns what is known of it at its end.
 pub fn run<
     R: Net<Listener = TcpListener, Stream = TcpStream>
         + Threads
@@ -350,7 +350,7 @@ pub fn run<
     }
 }
 
-/// What `status` is answered at a port.
+/// The answer to `status` at a port.
 fn told_at<R: Net<Stream = TcpStream>>(rt: &R, alloc: Global, port: u16) -> io::Result<Vec<u8>> {
     let mut stream = rt.connect(local(port))?;
     stream.set_read_timeout(Some(Duration::from_secs(PATIENCE)))?;
@@ -373,7 +373,7 @@ fn takes_requests<R: Net<Stream = TcpStream>>(
     }
 }
 
-/// Waits until a service, whose first node has this number, takes requests or has ended. Gives whether it takes them.
+/// Waits until a service, whose first node has this number, takes requests or has ended. Returns whether it takes them.
 pub(crate) fn begins<R: Net<Stream = TcpStream> + Clock>(
     rt: &R,
     alloc: Global,
@@ -394,8 +394,8 @@ pub(crate) fn begins<R: Net<Stream = TcpStream> + Clock>(
     Err(Fail::from("the service does not begin"))
 }
 
-/// The service of this thread, once it takes requests. Gives none where it ends at once, as where somebody else has taken
-/// one of its ports.
+/// The service of this thread, once it takes requests. Returns none if it ends at once, as when somebody else has taken one
+/// of its ports.
 pub fn begun<R: Net<Stream = TcpStream> + Threads + Clock>(
     rt: &R,
     alloc: Global,
@@ -423,7 +423,7 @@ pub fn begun<R: Net<Stream = TcpStream> + Threads + Clock>(
     }
 }
 
-/// Starts a service that is planned so, and waits until it takes requests. A macro, since a test alone may give a thread all
+/// Starts a service that is planned so, and waits until it takes requests. A macro, since only a test may give a thread all
 /// that a service asks of the system.
 #[macro_export]
 macro_rules! start_planned {
@@ -527,7 +527,7 @@ impl Running {
         ctl(rt, alloc, self.ctl_port, words)
     }
 
-    /// Has the service stopped, and gives its exit status and what it wrote.
+    /// Stops the service. Returns its exit status and what it wrote.
     pub fn stop<R: Net<Listener = TcpListener, Stream = TcpStream> + Threads + Files + Eprint>(
         self,
         rt: &R,
@@ -540,13 +540,13 @@ impl Running {
         Ok(self.end(rt))
     }
 
-    /// Waits until the service has ended, and gives its exit status and what it wrote.
+    /// Waits until the service has ended. Returns its exit status and what it wrote.
     pub fn end<R: Threads>(self, rt: &R) -> (u8, Vec<u8>) {
         let ended = self.ended(rt);
         (ended.status, ended.written)
     }
 
-    /// Waits until the service has ended, and gives all that is known of it.
+    /// Waits until the service has ended. Returns all that is known of it.
     pub fn ended<R: Threads>(self, rt: &R) -> Ended {
         self.thread.join(rt)
     }

@@ -15,10 +15,10 @@ use std::time::{Clock, Instant};
 /// What alice sends to log in.
 const ALICE: &str = "USER alice\r\nPASS s3\r\n";
 
-/// What she is told, who has no mail.
+/// The replies to her, who has no mail.
 const EMPTY: &str = "+OK send PASS\r\n+OK maildrop has 0 messages (0 octets)\r\n";
 
-/// How many bytes a client sends who isn't logged in: more than it may.
+/// How many bytes a client that isn't logged in sends: more than it may.
 const TOO_MANY: usize = 70_000;
 
 /// How many seconds pass at least before a line is heard after a refused login.
@@ -29,7 +29,7 @@ const BOUNDED: Scene = Scene {
     accounts: "alice pass s3\n",
     mailbox: "",
     rows: &[
-        // She sends a piece of a line, and no more. Her lock is given back then.
+        // She sends a piece of a line, and no more. Then her lock is freed.
         Comes(1),
         Says(0, ALICE, EMPTY),
         Says(0, "NOO", ""),
@@ -55,8 +55,8 @@ const BOUNDED: Scene = Scene {
     ],
 };
 
-/// A client sends more than it may before a login, without the end of a line, until its connection ends. What it was told
-/// may be lost then.
+/// A client sends more than it may before a login, without the end of a line, until its connection ends. Then replies to it
+/// may be lost.
 fn send_too_much<R: Net<Stream = TcpStream>>(
     rt: &R,
     alloc: Global,
@@ -72,7 +72,7 @@ fn send_too_much<R: Net<Stream = TcpStream>>(
     Ok(())
 }
 
-/// Whether a client whose login is refused is told so, and is heard again only after the pause.
+/// Whether a client whose login is refused gets that reply, and is heard again only after the pause.
 fn is_held_up<R: Net<Stream = TcpStream> + Clock>(
     rt: &R,
     alloc: Global,

@@ -12,17 +12,17 @@ use std::time::{Clock, Duration};
 
 const ACCOUNTS: &str = "alice pass s3\nbob pass s4\n";
 
-/// What a session of bob says, who has no mail.
+/// What a session of bob, who has no mail, sends.
 const BOB: &[u8] =
     b"+OK send PASS\r\n+OK maildrop has 0 messages (0 octets)\r\n+OK signing off\r\n";
 
 /// What alice sends to log in.
 const ALICE: &[u8] = b"USER alice\r\nPASS s3\r\n";
 
-/// What a login that gets the maildrop is told begins so.
+/// How the reply to a login that gets the maildrop begins.
 const LOGGED_IN: &[u8] = b"+OK ";
 
-/// What a login is told whose maildrop another session holds.
+/// The reply to a login if another session holds the maildrop.
 const LOCKED: &[u8] = b"-ERR [IN-USE] maildrop already locked\r\n";
 
 /// How often a client tries to log in. A test that meets this bound fails.
@@ -56,7 +56,7 @@ fn large_mailbox(alloc: Global) -> Result<Vec<u8>, Fail> {
     Ok(mailbox)
 }
 
-/// What an operator is told who has this file delivered to alice, who has no mail yet.
+/// The answer to an operator who has this file delivered to alice, who has no mail yet.
 const STORED: &[u8] =
     b"op alice 1/1 too large\nop alice 1/2 stored 1\nop alice 1/3 full\nop alice 1/4 stored 2\nend\n";
 
@@ -70,7 +70,7 @@ fn is_large_stored<
     Ok(told.is(0, STORED))
 }
 
-/// A client of alice comes to a node's port. Gives it where it gets her maildrop, and nothing where that is locked.
+/// A client of alice comes to a node's port. Returns it if it gets her maildrop, and nothing if that is locked.
 fn try_to_log_in<R: Net<Stream = TcpStream>>(
     rt: &R,
     alloc: Global,
@@ -88,8 +88,8 @@ fn try_to_log_in<R: Net<Stream = TcpStream>>(
     Ok(None)
 }
 
-/// A client of alice that has her maildrop. It comes again while that is locked: a session gives the lock back once it
-/// notices that its own client has gone.
+/// A client of alice that has her maildrop. It comes again while that is locked: a session frees the lock once it notices
+/// that its own client has gone.
 fn log_in<R: Net<Stream = TcpStream> + Clock>(
     rt: &R,
     alloc: Global,

@@ -3,6 +3,8 @@
 #![tactic(auto)]
 
 #[cfg(test)]
+mod attack_tests;
+#[cfg(test)]
 mod bounds_tests;
 #[cfg(test)]
 mod hostile_tests;

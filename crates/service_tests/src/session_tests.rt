@@ -19,19 +19,19 @@ const ALICE: &str = "USER alice\r\nPASS s3\r\n";
 /// What bob sends to log in.
 const BOB: &str = "USER bob\r\nPASS s4\r\n";
 
-/// What a user is told at the login who has no mail.
+/// The reply to the login of a user who has no mail.
 const EMPTY: &str = "+OK send PASS\r\n+OK maildrop has 0 messages (0 octets)\r\n";
 
-/// What a user is told at the login who has the message of `MAILBOX`.
+/// The reply to the login of a user who has the message of `MAILBOX`.
 const ONE: &str = "+OK send PASS\r\n+OK maildrop has 1 messages (30 octets)\r\n";
 
-/// What a user is told at the login who has the messages of `TWO`.
+/// The reply to the login of a user who has the messages of `TWO`.
 const BOTH: &str = "+OK send PASS\r\n+OK maildrop has 2 messages (36 octets)\r\n";
 
-/// What a user is told at the login whose maildrop another session holds.
+/// The reply to the login of a user whose maildrop another session holds.
 const LOCKED: &str = "+OK send PASS\r\n-ERR [IN-USE] maildrop already locked\r\n";
 
-/// What a client sends to quit, and is told.
+/// What a client sends to quit, and the reply.
 const QUIT: &str = "QUIT\r\n";
 
 const BYE: &str = "+OK signing off\r\n";
@@ -158,7 +158,7 @@ const KEYS: Scene = Scene {
     ],
 };
 
-/// A lock is taken away: the next session gets it, and the one that had it goes on and removes nothing.
+/// A lock is broken: the next session gets it, and the one that had it goes on and removes nothing.
 const LOCKS: Scene = Scene {
     accounts: ACCOUNTS,
     mailbox: MAILBOX,
@@ -238,8 +238,8 @@ const CRASH: Scene = Scene {
     ],
 };
 
-/// The leader stops, at which a session has marked a message. Its user logs in at once at another node, which then has the
-/// lock, and all messages are there.
+/// A session has marked a message at the leader, and the leader stops. Its user logs in at once at another node, which then
+/// has the lock, and all messages are there.
 const FREED: Scene = Scene {
     accounts: ACCOUNTS,
     mailbox: TWO,
@@ -302,7 +302,7 @@ const LEADER: Scene = Scene {
     ],
 };
 
-/// Two of three nodes stop, and nothing is agreed on. Who waits is told that the last one has stopped.
+/// Two of three nodes stop, and nothing is agreed on. Whoever waits gets the answer that the last one has stopped.
 const NOBODY: Scene = Scene {
     accounts: ACCOUNTS,
     mailbox: "",
@@ -329,8 +329,8 @@ const NOBODY: Scene = Scene {
     ],
 };
 
-/// Two of three nodes stop, and then the service. Operators who wait for what nobody can agree on are told that their node
-/// has stopped.
+/// Two of three nodes stop, and then the service. Operators who wait for what nobody can agree on get the answer that their
+/// node has stopped.
 const UNDECIDED: Scene = Scene {
     accounts: ACCOUNTS,
     mailbox: "",
@@ -354,8 +354,8 @@ const UNDECIDED: Scene = Scene {
     ],
 };
 
-/// The leader stops, and then the service. The time of the nodes goes on until the last session has ended, so another node
-/// comes to lead, which a session needs at its end.
+/// The leader stops, and then the service. The nodes get ticks until the last session has ended, so another node comes to
+/// lead, which a session needs at its end.
 const LED_ANEW: Scene = Scene {
     accounts: ACCOUNTS,
     mailbox: MAILBOX,

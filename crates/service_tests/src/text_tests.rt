@@ -1,4 +1,4 @@
-//! What is told of a run, and of what ends it before its end.
+//! What is reported about a run, and about what ends it early.
 
 use ballot::NodeId;
 use ports::Fault;
@@ -30,7 +30,7 @@ fn verdicts_are_told(rt: HostRuntime) -> Result<(), Fail> {
     Ok(())
 }
 
-/// What the program says on standard error, and its exit status.
+/// What the program prints on standard error, and its exit status.
 const FAULTS: &[(Fault, &str, u8)] = &[
     (Fault::Value, "bad value", 2),
     (Fault::Account(12), "accounts line 12", 2),

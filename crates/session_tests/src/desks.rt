@@ -1,7 +1,9 @@
-//! What sessions of alice are served with: her account, a timestamp, and a desk with two messages.
+//! What sessions of alice are served with: her account, a timestamp, and a desk with two messages. After a session the desk's
+//! lock is free.
 
 use apop::{Accounts, Stamp, stamp};
-use samples::{alice, limits, mail};
+use maildrop::{Op, Outcome};
+use samples::{alice, check, limits, mail};
 use server::LoneDesk;
 use std::alloc::Allocator;
 use std::test::Fail;
@@ -23,4 +25,11 @@ pub fn desk_of_two<A: Allocator + Copy>(alloc: A) -> Result<LoneDesk<A>, Fail> {
         drop(desk.perform(alice()?, mail(alloc, &lines)?));
     }
     Ok(desk)
+}
+
+/// The desk's lock is free: no session holds it.
+pub fn check_free<A: Allocator + Copy>(desk: &mut LoneDesk<A>) -> Result<(), Fail> {
+    let (_, outcome) = desk.perform(alice()?, Op::Take).ok_or("no ticket")?;
+    let is_free = matches!(&outcome, Outcome::Taken(_));
+    check(is_free, "the desk holds a lock")
 }

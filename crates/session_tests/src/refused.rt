@@ -11,7 +11,7 @@ use session::{ReplyBytes, Session, SessionError, Step};
 use std::test::Fail;
 
 /// The number of the ticket of a session's Take, which is that of its lock.
-const LOCK: u64 = 3;
+pub const LOCK: u64 = 3;
 
 /// The number of the ticket of its Commit.
 const COMMIT: u64 = 9;
@@ -89,7 +89,7 @@ fn hear<'h>(
     }
 }
 
-fn hear_all<'h>(
+pub fn hear_all<'h>(
     heap: Heap<'h>,
     session: &mut Session<Heap<'h>>,
     accounts: &Accounts<Heap<'h>>,
@@ -103,7 +103,7 @@ fn hear_all<'h>(
 }
 
 /// Whether what is given back at a hangup is the lock, or nothing if none is held.
-fn gives_back(free: &Option<(Name, Op<Heap>)>, lock: Option<Ticket>) -> bool {
+pub fn gives_back(free: &Option<(Name, Op<Heap>)>, lock: Option<Ticket>) -> bool {
     match (free, lock) {
         (Some((_, Op::Free { lock: free })), Some(lock)) => *free == lock,
         (None, None) => true,

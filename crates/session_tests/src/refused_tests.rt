@@ -7,7 +7,7 @@ use samples::{Heap, Scenario, check, requests};
 use session::{Session, SessionError};
 use std::test::Fail;
 
-const GREETING: &[u8] = b"+OK POP3 server ready <1.1@localhost>\r\n";
+pub const GREETING: &[u8] = b"+OK POP3 server ready <1.1@localhost>\r\n";
 
 /// The greeting. A session that was refused memory for it is as it was.
 #[derive(Clone, Copy)]
@@ -38,11 +38,11 @@ type Row = (&'static [Heard], &'static str, Done, u64);
 
 const UNKNOWN: &[Heard] = &[Heard::Line("NOOP")];
 
-const NAMED: &[Heard] = &[Heard::Line("USER alice")];
+pub const NAMED: &[Heard] = &[Heard::Line("USER alice")];
 
-const LOCKING: &[Heard] = &[Heard::Line("USER alice"), Heard::Line("PASS s")];
+pub const LOCKING: &[Heard] = &[Heard::Line("USER alice"), Heard::Line("PASS s")];
 
-const LOGGED_IN: &[Heard] = &[
+pub const LOGGED_IN: &[Heard] = &[
     Heard::Line("USER alice"),
     Heard::Line("PASS s"),
     Heard::Taken,
@@ -55,7 +55,7 @@ const MARKED: &[Heard] = &[
     Heard::Line("DELE 1"),
 ];
 
-const QUITTING: &[Heard] = &[
+pub const QUITTING: &[Heard] = &[
     Heard::Line("USER alice"),
     Heard::Line("PASS s"),
     Heard::Taken,

@@ -1,9 +1,8 @@
 //! Whole sessions through `serve`.
 
-use crate::desks::{accounts, desk_of_two, lone_stamp};
-use maildrop::{Op, Outcome};
+use crate::desks::{accounts, check_free, desk_of_two, lone_stamp};
 use refusing::Refusal;
-use samples::{Heap, Scenario, alice, check, requests};
+use samples::{Heap, Scenario, check, requests};
 use server::LoneDesk;
 use session::{End, OpenGate, Transcript, serve};
 use std::test::Fail;
@@ -23,13 +22,6 @@ fn is_end(heap: Heap, end: End, is_whole: bool) -> bool {
         End::Memory | End::DeskStopped => heap.has_refused(),
         _ => false,
     }
-}
-
-/// The session gave back the lock that it took.
-fn check_free<'h>(desk: &mut LoneDesk<Heap<'h>>) -> Result<(), Fail> {
-    let (_, outcome) = desk.perform(alice()?, Op::Take).ok_or("no ticket")?;
-    let is_free = matches!(&outcome, Outcome::Taken(_));
-    check(is_free, "the desk holds a lock")
 }
 
 impl Served {

@@ -13,11 +13,20 @@ use world::{Event, World};
 pub struct Course {
     /// The service.
     pub world: World,
-    /// What has happened so far, without the crash.
-    pub events: Vec<Event>,
+    /// What has happened so far, event by event, without the crash.
+    pub happened: Vec<Happening>,
     node: NodeId,
     /// How many events are still to come before the node crashes; None once it has.
     left: Option<usize>,
+}
+
+/// An event that comes by itself, in short.
+fn in_short(event: &Event) -> Result<Happening, Fail> {
+    match event {
+        Event::Arrive(place) => Ok(Happening::Arrive(*place)),
+        Event::Collect { session } => Ok(Happening::Collect(session.get())),
+        _ => Err("another event comes by itself")?,
+    }
 }
 
 impl Course {
@@ -27,15 +36,15 @@ impl Course {
         let config = config(alloc)?;
         Ok(Course {
             world: World::new(alloc, config)?,
-            events: Vec::new(alloc),
+            happened: Vec::new(alloc),
             node,
             left: Some(place),
         })
     }
 
-    /// An event happens, the crash before it if it is time. The same event is kept.
-    fn step(&mut self, event: Event, kept: Event) -> Result<(), Fail> {
-        self.events.push(kept)?;
+    /// An event happens, the crash before it if it is time. It is kept in short.
+    fn step(&mut self, event: Event, happening: Happening) -> Result<(), Fail> {
+        self.happened.push(happening)?;
         match self.left {
             None => {}
             Some(0) => {
@@ -50,12 +59,12 @@ impl Course {
     /// All that comes by itself happens: as many events as the run says, unless the node has crashed.
     fn settle(&mut self, expected: u64) -> Result<(), Fail> {
         for events in 0..LIMIT {
-            let (Some(event), Some(kept)) = (self.world.next_oldest(0), self.world.next_oldest(0))
-            else {
+            let Some(event) = self.world.next_oldest(0) else {
                 let is_expected = self.left.is_none() || events == expected;
                 return check(is_expected, "another number of events comes by itself");
             };
-            self.step(event, kept)?;
+            let happening = in_short(&event)?;
+            self.step(event, happening)?;
         }
         Err("events come by themselves without end")?
     }
@@ -63,10 +72,7 @@ impl Course {
     fn happen(&mut self, alloc: Global, happening: Happening) -> Result<(), Fail> {
         match happening {
             Happening::Settle(expected) => self.settle(expected),
-            _ => {
-                let event = event_of(alloc, happening)?;
-                self.step(event, event_of(alloc, happening)?)
-            }
+            _ => self.step(event_of(alloc, happening)?, happening),
         }
     }
 

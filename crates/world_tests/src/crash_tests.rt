@@ -23,7 +23,8 @@ fn count_events() -> usize {
     events
 }
 
-/// A node stops before each event of the run in turn, and in one more run not at all.
+/// A node stops before each event of the run in turn, and in one more run not at all. What each run tells is held against the
+/// same replies, so of any two runs one tells how the other begins.
 #[test]
 fn a_session_is_told_no_more_than_before_a_crash(rt: HostRuntime) -> Result<(), Fail> {
     let events = count_events();

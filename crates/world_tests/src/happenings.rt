@@ -29,6 +29,10 @@ pub enum Happening {
     Line(u64, &'static str),
     /// A client is gone.
     Hangup(u64),
+    /// The message that was sent as this number arrives.
+    Arrive(usize),
+    /// A session takes its answer.
+    Collect(u64),
     /// So many events come by themselves: in the run all that do.
     Settle(u64),
 }
@@ -94,7 +98,7 @@ pub fn config<A: Allocator + Copy>(alloc: A) -> Result<Config<A>, Fail>
     })
 }
 
-/// The event that happens, if it doesn't come by itself.
+/// The event that happens, if it is one.
 pub fn event_of<A: Allocator + Copy>(alloc: A, happening: Happening) -> Result<Event<A>, Fail> {
     Ok(match happening {
         Happening::Crash(number) => Event::Crash(node(number)?),
@@ -117,7 +121,11 @@ pub fn event_of<A: Allocator + Copy>(alloc: A, happening: Happening) -> Result<E
         Happening::Hangup(number) => Event::Hangup {
             session: SessionId::new(number),
         },
-        Happening::Settle(_) => Err("this comes by itself")?,
+        Happening::Arrive(place) => Event::Arrive(place),
+        Happening::Collect(number) => Event::Collect {
+            session: SessionId::new(number),
+        },
+        Happening::Settle(_) => Err("this is more than one event")?,
     })
 }
 

@@ -17,9 +17,15 @@ mod lost_tests;
 #[cfg(test)]
 mod memory_tests;
 #[cfg(test)]
+mod missed_tests;
+#[cfg(test)]
+mod no_request_tests;
+#[cfg(test)]
 mod nodes;
 #[cfg(test)]
 mod order_tests;
+#[cfg(test)]
+mod performed;
 #[cfg(test)]
 mod run_tests;
 #[cfg(test)]
