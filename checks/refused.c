@@ -1,26 +1,50 @@
-/* Refuses the request for memory of the number FAIL_AT, and with FAIL_ALL also each that follows. */
-#define _GNU_SOURCE
-#include <dlfcn.h>
+/* Refuses requests for memory of the program that loads it first. The file that REFUSED names holds four numbers of 64 bits:
+   the first and the last request that are refused, counted from 1, how many there were, and how many of these were refused.
+   The first two may be changed while the program runs. */
 #include <errno.h>
+#include <fcntl.h>
+#include <stddef.h>
+#include <stdint.h>
 #include <stdlib.h>
+#include <sys/mman.h>
+#include <unistd.h>
 
-static long first, requests;
+/* What the C library calls its own. */
+void *__libc_malloc(size_t size);
+void *__libc_realloc(void *block, size_t size);
 
+enum { FIRST, LAST, REQUESTS, REFUSED, NUMBERS };
+
+static volatile uint64_t *numbers;
+
+__attribute__((constructor)) static void share_numbers(void) {
+    const char *path = getenv("REFUSED");
+    int file = path ? open(path, O_RDWR) : -1;
+    if (file < 0)
+        _exit(99);
+    void *place = mmap(NULL, NUMBERS * sizeof(uint64_t), PROT_READ | PROT_WRITE, MAP_SHARED, file, 0);
+    close(file);
+    if (place == MAP_FAILED)
+        _exit(99);
+    numbers = place;
+}
+
+/* Counts a request. Those before the numbers are shared are the system's, and are granted. */
 static int is_refused(void) {
-    if (requests++ == 0 && getenv("FAIL_AT"))
-        first = atol(getenv("FAIL_AT"));
-    int is_hit = getenv("FAIL_ALL") ? requests >= first : requests == first;
-    if (first > 0 && is_hit)
-        errno = ENOMEM;
-    return first > 0 && is_hit;
+    if (!numbers)
+        return 0;
+    uint64_t request = __atomic_add_fetch(&numbers[REQUESTS], 1, __ATOMIC_SEQ_CST);
+    if (request < numbers[FIRST] || request > numbers[LAST])
+        return 0;
+    __atomic_add_fetch(&numbers[REFUSED], 1, __ATOMIC_SEQ_CST);
+    errno = ENOMEM;
+    return 1;
 }
 
 void *malloc(size_t size) {
-    void *(*next)(size_t) = dlsym(RTLD_NEXT, "malloc");
-    return is_refused() ? NULL : next(size);
+    return is_refused() ? NULL : __libc_malloc(size);
 }
 
 void *realloc(void *block, size_t size) {
-    void *(*next)(void *, size_t) = dlsym(RTLD_NEXT, "realloc");
-    return is_refused() ? NULL : next(block, size);
+    return is_refused() ? NULL : __libc_realloc(block, size);
 }
