@@ -112,21 +112,21 @@ fn a_connection_fails(rt: HostRuntime) -> Result<(), Fail> {
 /// How many of the frames are whole within so many bytes, and how many bytes these have.
 fn whole_within(alloc: Global, most: usize) -> Result<(u64, usize), Fail> {
     let (ask, decision) = (ask(alloc, 1)?.len(), decision(alloc)?.len());
-    let mut count = 0;
+    let mut count: u64 = 0;
     let mut end: usize = 0;
     for len in [ask, ask, decision, ask, ask, ask] {
         if end.saturating_add(len) > most {
             break;
         }
         end = end.saturating_add(len);
-        count += 1;
+        count = count.saturating_add(1);
     }
     Ok((count, end))
 }
 
 /// The frames come in two pieces, the second of which begins at this place.
 fn check_cut(alloc: Global, frames: &[u8], place: usize) -> Result<(), Fail> {
-    let (first, second) = frames.split_at(place);
+    let (first, second) = frames.split_at(place.min(frames.len()));
     let (whole, end) = whole_within(alloc, place)?;
     for fails in [false, true] {
         let mut reader = Cut {
@@ -139,7 +139,7 @@ fn check_cut(alloc: Global, frames: &[u8], place: usize) -> Result<(), Fail> {
                 count: whole,
                 end: End::ReadFault,
             };
-            (&frames[..end], received)
+            (frames.get(..end).ok_or("no front")?, received)
         } else {
             let received = Received {
                 count: FRAMES,
