@@ -76,7 +76,7 @@ fn is_refused_with<R: Net<Stream = TcpStream>>(
     Ok(true)
 }
 
-/// What an operator is told who sends a line and then these bytes, and whether the connection was closed before all was sent.
+/// The answer to a line and these bytes after it, and whether the connection was closed before all was sent.
 fn told_early<R: Net<Stream = TcpStream>>(
     rt: &R,
     alloc: Global,
@@ -107,7 +107,7 @@ fn is_long_refused<R: Net<Stream = TcpStream>>(
     Ok(told.as_slice() == REFUSED)
 }
 
-/// What an operator is told who sends these bytes one by one.
+/// The answer to these bytes, which are sent one by one.
 fn told_slowly<R: Net<Stream = TcpStream> + Clock>(
     rt: &R,
     alloc: Global,

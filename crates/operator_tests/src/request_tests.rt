@@ -106,7 +106,7 @@ const DELIVERIES: Scene = Scene {
             "op alice 1/3 stored 3\nop alice 1/4 full\nend\n",
         ),
         Asks("deliver 1 alice 5 k\nFrom ", "op alice 1/5 stored 2\nend\n"),
-        // What stands behind the five bytes is not read: there is one message.
+        // Nothing is read after the five bytes: there is one message.
         Asks(
             "deliver 1 alice 5 k\nFrom x\n\nFrom y\n",
             "op alice 1/6 stored 2\nend\n",

@@ -37,8 +37,8 @@ pub fn send(stream: &TcpStream, bytes: &[u8]) -> Result<(), Fail> {
 /// How many bytes the address of a socket has.
 const ADDRESS_BYTES: u32 = 16;
 
-/// Resets a connection: its peer is told so at once, whatever was sent and isn't read. The system does this for a socket that
-/// connects to an address of no family. Returns whether it did.
+/// Resets a connection, also if its peer hasn't read all that was sent. The system does this for a socket that connects to an
+/// address of no family. Returns whether it did.
 pub fn reset(stream: &TcpStream) -> bool {
     let no_family = [0u8; 128];
     unsafe { net::connect(stream.as_raw_fd(), &no_family, ADDRESS_BYTES) == 0 }

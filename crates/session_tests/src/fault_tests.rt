@@ -13,8 +13,8 @@ use std::test::Fail;
 
 const GREETING: &str = "+OK POP3 server ready <1.1@localhost>\r\n";
 
-/// A line, its reply, and all that the desk is asked or told if this is the last line that is heard: `T`, `C` and `F` for a
-/// Take, a Commit and a Free that it is asked, `f` for a Free that it is told.
+/// A line, its reply, and the calls of the desk if this is the last line that is heard: `T`, `C` and `F` if it is asked for a
+/// Take, a Commit and a Free, `f` for a Free without an answer.
 type Turn = (&'static str, &'static str, &'static str);
 
 /// How each session begins, over two messages of 20 and 21 octets.
@@ -166,8 +166,8 @@ impl Desk<Op, Outcome> for RecordingDesk {
     }
 }
 
-/// Whether an entry of the transcript is that of a letter: with its line, or none for what is told, its lock, its ticket, and
-/// its outcome if it was asked. The last line heard has this number.
+/// Whether an entry of the transcript is that of a letter, with its lock and its ticket. It has a line and an outcome only if
+/// the desk was asked. The last line heard has this number.
 fn is_entry(entry: &Asked, letter: char, last: u64) -> Result<bool, Fail> {
     let own = ticket(LOCK)?;
     let (line, number) = match (letter, &entry.op, &entry.outcome) {
@@ -356,9 +356,9 @@ fn check_reads(
     Ok(())
 }
 
-/// A writer that fails, or takes nothing, ends the session at that byte, and one that takes all doesn't. A session that has
-/// its lock then, and asked neither a Commit nor a Free, tells one Free, and no other tells any. With a buffer this is so at
-/// the first flush that fails.
+/// A writer that fails, or takes nothing, ends the session at that byte. One that takes all doesn't. A session that still has
+/// its lock then frees it once, if it asked for no Commit and no Free. Other sessions free nothing. With a buffer this happens
+/// at the first flush that fails.
 #[test]
 fn a_full_writer_ends_the_session(rt: HostRuntime) -> Result<(), Fail> {
     let accounts = accounts(rt.alloc())?;

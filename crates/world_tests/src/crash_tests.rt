@@ -23,8 +23,8 @@ fn count_events() -> usize {
     events
 }
 
-/// A node stops before each event of the run in turn, and in one more run not at all. What each run tells is held against the
-/// same replies, so of any two runs one tells how the other begins.
+/// A node stops before each event of the run in turn, and in one more run not at all. Each run is compared with the same
+/// replies, so the replies of one of any two runs are a prefix of the other's.
 #[test]
 fn a_session_is_told_no_more_than_before_a_crash(rt: HostRuntime) -> Result<(), Fail> {
     let events = count_events();
