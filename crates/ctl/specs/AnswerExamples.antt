@@ -38,6 +38,16 @@ deliveries_wait = refl
 stops_do_not : awaits_nodes (request.Stop true true) ≡ false
 stops_do_not = refl
 
+rolls_wait : awaits_nodes request.Roll ≡ true
+rolls_wait = refl
+
+rolled : ending_by (Ask request.Roll) (codes "rolled") ≡ Done
+rolled = refl
+
+-- the service has ended, or its nodes have ports
+not_rolled : ending_by (Ask request.Roll) (codes "down") ≡ Refused
+not_rolled = refl
+
 in_order : ending_by (Ask (request.Stop false true)) (codes "audit ok") ≡ Done
 in_order = refl
 

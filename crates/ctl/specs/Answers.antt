@@ -14,7 +14,7 @@ use Rattle.ctl.specs.declared.answer.Ending.TheVariants.{Broken, Refused, Wrong,
 use Rattle.ports.specs.declared.fault.Fault.{Fault}
 use Rattle.ports.specs.declared.fault.Fault.TheVariants.{Read}
 
--- the answer may have to wait until the nodes have decided, however long that takes
+-- the answer may have to wait until the nodes have decided, or those of the next epoch lead, however long that takes
 abbrev pub awaits_nodes : Request → Bool
 awaits_nodes (request.Deliver node user count key) = true
 awaits_nodes (request.Put addressed user count key) = true
@@ -26,6 +26,7 @@ awaits_nodes request.Sessions = false
 awaits_nodes request.Stats = false
 awaits_nodes request.Locks = false
 awaits_nodes request.Users = false
+awaits_nodes request.Roll = true
 awaits_nodes (request.Stop now wait) = false
 
 abbrev pub awaits_answer : Instruction → Bool
@@ -68,6 +69,7 @@ ends_request request.Sessions line = bytes_eq line (codes "end")
 ends_request request.Stats line = bytes_eq line (codes "end")
 ends_request request.Locks line = bytes_eq line (codes "end")
 ends_request request.Users line = bytes_eq line (codes "end")
+ends_request request.Roll line = bytes_eq line (codes "rolled")
 ends_request (request.Stop now wait) line = ends_stop wait line
 
 abbrev pub ends_answer : Instruction → List ℕ → Bool

@@ -92,6 +92,7 @@ fn ends_request(request: &Request, line: &[u8]) -> bool
         }
         Request::Kick { .. } => line.starts_with(b"kicked "),
         Request::Crash { .. } => line == b"crashed".as_slice(),
+        Request::Roll => line == b"rolled".as_slice(),
         Request::Stop { wait, .. } => ends_stop(*wait, line),
     }
 }

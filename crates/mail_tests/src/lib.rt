@@ -1,5 +1,5 @@
-//! Tests of maildrops, mailboxes, accounts, the wire and scripts, of what no clause says: requests for memory that are
-//! refused, and the office, texts and mailboxes beside plain lists. There is nothing here but tests.
+//! Tests of maildrops, mailboxes, files of records, accounts, the wire and scripts, of what no clause says: requests for
+//! memory that are refused, and the office, texts and mailboxes beside plain lists. There is nothing here but tests.
 #![tactic(auto)]
 
 #[cfg(test)]
@@ -30,6 +30,8 @@ mod plain_text;
 mod random;
 #[cfg(test)]
 mod reading_tests;
+#[cfg(test)]
+mod records_tests;
 #[cfg(test)]
 mod short;
 #[cfg(test)]

@@ -20,6 +20,7 @@ const REQUESTS: &str = "Requests:
   stats                         Reports what the service has done so far
   locks                         Lists the users whose maildrop is locked, and by which node's session
   users                         Lists the users, and what their maildrops have
+  roll                          Ends the epoch: the next one reads the accounts anew and has all nodes up, with the same mail
   stop                          Ends the service, once its sessions have ended
   stop now                      Ends the service, and cuts its sessions
 After the first word of a request nothing is an option.
@@ -37,6 +38,7 @@ Examples:
   maildropd ctl --port 11999 stats
   maildropd ctl --port 11999 locks
   maildropd ctl --port 11999 users
+  maildropd ctl --port 11999 roll
   maildropd ctl --port 11999 --wait stop
   maildropd ctl --socket /run/maildropd/ctl stop now";
 

@@ -6,7 +6,7 @@ use crate::arguments::{
 };
 use clap::{ArgMatches, Command, Error};
 use ports::Fault;
-use service::{NodeOptions, ServeOptions, serve_node_run, serve_run};
+use service::{NodeOptions, OnFault, ServeOptions, serve_node_run, serve_run};
 use std::alloc::Global;
 use std::fs::File;
 use std::io;
@@ -25,6 +25,7 @@ const EXAMPLES: &str = "Examples, with a line `alice pass secret` in the file ac
   maildropd serve --accounts accounts --port 11000 --ctl-port 11999 --idle-seconds 1800 --no-majority-seconds 0 --delivery-bytes 268435456
 After the first, POP3 connections are taken at 127.0.0.1:11000, and served at the node that leads.
 `maildropd ctl --port 11999 stop` ends it. Then it prints what an audit finds: `audit ok` with the status 0, or what is wrong with the status 1.
+It prints the same about each epoch that ends before, as `epoch 1: audit ok`. `maildropd ctl --port 11999 roll` ends one, and reads the accounts anew.
 All mail lies in memory, and is gone when the process ends.
 Each node in a process of its own, here node 2 of three, with a port of its own for clients and one for its operator:
   maildropd serve --accounts accounts --node 2 --peer-port 12000 --mark /var/lib/maildropd --port 11002 --ctl-port 11992
@@ -156,7 +157,7 @@ const OPTIONS: &[Choice] = &[
         value: "SECONDS",
         kind: Kind::Number,
         presence: Presence::Default("30"),
-        help: "Ends the service after this time without a majority of the nodes, at most 1000000; 0: never",
+        help: "Ends the epoch after this time without a majority of the nodes, at most 1000000; 0: never. All nodes are up in the next one. With --peer-port the service ends",
     },
     Choice {
         name: "delivery-bytes",
@@ -164,6 +165,34 @@ const OPTIONS: &[Choice] = &[
         kind: Kind::Number,
         presence: Presence::Default("1073741824"),
         help: "How many bytes the files have together that are delivered at a time, at most 2^40. What doesn't fit waits",
+    },
+    Choice {
+        name: "epoch-sessions",
+        value: "COUNT",
+        kind: Kind::Number,
+        presence: Presence::Default("20000"),
+        help: "Ends an epoch after this many sessions, once none is open, at most 2^40; 0: after any number",
+    },
+    Choice {
+        name: "epoch-bytes",
+        value: "COUNT",
+        kind: Kind::Number,
+        presence: Presence::Default("268435456"),
+        help: "Ends an epoch once about so many bytes are kept for its audit, at most 2^40; 0: after any number",
+    },
+    Choice {
+        name: "keys",
+        value: "COUNT",
+        kind: Kind::Number,
+        presence: Presence::Default("10000"),
+        help: "How many keys of deliveries are kept of a maildrop when an epoch begins, the last ones, at most 2^40",
+    },
+    Choice {
+        name: "on-fault",
+        value: "ACTION",
+        kind: Kind::Text,
+        presence: Presence::Default("stop"),
+        help: "If an audit finds an epoch that was not in order: stop ends the service, go-on doesn't",
     },
     Choice {
         name: "log",
@@ -184,9 +213,19 @@ pub(crate) fn serve<'a>(alloc: Global) -> Result<Command<'a>, Error> {
     with_options(alloc, serve, OPTIONS)
 }
 
-/// What the options say, or nothing if the address is none.
+/// What becomes of the service after a fault, or nothing if the word is none.
+fn on_fault_of(word: &str) -> Option<OnFault> {
+    match word {
+        "stop" => Some(OnFault::Stop),
+        "go-on" => Some(OnFault::GoOn),
+        _ => None,
+    }
+}
+
+/// What the options say, or nothing if the address or the word after a fault is none.
 fn options_of<'a>(matches: &ArgMatches<'a>) -> Option<ServeOptions<'a>> {
     let listen = text_of(matches, "listen").parse::<IpAddr>().ok()?;
+    let on_fault = on_fault_of(text_of(matches, "on-fault"))?;
     Some(ServeOptions {
         accounts: text_of(matches, "accounts"),
         port: optional_number_of(matches, "port"),
@@ -205,6 +244,10 @@ fn options_of<'a>(matches: &ArgMatches<'a>) -> Option<ServeOptions<'a>> {
         idle_seconds: number_of(matches, "idle-seconds"),
         no_majority_seconds: number_of(matches, "no-majority-seconds"),
         delivery_bytes: number_of(matches, "delivery-bytes"),
+        epoch_sessions: number_of(matches, "epoch-sessions"),
+        epoch_bytes: number_of(matches, "epoch-bytes"),
+        keys: number_of(matches, "keys"),
+        on_fault,
         log: optional_text_of(matches, "log"),
     })
 }

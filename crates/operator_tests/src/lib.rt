@@ -11,4 +11,6 @@ mod ports_tests;
 #[cfg(test)]
 mod request_tests;
 #[cfg(test)]
+mod roll_tests;
+#[cfg(test)]
 mod start_tests;

@@ -1,4 +1,4 @@
-//! Services at one port for all nodes, without a majority, and at their ends.
+//! Services at one port for all nodes, after they lacked a majority, and at their ends.
 
 use service_players::Row::{Comes, Ctl, Ends, Refused, Says, Shows};
 use service_players::{
@@ -50,12 +50,15 @@ fn are_served_by_a_majority<
 }
 
 #[test]
-fn a_service_without_a_majority_ends(rt: HostRuntime) -> Result<(), Fail> {
+fn a_service_without_a_majority_goes_on_with_all_nodes(rt: HostRuntime) -> Result<(), Fail> {
     let alloc = rt.alloc();
     let service = start_planned!(rt, alloc, at_one_port(&rt, alloc, ACCOUNTS));
     let are_served = are_served_by_a_majority(&rt, alloc, &service)?;
-    let (status, written) = service.end(&rt);
-    assert!(rt; are_served && status == 1 && written.as_slice() == b"audit ok\n".as_slice());
+    let by_all = is_served(&rt, alloc, &service)?;
+    let third = service.ctl(&rt, alloc, &["crash", "1"]);
+    let (status, written) = service.stop(&rt, alloc)?;
+    assert!(rt; are_served && by_all && third.is(0, b"crashed\n") && status == 0);
+    assert_eq!(rt; written.as_slice(), b"epoch 1: audit ok\naudit ok\n".as_slice());
     Ok(())
 }
 

@@ -17,6 +17,10 @@ pub(crate) struct Arrival<S> {
 struct Queue<S> {
     arrivals: VecDeque<Arrival<S>>,
     most: usize,
+    /// Whether none is handed out.
+    is_paused: bool,
+    /// How often the queue was handed over: only who serves it since the last time gets connections.
+    generation: u64,
     is_closed: bool,
 }
 
@@ -26,9 +30,11 @@ impl<S: Drop> Queue<S> {
         !self.is_closed && self.arrivals.len() >= self.most
     }
 
-    /// Whether whoever takes one has to wait.
-    fn is_empty(&self) -> bool {
-        !self.is_closed && self.arrivals.is_empty()
+    /// Whether who serves the queue since it was handed over so often has to wait.
+    fn keeps_waiting(&self, generation: u64) -> bool {
+        !self.is_closed
+            && self.generation == generation
+            && (self.is_paused || self.arrivals.is_empty())
     }
 
     /// Takes the oldest out if there is no room for one more.
@@ -65,6 +71,8 @@ impl<S: Drop> Arrivals<S> {
         let queue = Queue {
             arrivals,
             most,
+            is_paused: false,
+            generation: 0,
             is_closed: false,
         };
         Ok(Arrivals {
@@ -91,20 +99,57 @@ impl<S: Drop> Arrivals<S> {
         self.changes.notify_all();
     }
 
-    /// Waits for a connection, and returns the one that came last. None once the queue is closed.
-    pub(crate) fn newest<R: Wait>(&self, rt: &R) -> Option<Arrival<S>> {
+    /// Waits for a connection, and returns the one that came last. None once the queue is closed, or was handed over more
+    /// often than so.
+    pub(crate) fn newest<R: Wait>(&self, rt: &R, generation: u64) -> Option<Arrival<S>> {
         let guard = self.queue.lock(rt);
-        let mut guard = self.changes.wait_while(rt, guard, |queue| queue.is_empty());
+        let mut guard = self
+            .changes
+            .wait_while(rt, guard, |queue| queue.keeps_waiting(generation));
+        if guard.generation != generation {
+            return None;
+        }
         guard.arrivals.pop_back()
     }
 
-    /// Waits for the next connection. None once the queue is closed.
-    pub(crate) fn next<R: Wait>(&self, rt: &R) -> Option<Arrival<S>> {
+    /// Waits for the next connection. None once the queue is closed, or was handed over more often than so.
+    pub(crate) fn next<R: Wait>(&self, rt: &R, generation: u64) -> Option<Arrival<S>> {
         let guard = self.queue.lock(rt);
-        let mut guard = self.changes.wait_while(rt, guard, |queue| queue.is_empty());
+        let mut guard = self
+            .changes
+            .wait_while(rt, guard, |queue| queue.keeps_waiting(generation));
+        if guard.generation != generation {
+            return None;
+        }
         let next = guard.arrivals.pop_front();
         self.changes.notify_all();
         next
+    }
+
+    /// How often the queue was handed over.
+    pub(crate) fn generation<R: Wait>(&self, rt: &R) -> u64 {
+        self.queue.lock(rt).generation
+    }
+
+    /// Lets connections wait, and who serves them.
+    pub(crate) fn pause<R: Wait>(&self, rt: &R) {
+        self.queue.lock(rt).is_paused = true;
+        self.changes.notify_all();
+    }
+
+    /// Lets connections wait for others to serve them. Who serves them now gets none any more.
+    pub(crate) fn hand_over<R: Wait>(&self, rt: &R) {
+        let mut guard = self.queue.lock(rt);
+        let queue = &mut *guard;
+        queue.is_paused = true;
+        queue.generation = queue.generation.wrapping_add(1);
+        self.changes.notify_all();
+    }
+
+    /// Hands connections out again.
+    pub(crate) fn resume<R: Wait>(&self, rt: &R) {
+        self.queue.lock(rt).is_paused = false;
+        self.changes.notify_all();
     }
 
     /// Whether connections wait.

@@ -53,8 +53,8 @@ pub enum Fault {
 }
 
 impl Fault {
-    /// The exit status: 2 for a fault of the options, the words or the accounts file and for a node that was started before, 1 for a fault of memory, reading,
-    /// writing or the network.
+    /// The exit status: 2 for a fault of the options, the words or the accounts file and for a node that was started before,
+    /// 1 for a fault of memory, reading, writing or the network.
     pub fn status(self) -> u8
         ensures { result ≡ status_at self }
     {

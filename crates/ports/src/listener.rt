@@ -76,6 +76,24 @@ impl<S: Drop, L: Listening<S> + Drop> Port<S, L> {
         self.listener.close();
     }
 
+    /// Lets the connections wait that come from now on, until `resume`.
+    pub fn pause<R: Wait>(&self, rt: &R) {
+        self.arrivals.pause(rt);
+    }
+
+    /// Lets the connections wait that come from now on, until others are started to serve them, and `resume` is called. The
+    /// threads that `start_serving` and `start_reserve` have started end once the connections that they serve have ended.
+    pub fn hand_over<R: Wait>(&self, rt: &R) {
+        self.arrivals.hand_over(rt);
+        self.unserved.hand_over(rt);
+    }
+
+    /// Has the connections served that wait, and those that come.
+    pub fn resume<R: Wait>(&self, rt: &R) {
+        self.arrivals.resume(rt);
+        self.unserved.resume(rt);
+    }
+
     /// Waits for a connection, and takes it. Returns false once the port is closed.
     fn takes_one<R: Wait + Clock>(&self, rt: &R) -> bool {
         match self.listener.accept() {
@@ -100,7 +118,7 @@ impl<S: Drop, L: Listening<S> + Drop> Port<S, L> {
 }
 
 impl<S: Connection + Send + Sync + Drop + 'static, L: Listening<S>> Port<S, L> {
-    /// Has the connections served that are taken, until the port is closed. They go on to their ends then.
+    /// Has the connections served that are taken, until the port is handed over or closed. They go on to their ends then.
     fn serve_all<R: System, H: Handler<S> + Send + Drop + 'static>(
         &self,
         rt: R,
@@ -108,10 +126,11 @@ impl<S: Connection + Send + Sync + Drop + 'static, L: Listening<S>> Port<S, L> {
         handler: &H,
         ended: Ended,
         idle: IdleWorkers<S>,
+        generation: u64,
     ) {
         let mut workers = Workers::new(alloc, ended, idle, self.most);
         for _ in rt.forever() {
-            let Some(arrival) = self.arrivals.next(&rt) else {
+            let Some(arrival) = self.arrivals.next(&rt, generation) else {
                 break;
             };
             if handler.is_open() {
@@ -129,11 +148,11 @@ impl<S: Connection + Send + Sync + Drop + 'static, L: Listening<S>> Port<S, L> {
         workers.end(&rt);
     }
 
-    /// Serves the connections for which there is nothing else, one after another and briefly, until the port is closed. The
-    /// one that came last is served first, so that many silent ones don't keep it waiting.
-    fn serve_unserved<R: Wait, H: Handler<S>>(&self, rt: &R, handler: &mut H) {
+    /// Serves the connections for which there is nothing else, one after another and briefly, until the port is handed over
+    /// or closed. The one that came last is served first, so that many silent ones don't keep it waiting.
+    fn serve_unserved<R: Wait, H: Handler<S>>(&self, rt: &R, handler: &mut H, generation: u64) {
         for _ in rt.forever() {
-            let Some(arrival) = self.unserved.newest(rt) else {
+            let Some(arrival) = self.unserved.newest(rt, generation) else {
                 break;
             };
             let stream = arrival.stream.stream();
@@ -157,8 +176,9 @@ pub fn start_reserve<
 ) -> Result<(), Fault> {
     threads.reserve(1)?;
     let port = Arc::try_clone(port)?;
+    let generation = port.unserved.generation(&rt);
     let mut handler = handler;
-    let run = move || port.serve_unserved(&rt, &mut handler);
+    let run = move || port.serve_unserved(&rt, &mut handler, generation);
     let Ok(thread) = Builder::new().stack_size(STACK).spawn(&rt, run) else {
         return Err(Fault::Memory);
     };
@@ -166,7 +186,8 @@ pub fn start_reserve<
     Ok(())
 }
 
-/// Starts the thread that has the connections of a port served. It ends once the port is closed and they have ended.
+/// Starts the thread that has the connections of a port served. It ends once the port is handed over or closed, and they have
+/// ended.
 pub fn start_serving<
     R: System,
     S: Connection + Send + Sync + Drop + 'static,
@@ -183,7 +204,8 @@ pub fn start_serving<
     let ended = Arc::new(alloc, Mutex::new(Vec::new(alloc)))?;
     let idle = IdleWorkers::new(alloc)?;
     let port = Arc::try_clone(port)?;
-    let run = move || port.serve_all(rt, alloc, &handler, ended, idle);
+    let generation = port.arrivals.generation(&rt);
+    let run = move || port.serve_all(rt, alloc, &handler, ended, idle, generation);
     let Ok(thread) = thread::spawn(&rt, run) else {
         return Err(Fault::Memory);
     };

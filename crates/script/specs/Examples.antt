@@ -319,6 +319,9 @@ locks_of_a_user = refl
 users_request : request_of (codes "users") ≡ Some request.Users
 users_request = refl
 
+roll_request : request_of (codes "roll") ≡ Some request.Roll
+roll_request = refl
+
 users_and_a_space : request_of (codes "users ") ≡ None
 users_and_a_space = refl
 
@@ -377,6 +380,9 @@ locks_text = refl
 
 users_text : request_text request.Users ≡ codes "users"
 users_text = refl
+
+roll_text : request_text request.Roll ≡ codes "roll"
+roll_text = refl
 
 stop_now_wait_text : request_text (request.Stop true true) ≡ codes "stop now wait"
 stop_now_wait_text = refl
@@ -450,6 +456,9 @@ locks_words_one_more = refl
 
 users_words : instruction_of (codes "users" ∷ []) ≡ asks request.Users
 users_words = refl
+
+roll_words : instruction_of (codes "roll" ∷ []) ≡ asks request.Roll
+roll_words = refl
 
 users_words_one_more : instruction_of (codes "users" ∷ codes "alice" ∷ []) ≡ no_words
 users_words_one_more = refl

@@ -80,6 +80,7 @@ single_word line =
     else if bytes_eq line (codes "stats") then Some request.Stats
     else if bytes_eq line (codes "locks") then Some request.Locks
     else if bytes_eq line (codes "users") then Some request.Users
+    else if bytes_eq line (codes "roll") then Some request.Roll
     else None
 
 abbrev pub request_cut : Option (List ℕ × List ℕ) → List ℕ → Option Request
@@ -123,6 +124,7 @@ request_text request.Sessions = codes "sessions"
 request_text request.Stats = codes "stats"
 request_text request.Locks = codes "locks"
 request_text request.Users = codes "users"
+request_text request.Roll = codes "roll"
 request_text (request.Stop now wait) = stop_text now wait
 
 abbrev pub HasKeyPrefix : Option (List ℕ) → Type 0
@@ -150,4 +152,5 @@ IsRequest request.Sessions = Unit {0}
 IsRequest request.Stats = Unit {0}
 IsRequest request.Locks = Unit {0}
 IsRequest request.Users = Unit {0}
+IsRequest request.Roll = Unit {0}
 IsRequest (request.Stop now wait) = Unit {0}

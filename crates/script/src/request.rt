@@ -56,6 +56,8 @@ pub enum Request {
     Locks,
     /// `users`: what each maildrop holds.
     Users,
+    /// `roll`: the epoch ends, and the next one begins with the maildrops that it leaves.
+    Roll,
     /// `stop`, `stop now`, `stop wait` or `stop now wait`: the service ends.
     Stop {
         /// Open sessions are cut.
@@ -203,6 +205,8 @@ pub(crate) fn single_word(line: &[u8]) -> Option<Request>
         Some(Request::Locks)
     } else if line == b"users".as_slice() {
         Some(Request::Users)
+    } else if line == b"roll".as_slice() {
+        Some(Request::Roll)
     } else {
         None
     }

@@ -147,6 +147,7 @@ fn put_text<A: Allocator>(out: &mut Vec<u8, A>, request: &Request) -> Result<(),
         Request::Stats => put(out, b"stats"),
         Request::Locks => put(out, b"locks"),
         Request::Users => put(out, b"users"),
+        Request::Roll => put(out, b"roll"),
         Request::Stop { now, wait } => put(out, stop_text(*now, *wait)),
     }
 }

@@ -15,3 +15,8 @@ pub mod Maildrops
 pub mod Locks
 pub mod OperatorExamples
 pub mod Paces
+pub mod Rolls
+pub mod Stats
+pub mod Epochs
+pub mod EpochEnds
+pub mod Lives

@@ -6,6 +6,7 @@ use Rattle.cluster.specs.Starts.{all_nodes}
 use Rattle.ports.specs.Ranges.{last_port, is_between, may_be_between}
 use Rattle.service.specs.declared.options.NodeOptions.{NodeOptions}
 use Rattle.service.specs.declared.options.ServeOptions.{ServeOptions}
+use Rattle.service.specs.declared.rolls.RollLimits.{RollLimits}
 
 abbrev pub most_nodes : ℕ
 most_nodes = 9
@@ -22,6 +23,9 @@ longest_pause = 1000000
 abbrev pub most_delivery_bytes : ℕ
 most_delivery_bytes = 2 ^ 40
 
+abbrev pub most_in_epoch : ℕ
+most_in_epoch = 2 ^ 40
+
 -- The ports of the nodes are those from one above `pop_port` on, and from one above `peer_port` on.
 abbrev pub are_ports : ServeOptions → Bool
 are_ports o =
@@ -36,6 +40,13 @@ have_ways_in o =
     (is_some o.port || is_some o.pop_port)
     && ((is_some o.ctl_port && is_none o.ctl_socket) || (is_none o.ctl_port && is_some o.ctl_socket))
 
+-- the bounds of epochs
+abbrev pub are_of_epochs : ServeOptions → Bool
+are_of_epochs o = nat_le o.epoch_sessions most_in_epoch && nat_le o.epoch_bytes most_in_epoch && nat_le o.keys most_in_epoch
+
+abbrev pub roll_limits_of : ServeOptions → RollLimits
+roll_limits_of o = record { sessions = o.epoch_sessions; bytes = o.epoch_bytes }
+
 -- the numbers that are no limits of a maildrop
 abbrev pub are_in_range : ServeOptions → Bool
 are_in_range o =
@@ -45,6 +56,7 @@ are_in_range o =
     && nat_le o.idle_seconds longest_pause
     && nat_le o.no_majority_seconds longest_pause
     && is_between 1 most_delivery_bytes o.delivery_bytes
+    && are_of_epochs o
     && are_ports o
     && have_ways_in o
 

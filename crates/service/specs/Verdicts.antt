@@ -1,5 +1,5 @@
 -- What is reported about a run that has ended.
-use Rattle.std.specs.Prelude.{◌≡◌, ℕ, length, List, [], ◌++◌, map, Some, None, true, codes, slice_get}
+use Rattle.std.specs.Prelude.{◌≡◌, ℕ, length, List, [], ◌++◌, map, Some, None, true, false, codes, slice_get}
 use Rattle.std.specs.List.{filter}
 use mathlib.Core.Logic.{◌⊎◌}
 use Rattle.std.specs.Fmt.{decimal}
@@ -101,19 +101,18 @@ abbrev pub IsJudged : List (NodeLog Global) → TranscriptsValue → Verdict →
 IsJudged logs transcripts verdict =
     (verdict ≡ Memory) ⊎ ((found : Verdict) × IsVerdict logs transcripts.kept found × (verdict ≡ numbered transcripts.numbers found))
 
--- the verdict on a service that has ended, and what was judged
-pub record AuditedValue : Type 0 where
-  pub verdict : Verdict
-  pub logs : List (NodeLog Global)
-  pub transcripts : TranscriptsValue
+-- This is what was found of these logs and of what was kept of sessions, all of whom are there: a session is named by its number
+-- among all sessions.
+pub record IsFound (logs : List (NodeLog Global)) (transcripts : TranscriptsValue) (verdict : Verdict) : Type 0 where
+  pub found : Verdict
+  pub of_kept : IsVerdict logs transcripts.kept found
+  pub named : verdict ≡ numbered transcripts.numbers found
+  pub whole : transcripts.is_short ≡ false
+  pub all : transcripts.ended ≡ transcripts.greeted
 
--- what a service begins with that has so many nodes, this window and these limits, and whose maildrops open empty
-pub record IsConfigFor (nodes window : ℕ) (limits : Limits) (config : Config Global) : Type 0 where
+-- what a service begins with that has so many nodes, this window and these limits, and takes over so many keys of a maildrop
+pub record IsConfigFor (nodes window : ℕ) (limits : Limits) (keys : ℕ) (config : Config Global) : Type 0 where
   pub cluster : config.cluster ≡ nodes
   pub slots : config.window ≡ window
   pub maildrops : config.limits ≡ limits
-  pub empty : config.kept ≡ []
-
--- the same of a service of some accounts that begins so
-abbrev pub FoundLegal : (nodes window : ℕ) → Limits → List (NodeLog Global) → (kept : List (Transcript Global)) → (greeted : ℕ) → Type 0
-FoundLegal nodes window limits logs kept greeted = (config : Config Global) × IsConfigFor nodes window limits config × WasLegal config logs kept greeted
+  pub last_keys : config.keys ≡ keys

@@ -1,12 +1,10 @@
 //! What is announced about a run that has ended.
-ghost use Rattle.std.specs.Prelude.{◌≡◌, ◌++◌, ◌∷◌, [], string_bytes, IfOk};
-ghost use Rattle.std.specs.Option.{option_map_or};
+ghost use Rattle.std.specs.Prelude.{◌≡◌, ◌++◌, ◌∷◌, [], string_bytes, unwrap_or, IfOk};
 ghost use Rattle.service.specs.Verdicts as spec;
 ghost use Rattle.service.specs.declared.announcement.Report.TheVariants as report;
-ghost use Rattle.service.specs.declared.verdict.Verdict.TheVariants as verdicts;
 
-use crate::audited::{Audited, verdict_in};
 use crate::brand::Service;
+use crate::epoch::Left;
 use crate::service_nodes::Unaudited;
 use crate::verdict::Verdict;
 use ballot::Memory;
@@ -37,12 +35,16 @@ impl Model for Announcement {
 }
 
 impl Announcement {
-    /// The verdict on a service.
-    pub(crate) fn audited<D: Service>(audited: &Option<Audited<D>>) -> Self
-        ensures { result ≡ report.Audit (option_map_or (λ audited. audited.verdict) audited.now verdicts.Memory) }
+    /// The verdict on the last epoch of a service, or the first one on an earlier epoch that isn't that all was in order.
+    pub(crate) fn audited(first_bad: &Option<Verdict>, left: &Left) -> Self
+        ensures { result ≡ report.Audit (unwrap_or first_bad.now left.now.verdict) }
     {
+        let verdict = match first_bad {
+            Some(bad) => bad,
+            None => &left.verdict,
+        };
         Announcement {
-            report: Report::Audit(verdict_in(audited)),
+            report: Report::Audit(*verdict),
         }
     }
 

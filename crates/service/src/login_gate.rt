@@ -15,7 +15,7 @@ use std::time::{Clock, Duration};
 pub(crate) struct LoginGate<'a, R> {
     /// The system: waits, and the clock.
     pub rt: R,
-    /// What all threads of the service see.
+    /// What all threads of the epoch see.
     pub state: &'a ServiceState,
     /// What is known of the session.
     pub facts: &'a Mutex<SessionFacts>,
@@ -38,6 +38,7 @@ impl<R: Wait + Clock> Gate for LoginGate<'_, R> {
         let owes_pause = self.facts.lock(&self.rt).take_pause();
         if owes_pause {
             self.state
+                .life()
                 .log()
                 .login_refused(&self.rt, self.node, self.peer);
             thread::sleep(&self.rt, Duration::from_secs(REFUSED_LOGIN_SECONDS));

@@ -19,7 +19,7 @@ pub(crate) fn is_majority(up: usize, all: usize) -> bool
     up > all / 2
 }
 
-/// Since when there is no majority, in milliseconds after the service began: as before if there is none again.
+/// Since when there is no majority, in milliseconds after the epoch began: as before if there is none again.
 fn lost_since(before: Option<u64>, now_ms: u64, has_majority: bool) -> Option<u64>
     ensures { result ≡ spec.lost_since before now_ms has_majority }
 {
@@ -41,7 +41,7 @@ fn is_over(since: Option<u64>, now_ms: u64, limit_ms: u64) -> bool
 }
 
 /// How many nodes are up.
-fn count_up<N: ServedNode>(nodes: &[N]) -> usize {
+pub(crate) fn count_up<N: ServedNode>(nodes: &[N]) -> usize {
     let mut count: usize = 0;
     for node in nodes {
         if node.status().is_some_and(|status| status.up) {
@@ -75,7 +75,7 @@ pub(crate) fn start<
     Ok(())
 }
 
-/// Looks at the nodes again and again. Once there has been no majority for so long the service ends.
+/// Looks at the nodes again and again. Once there has been no majority for so long the epoch ends.
 fn watch<R: Wait + Clock, N: ServedNode>(rt: &R, nodes: &[N], state: &ServiceState, limit_ms: u64) {
     let Ok(begin) = Instant::now(rt) else {
         return;
@@ -91,21 +91,48 @@ fn watch<R: Wait + Clock, N: ServedNode>(rt: &R, nodes: &[N], state: &ServiceSta
         let now_ms = u64::try_from(elapsed.as_millis()).unwrap_or(u64::MAX);
         since = lost_since(since, now_ms, is_majority(count_up(nodes), nodes.len()));
         if is_over(since, now_ms, limit_ms) {
-            end_service(rt, nodes, state);
+            end_epoch(rt, nodes, state);
             return;
         }
     }
 }
 
-/// Stops the nodes that are left, so that whoever waits for one gets an answer, and then the service with all its sessions.
-fn end_service<R: Wait + Clock, N: ServedNode>(rt: &R, nodes: &[N], state: &ServiceState) {
+/// Stops the nodes that are left, so that whoever waits for one gets an answer.
+pub(crate) fn crash_all<N: ServedNode>(nodes: &[N]) {
     for node in nodes {
         let _was_up = node.crash();
     }
-    state.log().no_majority(rt);
-    state.stages().stop_without_majority(rt);
+}
+
+/// Asks for the next epoch, and waits for the end of this one. Returns false if there is no next one, or the service stops.
+fn is_rolled<R: Wait + Clock>(rt: &R, state: &ServiceState) -> bool {
+    let life = state.life();
+    if !life.rolls().ask(rt, state.epoch()) {
+        return false;
+    }
     for _ in rt.forever() {
-        state.sessions().cut_all(rt);
+        if life.stages().is_stopping(rt) {
+            return false;
+        }
+        if state.stages().pauses(rt, Duration::from_millis(LOOK_MS)) {
+            return true;
+        }
+    }
+    unreachable!()
+}
+
+/// Ends the epoch, if there is a next one. Else stops the nodes that are left, so that whoever waits for one gets an answer,
+/// and the service with all its sessions.
+fn end_epoch<R: Wait + Clock, N: ServedNode>(rt: &R, nodes: &[N], state: &ServiceState) {
+    let life = state.life();
+    life.log().no_majority(rt);
+    if is_rolled(rt, state) {
+        return;
+    }
+    crash_all(nodes);
+    life.stop_without_majority(rt);
+    for _ in rt.forever() {
+        life.sessions().cut_all(rt);
         if state.stages().pauses(rt, Duration::from_millis(LOOK_MS)) {
             return;
         }

@@ -3,11 +3,11 @@ ghost use Rattle.std.specs.Prelude.{◌≤◌, IfSome};
 ghost use Rattle.script.specs.Requests.{longest_request};
 
 use crate::asking::{Absence, Unanswered, ask};
-use crate::delivery::{Delivered, Delivery, message_in, texts_in};
+use crate::delivery::{Delivered, Delivery, DeliveryError, message_in, texts_in};
 use crate::furthest::{furthest_slot, furthest_up};
 use crate::maildrop_lines::{lock_lines, user_lines};
 use crate::operator_limits::{
-    BRIEF_LINE_MS, BROKEN_LOOK_MS, CUT_MS, LINE_MS, LOOK_MS, MOST_BROKEN_LOOKS,
+    BRIEF_LINE_MS, BROKEN_LOOK_MS, CUT_MS, END_LOOK_MS, LINE_MS, LOOK_MS, MOST_BROKEN_LOOKS,
 };
 use crate::pop::node_for;
 use crate::served_node::{OperatorOp, ServedNode};
@@ -47,7 +47,7 @@ pub(crate) struct OperatorHandler<R, N: ServedNode> {
     alloc: Global,
     /// The nodes of the service.
     nodes: Arc<Vec<N>>,
-    /// What all threads of the service see.
+    /// What all threads of the epoch see.
     state: Arc<ServiceState>,
     limits: Arc<SharedLimits>,
     /// The most bytes of a file that is delivered.
@@ -197,7 +197,12 @@ impl<R: Wait + Clock + Copy, N: ServedNode + Drop> OperatorHandler<R, N> {
             Some(Request::Users) => self.tell_users(stream),
             Some(Request::Crash { node }) => self.crash(*node, stream, may_wait),
             Some(Request::Stop { now, wait }) => self.stop(*now, *wait, stream, may_wait),
-            Some(Request::Deliver { .. } | Request::Put { .. } | Request::Break { .. }) => Ok(()),
+            Some(
+                Request::Deliver { .. }
+                | Request::Put { .. }
+                | Request::Break { .. }
+                | Request::Roll,
+            ) => Ok(()),
         }
     }
 
@@ -224,6 +229,7 @@ impl<R: Wait + Clock + Copy, N: ServedNode + Drop> OperatorHandler<R, N> {
                 key,
             } => self.put_message(node, *user, *count, key, reader, stream),
             Request::Break { node, user } => self.break_lock(*node, *user, stream),
+            Request::Roll => self.roll(stream),
             _ => Ok(()),
         }
     }
@@ -235,13 +241,13 @@ impl<R: Wait + Clock + Copy, N: ServedNode + Drop> OperatorHandler<R, N> {
     }
 
     fn tell_sessions(&self, stream: &OperatorStream) -> Result<(), Fault> {
-        let lines = self.state.sessions().lines(&self.rt, self.alloc)?;
+        let lines = self.state.life().sessions().lines(&self.rt, self.alloc)?;
         tell(stream, lines.as_slice())
     }
 
     fn tell_stats(&self, stream: &OperatorStream) -> Result<(), Fault> {
         let slots = furthest_slot(&self.nodes);
-        let lines = self.state.stats(&self.rt, self.alloc, slots)?;
+        let lines = self.state.life().stats(&self.rt, self.alloc, slots)?;
         tell(stream, lines.as_slice())
     }
 
@@ -265,7 +271,7 @@ impl<R: Wait + Clock + Copy, N: ServedNode + Drop> OperatorHandler<R, N> {
 
     /// Cuts the sessions of a user, and reports how many these are.
     fn kick(&mut self, user: &Name, stream: &OperatorStream) -> Result<(), Fault> {
-        let count = self.state.sessions().kick(&self.rt, user);
+        let count = self.state.life().sessions().kick(&self.rt, user);
         self.answer.clear();
         put_number_line(&mut self.answer, b"kicked ", count as u64)?;
         tell(stream, self.answer.as_slice())
@@ -275,7 +281,7 @@ impl<R: Wait + Clock + Copy, N: ServedNode + Drop> OperatorHandler<R, N> {
     fn crash(&self, number: NodeId, stream: &OperatorStream, may_wait: bool) -> Result<(), Fault> {
         match node_up(&self.nodes, Some(number)) {
             Some(node) if node.crash() => {
-                self.state.log().crash(&self.rt, number);
+                self.state.life().log().crash(&self.rt, number);
                 if may_wait {
                     self.break_locks();
                 }
@@ -290,7 +296,7 @@ impl<R: Wait + Clock + Copy, N: ServedNode + Drop> OperatorHandler<R, N> {
     fn break_locks(&self) {
         for _ in 0..MOST_BROKEN_LOOKS {
             let breaker = self.state.lock_breaker();
-            let is_more = breaker.look(&self.rt, &self.nodes, self.state.log());
+            let is_more = breaker.look(&self.rt, &self.nodes, self.state.life().log());
             let pause = Duration::from_millis(BROKEN_LOOK_MS);
             if !matches!(&is_more, Ok(true)) || self.state.stages().pauses(&self.rt, pause) {
                 return;
@@ -307,8 +313,8 @@ impl<R: Wait + Clock + Copy, N: ServedNode + Drop> OperatorHandler<R, N> {
         stream: &OperatorStream,
         may_wait: bool,
     ) -> Result<(), Fault> {
-        self.state.log().stop(&self.rt);
-        self.state.stages().stop(&self.rt);
+        self.state.life().log().stop(&self.rt);
+        self.state.life().stop(&self.rt);
         let told = tell(stream, b"stopping\n");
         if !waits {
             stream.shut(Shutdown::Both);
@@ -326,13 +332,10 @@ impl<R: Wait + Clock + Copy, N: ServedNode + Drop> OperatorHandler<R, N> {
     /// Cuts the sessions that are open, and those that come until all have ended.
     fn cut_sessions(&self, may_wait: bool) {
         for _ in self.rt.forever() {
-            self.state.sessions().cut_all(&self.rt);
-            if !may_wait
-                || self
-                    .state
-                    .stages()
-                    .pauses(&self.rt, Duration::from_millis(CUT_MS))
-            {
+            let life = self.state.life();
+            life.sessions().cut_all(&self.rt);
+            let pause = Duration::from_millis(CUT_MS);
+            if !may_wait || life.rolls().pauses(&self.rt, self.state.epoch(), pause) {
                 return;
             }
         }
@@ -340,12 +343,33 @@ impl<R: Wait + Clock + Copy, N: ServedNode + Drop> OperatorHandler<R, N> {
 
     /// Reports how the service has ended, once it has.
     fn tell_end(&self, stream: &OperatorStream) -> Result<(), Fault> {
-        match self.state.announcements().wait(&self.rt) {
+        let life = self.state.life();
+        let look = Duration::from_millis(END_LOOK_MS);
+        for _ in self.rt.forever() {
+            if life.rolls().pauses(&self.rt, self.state.epoch(), look) {
+                break;
+            }
+        }
+        match life.announcements().get(&self.rt) {
             Some(announcement) => {
                 let line = announcement.line(self.alloc)?;
                 tell(stream, line.as_bytes())
             }
             None => Ok(()),
+        }
+    }
+
+    /// Ends the epoch, and reports that the next one has begun once a node of it leads. A service whose nodes have ports has
+    /// only one epoch.
+    fn roll(&self, stream: &OperatorStream) -> Result<(), Fault> {
+        let rolls = self.state.life().rolls();
+        if !rolls.ask(&self.rt, self.state.epoch()) {
+            return tell(stream, b"bad request\n");
+        }
+        if rolls.waits_for_next(&self.rt, self.state.epoch()) {
+            tell(stream, b"rolled\n")
+        } else {
+            tell(stream, b"down\n")
         }
     }
 
@@ -370,7 +394,7 @@ impl<R: Wait + Clock + Copy, N: ServedNode + Drop> OperatorHandler<R, N> {
     /// The node at which mail is stored: that of this number, or any that is up. None once the service stops, since its mail
     /// would be lost with it.
     fn node_to_store(&self, number: Option<NodeId>) -> Option<&N> {
-        if self.state.stages().is_stopping(&self.rt) {
+        if self.state.life().stages().is_stopping(&self.rt) {
             return None;
         }
         node_up(&self.nodes, number)
@@ -389,11 +413,16 @@ impl<R: Wait + Clock + Copy, N: ServedNode + Drop> OperatorHandler<R, N> {
         let Some(node) = self.node_to_store(Some(number)) else {
             return tell(stream, b"down\n");
         };
-        if let Err(why) = self.take_room(node, count, stream) {
-            return tell_why(stream, why);
-        }
-        let told = self.deliver_file(node, user, count, key, reader, stream);
-        self.limits.budget.give(&self.rt, count);
+        self.state.begin_delivery(&self.rt);
+        let told = match self.take_room(node, count, stream) {
+            Ok(()) => {
+                let told = self.deliver_file(node, user, count, key, reader, stream);
+                self.limits.budget.give(&self.rt, count);
+                told
+            }
+            Err(why) => tell_why(stream, why),
+        };
+        self.state.end_delivery(&self.rt);
         told
     }
 
@@ -411,12 +440,12 @@ impl<R: Wait + Clock + Copy, N: ServedNode + Drop> OperatorHandler<R, N> {
         }
         let texts = match texts_in(self.alloc, reader, count) {
             Ok(texts) => texts,
-            Err(error) => return error.tell(stream),
+            Err(error) => return self.tell_cut(error, stream),
         };
         let mut delivered = Delivered::new();
         let delivery = self.delivery(node, user, stream);
         let told = delivery.deliver_all(texts, key, &mut delivered);
-        self.note(node, &user, &delivered);
+        self.note(node, &user, count, &delivered);
         told
     }
 
@@ -436,11 +465,16 @@ impl<R: Wait + Clock + Copy, N: ServedNode + Drop> OperatorHandler<R, N> {
         if !self.state.accounts().has(&user) {
             return tell(stream, b"no such user\n");
         }
-        if let Err(why) = self.take_room(node, count, stream) {
-            return tell_why(stream, why);
-        }
-        let told = self.put_file(node, user, count, key, reader, stream);
-        self.limits.budget.give(&self.rt, count);
+        self.state.begin_delivery(&self.rt);
+        let told = match self.take_room(node, count, stream) {
+            Ok(()) => {
+                let told = self.put_file(node, user, count, key, reader, stream);
+                self.limits.budget.give(&self.rt, count);
+                told
+            }
+            Err(why) => tell_why(stream, why),
+        };
+        self.state.end_delivery(&self.rt);
         told
     }
 
@@ -458,13 +492,23 @@ impl<R: Wait + Clock + Copy, N: ServedNode + Drop> OperatorHandler<R, N> {
         }
         let text = match message_in(self.alloc, reader, count) {
             Ok(text) => text,
-            Err(error) => return error.tell(stream),
+            Err(error) => return self.tell_cut(error, stream),
         };
         let mut delivered = Delivered::new();
         let delivery = self.delivery(node, user, stream);
         let told = delivery.deliver_one(text, *key, &mut delivered);
-        self.note(node, &user, &delivered);
+        self.note(node, &user, count, &delivered);
         told
+    }
+
+    /// Reports why nothing of a file is delivered. One that is cut short as the epoch ends may be sent again.
+    fn tell_cut(&self, error: DeliveryError, stream: &OperatorStream) -> Result<(), Fault> {
+        match error {
+            DeliveryError::Short if self.state.stages().has_ended(&self.rt) => {
+                tell(stream, b"down\n")
+            }
+            error => error.tell(stream),
+        }
     }
 
     /// A delivery to a user at a node, for the client of a connection.
@@ -483,16 +527,19 @@ impl<R: Wait + Clock + Copy, N: ServedNode + Drop> OperatorHandler<R, N> {
         }
     }
 
-    /// Notes what has become of a delivery.
-    fn note(&self, node: &N, user: &Name, delivered: &Delivered) {
+    /// Notes what has become of a delivery of so many bytes.
+    fn note(&self, node: &N, user: &Name, count: u64, delivered: &Delivered) {
         let Delivered {
             stored,
             octets,
             refused,
         } = *delivered;
-        self.state.counters().stored(&self.rt, stored, octets);
-        self.state
-            .log()
+        let life = self.state.life();
+        life.counters().stored(&self.rt, stored, octets);
+        // The text of a refused message is kept too.
+        life.rolls()
+            .store(&self.rt, stored.saturating_add(refused), count);
+        life.log()
             .delivery(&self.rt, node.me(), user, stored, refused);
     }
 

@@ -12,6 +12,9 @@ pub(crate) const LOOK_MS: u64 = 400;
 /// How often the sessions are cut that come although the service stops at once, in milliseconds.
 pub(crate) const CUT_MS: u64 = 100;
 
+/// After how many milliseconds a request that waits for the end of the service looks again.
+pub(crate) const END_LOOK_MS: u64 = 1_000;
+
 /// How many milliseconds lie between two looks whether the locks are broken that sessions of a stopped node hold.
 pub(crate) const BROKEN_LOOK_MS: u64 = 50;
 

@@ -3,6 +3,7 @@ ghost use Rattle.std.specs.Prelude.{◌≡◌, ◌≤◌, ◌↔◌, None, Some,
 ghost use Rattle.ports.specs.Ranges as ranges;
 ghost use Rattle.service.specs.Options as spec;
 
+use crate::rolls::RollLimits;
 use apop::stamp;
 use ballot::{Cluster, Items, LAST_NODE, NodeId};
 use maildrop::Limits;
@@ -20,11 +21,23 @@ const LONGEST_PAUSE: u64 = 1_000_000;
 /// The most bytes that files may have together that are delivered at a time.
 const MOST_DELIVERY_BYTES: u64 = 1 << 40;
 
+/// The most sessions and bytes after which an epoch may end, and the most keys that a maildrop may keep.
+const MOST_IN_EPOCH: u64 = 1 << 40;
+
 /// The highest port.
 const LAST_PORT: u64 = 65_535;
 
 /// A nonce that can stand before every host.
 const ANY_NONCE: &[u8] = b"1";
+
+/// What becomes of a service if an audit finds an epoch that was not in order.
+#[derive(Clone, Copy, Debug, PartialEq, Eq)]
+pub enum OnFault {
+    /// It ends, with the status 1.
+    Stop,
+    /// It goes on, and ends with the status 1.
+    GoOn,
+}
 
 /// The options of a service, as they came: any numbers, any bytes.
 #[derive(Clone, Copy)]
@@ -65,6 +78,14 @@ pub struct ServeOptions<'a> {
     pub no_majority_seconds: u64,
     /// How many bytes the files have together that are delivered at a time: 1 to 2^40. One that is larger is alone.
     pub delivery_bytes: u64,
+    /// After how many sessions an epoch ends: at most 2^40, and 0 for any number.
+    pub epoch_sessions: u64,
+    /// After how many bytes that are kept for its audit an epoch ends: at most 2^40, and 0 for any number.
+    pub epoch_bytes: u64,
+    /// How many keys of deliveries a maildrop has at most when an epoch begins, the last ones: at most 2^40.
+    pub keys: u64,
+    /// What becomes of the service if an epoch was not in order.
+    pub on_fault: OnFault,
     /// The path of the file that gets a line for each event, or `-` for standard error, if there is one.
     pub log: Option<&'a str>,
 }
@@ -111,6 +132,12 @@ pub(crate) struct Settings {
     pub no_majority_seconds: u64,
     /// How many bytes the files have together that are delivered at a time.
     pub delivery_bytes: u64,
+    /// After how much an epoch ends.
+    pub roll_limits: RollLimits,
+    /// How many keys of deliveries a maildrop has at most when an epoch begins.
+    pub keys: usize,
+    /// What becomes of the service if an epoch was not in order.
+    pub on_fault: OnFault,
 }
 
 impl Settings {
@@ -161,6 +188,15 @@ fn are_ports(options: &ServeOptions<'_>) -> bool
         && may_be_between(1, LAST_PORT, options.ctl_port)
 }
 
+/// Whether the bounds of epochs are in their ranges.
+fn are_of_epochs(options: &ServeOptions<'_>) -> bool
+    ensures { result ≡ spec.are_of_epochs options.now }
+{
+    options.epoch_sessions <= MOST_IN_EPOCH
+        && options.epoch_bytes <= MOST_IN_EPOCH
+        && options.keys <= MOST_IN_EPOCH
+}
+
 /// Whether the numbers that are no limits of a maildrop are in their ranges.
 fn are_in_range(options: &ServeOptions<'_>) -> bool
     ensures { result ≡ spec.are_in_range options.now }
@@ -171,6 +207,7 @@ fn are_in_range(options: &ServeOptions<'_>) -> bool
         && options.idle_seconds <= LONGEST_PAUSE
         && options.no_majority_seconds <= LONGEST_PAUSE
         && is_between(1, MOST_DELIVERY_BYTES, options.delivery_bytes)
+        && are_of_epochs(options)
         && are_ports(options)
         && have_ways_in(options)
 }
@@ -202,6 +239,9 @@ pub(crate) fn settings_of(alloc: Global, options: &ServeOptions<'_>) -> Result<S
     ensures idle { IfOk result (λ settings. settings.idle_seconds ≡ options.now.idle_seconds) }
     ensures no_majority { IfOk result (λ settings. settings.no_majority_seconds ≡ options.now.no_majority_seconds) }
     ensures delivery { IfOk result (λ settings. settings.delivery_bytes ≡ options.now.delivery_bytes) }
+    ensures epochs { IfOk result (λ settings. settings.roll_limits ≡ spec.roll_limits_of options.now) }
+    ensures keys { IfOk result (λ settings. settings.keys ≡ options.now.keys) }
+    ensures on_fault { IfOk result (λ settings. settings.on_fault ≡ options.now.on_fault) }
 {
     if !are_in_range(options) || stamp(ANY_NONCE, options.host).is_none() {
         return Err(Fault::Value);
@@ -230,6 +270,12 @@ pub(crate) fn settings_of(alloc: Global, options: &ServeOptions<'_>) -> Result<S
         idle_seconds: options.idle_seconds,
         no_majority_seconds: options.no_majority_seconds,
         delivery_bytes: options.delivery_bytes,
+        roll_limits: RollLimits {
+            sessions: options.epoch_sessions,
+            bytes: options.epoch_bytes,
+        },
+        keys: options.keys as usize,
+        on_fault: options.on_fault,
     })
 }
 

@@ -45,7 +45,7 @@ pub(crate) struct PeerHandler<R, N: ServedNode> {
     pub cluster: Cluster,
     /// Whether the node is alone in its process, so that it is noted which others are heard.
     pub is_alone: bool,
-    /// What all threads of the service see.
+    /// What all threads of the epoch see.
     pub state: Arc<ServiceState>,
 }
 

@@ -3,7 +3,7 @@
 use crate::brand::Service;
 use crate::login_gate::LoginGate;
 use crate::served_node::ServedNode;
-use crate::served_sessions::ServedSessions;
+use crate::served_sessions::{ServedSessions, SessionEnd};
 use crate::service_nodes::ServiceDesk;
 use crate::state::ServiceState;
 use apop::Stamp;
@@ -35,7 +35,7 @@ pub(crate) struct PopHandler<D: Service, R: Wait, L: Link> {
     pub nodes: Arc<Vec<ServiceDesk<D, R, L>>>,
     /// The node whose port this is, if the port is a node's.
     pub own: Option<NodeId>,
-    /// What all threads of the service see.
+    /// What all threads of the epoch see.
     pub state: Arc<ServiceState>,
     /// What its sessions are served over, and leave.
     pub sessions: Arc<ServedSessions<D>>,
@@ -88,8 +88,9 @@ impl<D: Service, R: RandomSource + Wait + Clock + Copy, L: Link + Drop> PopHandl
             since: Instant::now(&self.rt).ok(),
             facts: Arc::try_clone(&facts)?,
             stream: Arc::try_clone(stream)?,
+            moved: u64::MAX,
         };
-        self.state.sessions().add(&self.rt, number, session)?;
+        self.state.life().sessions().add(&self.rt, number, session)?;
         Ok(facts)
     }
 
@@ -101,13 +102,18 @@ impl<D: Service, R: RandomSource + Wait + Clock + Copy, L: Link + Drop> PopHandl
         stream: &TcpStream,
         facts: &SharedFacts,
         gate: &mut LoginGate<'_, R>,
-    ) -> Option<End> {
+    ) -> Option<SessionEnd> {
         let shared = Arc::try_clone(facts).ok()?;
         let Ok(writer) = BufWriter::with_capacity(self.alloc, GATHERED, stream) else {
             return None;
         };
-        let mut reader = BoundedReader::new(self.rt, stream, facts, self.state.idle_seconds());
-        let mut writer = ReplyWriter::new(self.rt, writer, facts, self.state.refusal());
+        let mut reader = BoundedReader::new(
+            self.rt,
+            stream,
+            facts,
+            self.state.life().idle_seconds(),
+        );
+        let mut writer = ReplyWriter::new(self.rt, writer, facts, self.state.life().refusal());
         let end = self.sessions.serve(self.rt, node, shared, &mut reader, &mut writer, stamp, gate);
         // Nothing is written after a write that failed.
         writer.discard();
@@ -135,20 +141,24 @@ impl<D: Service, R: RandomSource + Wait + Clock + Copy, L: Link + Drop> PopHandl
             peer,
         };
         let end = self.converse(node, stamp, stream, &facts, &mut gate);
-        self.state.sessions().remove(&self.rt, number);
+        self.state.life().sessions().remove(&self.rt, number);
         if let Some(end) = end {
             self.report(me, peer, &facts, end);
         }
     }
 
     /// Counts and logs a session that has ended.
-    fn report(&self, node: NodeId, peer: SocketAddr, facts: &Mutex<SessionFacts>, end: End) {
+    fn report(&self, node: NodeId, peer: SocketAddr, facts: &Mutex<SessionFacts>, end: SessionEnd) {
         let facts = facts.lock(&self.rt);
-        self.state.counters().ended(&self.rt, &facts);
-        let ending = ending_of(end, facts.cut);
-        self.state
-            .log()
-            .session(&self.rt, node, peer, &facts, ending);
+        let life = self.state.life();
+        life.counters().ended(&self.rt, &facts);
+        if end.bytes > 0 {
+            // Its lines are kept too.
+            let bytes = end.bytes.saturating_add(facts.bytes_read);
+            life.rolls().end_session(&self.rt, bytes);
+        }
+        let ending = ending_of(end.end, facts.cut);
+        life.log().session(&self.rt, node, peer, &facts, ending);
     }
 }
 
@@ -161,7 +171,7 @@ impl<D: Service, R: RandomSource + Wait + Clock + Copy, L: Link + Drop> Handler<
         let Some(node) = self.node() else {
             return;
         };
-        if let Some((number, stamp)) = self.state.new_stamp(&self.rt, self.alloc) {
+        if let Some((number, stamp)) = self.state.life().new_stamp(&self.rt, self.alloc) {
             self.serve_at(node, number, stamp, stream, peer);
         }
     }
@@ -185,7 +195,7 @@ impl<D: Service, R: RandomSource + Wait + Clock + Copy, L: Link + Drop> Handler<
     }
 
     fn is_open(&self) -> bool {
-        !self.state.stages().is_stopping(&self.rt)
+        !self.state.life().stages().is_stopping(&self.rt)
     }
 
     fn is_cut_at_the_end(&self) -> bool {

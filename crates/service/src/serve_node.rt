@@ -8,17 +8,19 @@ ghost use Rattle.maildrop.specs.Name.{are_different};
 
 use crate::announcement::Announcement;
 use crate::brand::Service;
+use crate::epoch_run::{Ending, end_threads, state_of};
+use crate::life::ServiceLife;
 use crate::mark::mark_start;
 use crate::options::{NodeOptions, Settings, node_settings_of};
-use crate::serve::{FIRST_LEADER, accounts_of, end_sessions, note_fault, setup_of, state_of};
+use crate::serve::{FIRST_LEADER, accounts_of, life_of, note_fault, setup_of};
 use crate::served_sessions::ServedSessions;
 use crate::service_nodes::ServiceNodes;
-use crate::state::ServiceState;
 use crate::threads;
 use crate::threads::{Ports, join_all};
 use apop::Accounts;
 use ballot::NodeId;
 use cluster::Setup;
+use maildrop::{Kept, Shared};
 use ports::{Fault, System, remove_socket, say};
 use std::alloc::Global;
 use std::fs::File;
@@ -43,7 +45,8 @@ fn serve_one<D: Service + Send + Sync + 'static, R: System>(
     settings: &Settings,
     place: Place,
     ports: &Ports,
-    state: &Arc<ServiceState>,
+    life: &Arc<ServiceLife>,
+    accounts: &Arc<Accounts>,
     sessions: &Arc<ServedSessions<D>>,
     part: Share<D>,
 ) -> Result<(), Fault>
@@ -52,21 +55,26 @@ fn serve_one<D: Service + Send + Sync + 'static, R: System>(
     requires part { 0 < part.parts }
 {
     let Place { node, base } = place;
+    let state = state_of(&rt, alloc, life, accounts)?;
     let nodes = ServiceNodes::start_over(rt, alloc, setup, part, base, Some(node))?;
     let desks = Arc::new(alloc, nodes.desks(alloc, settings.cluster)?)?;
     if let Some(leader) = NodeId::new(FIRST_LEADER) {
         nodes.campaign(leader);
     }
-    let (threads, started) = threads::start(rt, alloc, &desks, ports, state, sessions, settings);
-    let operators = end_sessions(&rt, threads, ports, state);
+    let (threads, started) = threads::start(rt, alloc, &desks, ports, &state, sessions, settings);
+    let ending = match started {
+        Ok(()) => {
+            life.stages().wait_for_stop(&rt);
+            Ending::Stopped
+        }
+        Err(_) => Ending::Rolled,
+    };
+    let operators = end_threads(&rt, threads, ports, &state, ending);
     let announcement = Announcement::stopped(&nodes.stop_unaudited());
-    state.announcements().announce(&rt, announcement);
+    life.announcements().announce(&rt, announcement);
+    life.end(&rt);
     join_all(&rt, operators);
-    started?;
-    if state.stages().lacks_majority(&rt) {
-        return Err(Fault::NoMajority);
-    }
-    Ok(())
+    started
 }
 
 /// Marks the node as started if there is a folder for that, and runs it.
@@ -77,7 +85,8 @@ fn mark_and_serve<D: Service + Send + Sync + 'static, R: System + Files<File = F
     settings: &Settings,
     place: Place,
     setup: &Setup,
-    state: &Arc<ServiceState>,
+    life: &Arc<ServiceLife>,
+    accounts: &Arc<Accounts>,
     sessions: &Arc<ServedSessions<D>>,
     part: Share<D>,
 ) -> Result<(), Fault>
@@ -91,12 +100,20 @@ fn mark_and_serve<D: Service + Send + Sync + 'static, R: System + Files<File = F
         Some(folder) => mark_start(&rt, alloc, folder, place.node),
         None => Ok(()),
     };
-    let end = match marked {
+    let mut takers = Vec::new(alloc);
+    let ready = match marked {
+        Ok(()) => ports.start_taking(rt, life, &mut takers),
+        Err(fault) => Err(fault),
+    };
+    let end = match ready {
         Ok(()) => serve_one::<D, R>(
-            rt, alloc, setup, settings, place, &ports, state, sessions, part,
+            rt, alloc, setup, settings, place, &ports, life, accounts, sessions, part,
         ),
         Err(fault) => Err(fault),
     };
+    ports.close(&rt);
+    life.end(&rt);
+    join_all(&rt, takers);
     if let Some(path) = socket {
         remove_socket(&rt, path);
     }
@@ -121,14 +138,19 @@ fn run_node<D: Service + Send + Sync + 'static, R: System + Files<File = File>>(
     requires different { IsTrue (are_different setup.now.names) }
     requires one { book.parts ≡ 1 }
 {
-    let state = state_of(&rt, alloc, &options.service, settings, &accounts)?;
+    let life = life_of(&rt, alloc, &options.service, settings, &accounts)?;
     let (book, part) = book.open::<D>();
-    let sessions = Arc::new(alloc, ServedSessions::new(alloc, accounts, book, false))?;
+    let theirs = Arc::try_clone(&accounts)?;
+    let sessions = Arc::new(alloc, ServedSessions::new(alloc, theirs, book, false))?;
     let end = mark_and_serve::<D, R>(
-        rt, alloc, options, settings, place, setup, &state, &sessions, part,
+        rt, alloc, options, settings, place, setup, &life, &accounts, &sessions, part,
     );
+    let end = match end {
+        Ok(()) if life.stages().lacks_majority(&rt) => Err(Fault::NoMajority),
+        end => end,
+    };
     if let Err(fault) = &end {
-        note_fault(&rt, alloc, state.log(), *fault);
+        note_fault(&rt, alloc, life.log(), *fault);
     }
     end
 }
@@ -145,7 +167,8 @@ fn run_with<R: System + Files<File = File>>(
     };
     let place = Place { node, base };
     let accounts = accounts_of(&rt, alloc, options.service.accounts)?;
-    let setup = setup_of(alloc, settings, &accounts)?;
+    let kept = Shared::new(alloc, Kept::new(alloc))?;
+    let setup = setup_of(alloc, settings, &accounts, kept)?;
     let accounts = Arc::new(alloc, accounts)?;
     let book = Blank::new(1);
     run_node::<Brand, R>(rt, alloc, options, settings, place, &setup, accounts, book)

@@ -16,6 +16,13 @@ use std::sync::ledger::Book;
 use std::sync::{Arc, Mutex, Wait};
 use std::time::Clock;
 
+/// How a session has ended, and how many bytes it leaves, about.
+#[derive(Clone, Copy, Debug, PartialEq, Eq)]
+pub(crate) struct SessionEnd {
+    pub end: End,
+    pub bytes: u64,
+}
+
 /// The accounts that the sessions of a service are served over, and the transcripts that they leave. Contracts see it as the
 /// accounts.
 #[derive(Drop)]
@@ -69,13 +76,16 @@ impl<D: Service> ServedSessions<D> {
         writer: &mut O,
         stamp: Stamp,
         gate: &mut G,
-    ) -> Option<End> {
+    ) -> Option<SessionEnd> {
         let greeted = self.greet(&rt)?;
         let accounts: &Accounts = &self.accounts;
         let served = node.serve(
             rt, self.alloc, greeted, accounts, stamp, facts, reader, writer, gate,
         );
-        let end = served.end();
+        let end = SessionEnd {
+            end: served.end(),
+            bytes: served.bytes(),
+        };
         self.keep(&rt, served);
         Some(end)
     }

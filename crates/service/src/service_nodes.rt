@@ -1,7 +1,8 @@
 //! The nodes of a service that run here.
-ghost use Rattle.std.specs.Prelude.{◌≡◌, ◌<◌, true, IsTrue, IfOk, OnOk, map};
+ghost use Rattle.std.specs.Prelude.{◌≡◌, ◌<◌, true, IsTrue, IfOk, IfSome, OnOk, map};
 ghost use Rattle.std.specs.List.{All};
 ghost use Rattle.maildrop.specs.Name.{are_different};
+ghost use Rattle.cluster.specs.Ends.{IsLeftBy};
 ghost use Rattle.cluster.specs.Members.{IsLogOf};
 ghost use Rattle.cluster.specs.Starts.{all_nodes, has_window};
 ghost use Rattle.session.specs.Serve.{IsReadAndWritten};
@@ -14,7 +15,7 @@ use crate::transcripts::{Greeted, Served};
 use apop::{Accounts, Stamp};
 use ballot::{Cluster as Size, Envelope, Memory, NodeId};
 use cluster::{Cluster, Ended, InboxLink, Link, NodeDesk, Setup, StartError, Status};
-use maildrop::{Name, Outcome, SharedCommand, Ticket, Usage};
+use maildrop::{Kept, Name, Outcome, SharedCommand, Ticket, Usage};
 use node::{NodeLog, WIDEST_WINDOW};
 use peer_link::TcpLink;
 use ports::{Fault, System};
@@ -165,14 +166,18 @@ impl<
         self.cluster.campaign(node);
     }
 
-    /// Stops all nodes of a service, and returns their logs. `None` if the state of one isn't under its lock.
-    pub(crate) fn stop(self) -> Option<ServiceLogs<D>>
+    /// Stops all nodes of a service, and returns their logs, with the maildrops as one of them leaves them than which none has
+    /// performed more. `None` if the state of a node isn't under its lock.
+    pub(crate) fn stop(self) -> Option<StoppedNodes<D>>
         requires { self ≡ all_nodes D.setup.cluster }
+        ensures { IfSome result (λ stopped. IfOk stopped.kept (λ kept. IsLeftBy D.setup stopped.logs kept)) }
     {
         let ServiceNodes { cluster, part } = self;
         let Ended { logs, kept } = cluster.stop()?;
-        drop(kept);
-        Some(ServiceLogs { logs, part })
+        Some(StoppedNodes {
+            logs: ServiceLogs { logs, part },
+            kept,
+        })
     }
 
     /// Stops a node whose service isn't audited here.
@@ -181,6 +186,13 @@ impl<
         drop(cluster);
         Unaudited { part }
     }
+}
+
+/// What the nodes of a service leave. Finding the maildrops may have needed memory that was refused.
+#[derive(Drop)]
+pub(crate) struct StoppedNodes<D: Service> {
+    pub logs: ServiceLogs<D>,
+    pub kept: Result<Kept, Memory>,
 }
 
 /// A node of a service has stopped without an audit. Its part of the ledger can't be that of logs any more.
@@ -213,16 +225,10 @@ impl<D: Service> Model for ServiceLogs<D> {
 }
 
 impl<D: Service> ServiceLogs<D> {
-    pub(crate) fn get(&self) -> &[NodeLog]
-        ensures value { result.now ≡ self.now }
-        ensures nodes { map (λ log. log.opening.me) self.now ≡ all_nodes D.setup.cluster }
-        ensures began { All (λ log. IsLogOf D.setup log.opening.me log) self.now }
-    {
-        self.logs.as_slice()
-    }
-
     pub(crate) fn into_vec(self) -> Vec<NodeLog>
-        ensures { result.items ≡ self }
+        ensures value { result.items ≡ self }
+        ensures nodes { map (λ log. log.opening.me) result.items ≡ all_nodes D.setup.cluster }
+        ensures began { All (λ log. IsLogOf D.setup log.opening.me log) result.items }
     {
         let ServiceLogs { logs, part: _ } = self;
         logs

@@ -1,81 +1,58 @@
-//! What all threads of a service share.
-ghost use Rattle.std.specs.Prelude.{◌≡◌, IfOk};
-ghost use Rattle.pop3_wire.specs.Reply.{invalid_login};
+//! What all threads of an epoch share.
 
-use crate::announcements::Announcements;
+use crate::draining::Draining;
 use crate::hearing::HeardNodes;
+use crate::life::ServiceLife;
 use crate::lock_breaker::LockBreaker;
-use apop::{Accounts, Stamp, stamp};
-use ballot::{Items, Memory};
-use pop3_wire::Reply;
-use ports::{Opening, Stages};
-use session_log::{Counters, EventLog, OpenSessions, put};
+use apop::Accounts;
+use ports::Stages;
 use std::alloc::Global;
-use std::random::RandomSource;
 use std::sync::{Arc, Mutex, Wait};
-use std::time::Clock;
 
-/// The line that ends an answer to an operator.
-const END: &[u8] = b"end\n";
-
-/// What all threads of a service share: who may log in, how far the service has come, and which sessions are open.
+/// What all threads of an epoch share: who may log in, and how far the epoch has come. What names a ticket is here, since
+/// tickets begin at 1 in each epoch.
 #[derive(Drop)]
 pub(crate) struct ServiceState {
+    life: Arc<ServiceLife>,
+    /// The number of the epoch, counted from 1.
+    epoch: u64,
     accounts: Arc<Accounts>,
-    host: Items<u8>,
-    /// What a login that is refused is told.
-    refusal: Items<u8>,
-    idle_seconds: u64,
-    /// The line about what all nodes of the service must begin with, if its nodes have ports.
-    agreement: Option<Vec<u8>>,
     stages: Stages,
-    announcements: Announcements,
-    /// The number of the last session.
-    last_number: Mutex<u64>,
-    sessions: OpenSessions,
-    counters: Counters,
-    log: EventLog,
+    draining: Draining,
     lock_breaker: LockBreaker,
     heard_nodes: HeardNodes,
-}
-
-/// What a login that is refused is told.
-fn refusal_of(alloc: Global) -> Result<Items<u8>, Memory>
-    ensures { IfOk result (λ refusal. refusal ≡ invalid_login) }
-{
-    let reply: Reply<'_, Global> = Reply::InvalidLogin;
-    let text = reply.text(alloc)?;
-    Ok(Items::from_vec(text))
+    /// How many deliveries are under way.
+    deliveries: Mutex<u64>,
 }
 
 impl ServiceState {
-    /// What threads share at the start of a service, whose sessions may be silent for so many seconds, or for ever if that
-    /// is 0.
-    pub(crate) fn new<R: Clock>(
-        rt: &R,
+    /// What threads share at the start of an epoch.
+    pub(crate) fn new(
         alloc: Global,
+        life: Arc<ServiceLife>,
+        epoch: u64,
         accounts: Arc<Accounts>,
-        host: Items<u8>,
-        idle_seconds: u64,
-        agreement: Option<Vec<u8>>,
-        log: EventLog,
-    ) -> Result<Self, Memory> {
-        let refusal = refusal_of(alloc)?;
-        Ok(ServiceState {
+    ) -> Self {
+        ServiceState {
+            life,
+            epoch,
             accounts,
-            host,
-            refusal,
-            idle_seconds,
-            agreement,
             stages: Stages::new(),
-            announcements: Announcements::new(),
-            last_number: Mutex::new(0),
-            sessions: OpenSessions::new(alloc),
-            counters: Counters::new(rt),
-            log,
+            draining: Draining::new(),
             lock_breaker: LockBreaker::new(alloc),
             heard_nodes: HeardNodes::new(),
-        })
+            deliveries: Mutex::new(0),
+        }
+    }
+
+    /// What goes on over all epochs.
+    pub(crate) fn life(&self) -> &ServiceLife {
+        &self.life
+    }
+
+    /// The number of the epoch, counted from 1.
+    pub(crate) fn epoch(&self) -> u64 {
+        self.epoch
     }
 
     /// Who may log in.
@@ -83,39 +60,14 @@ impl ServiceState {
         &self.accounts
     }
 
-    /// What a login that is refused is told.
-    pub(crate) fn refusal(&self) -> &[u8] {
-        self.refusal.get()
-    }
-
-    /// For how many seconds a session that is logged in may send no whole line: 0 for ever.
-    pub(crate) fn idle_seconds(&self) -> u64 {
-        self.idle_seconds
-    }
-
-    /// How far the service has come.
+    /// How far the epoch has come.
     pub(crate) fn stages(&self) -> &Stages {
         &self.stages
     }
 
-    /// What is announced about the run, for those who wait for its end.
-    pub(crate) fn announcements(&self) -> &Announcements {
-        &self.announcements
-    }
-
-    /// The sessions that are open.
-    pub(crate) fn sessions(&self) -> &OpenSessions {
-        &self.sessions
-    }
-
-    /// What the service has done so far.
-    pub(crate) fn counters(&self) -> &Counters {
-        &self.counters
-    }
-
-    /// Where events are written.
-    pub(crate) fn log(&self) -> &EventLog {
-        &self.log
+    /// The end of its sessions, if the service goes on without them.
+    pub(crate) fn draining(&self) -> &Draining {
+        &self.draining
     }
 
     /// What breaks the locks of sessions whose nodes are down.
@@ -128,52 +80,20 @@ impl ServiceState {
         &self.heard_nodes
     }
 
-    /// The answer to an operator who asks what the service has done: a line for each number, and `end`.
-    pub(crate) fn stats<R: Wait + Clock>(
-        &self,
-        rt: &R,
-        alloc: Global,
-        slots: u64,
-    ) -> Result<Vec<u8>, Memory> {
-        let open = self.sessions.count(rt);
-        let mut text = self.counters.stats(rt, open, slots).text(alloc)?;
-        if let Some(line) = &self.agreement {
-            text.truncate(text.len().saturating_sub(END.len()));
-            put(&mut text, line.as_slice())?;
-            put(&mut text, END)?;
-        }
-        Ok(text)
+    /// A delivery begins.
+    pub(crate) fn begin_delivery<R: Wait>(&self, rt: &R) {
+        let mut deliveries = self.deliveries.lock(rt);
+        *deliveries = deliveries.saturating_add(1);
     }
 
-    /// The number of a new session, counted from 1, and the timestamp of its greeting: 16 random hexadecimal digits, a dot
-    /// and the number, before the service's host. Returns nothing if the system has no random bytes.
-    pub(crate) fn new_stamp<R: RandomSource + Wait>(
-        &self,
-        rt: &R,
-        alloc: Global,
-    ) -> Option<(u64, Stamp)> {
-        let number = self.next_number(rt);
-        let mut bytes = [0u8; 8];
-        rt.fill_bytes(&mut bytes).ok()?;
-        let digits = u64::from_be_bytes(bytes);
-        let nonce = format!(in alloc; "{digits:016x}.{number}").ok()?;
-        match stamp(nonce.as_bytes(), self.host.get()) {
-            Some(stamp) => Some((number, stamp)),
-            None => None,
-        }
+    /// A delivery has ended.
+    pub(crate) fn end_delivery<R: Wait>(&self, rt: &R) {
+        let mut deliveries = self.deliveries.lock(rt);
+        *deliveries = deliveries.saturating_sub(1);
     }
 
-    /// The number of a new session.
-    fn next_number<R: Wait>(&self, rt: &R) -> u64 {
-        let mut last_number = self.last_number.lock(rt);
-        let number = last_number.wrapping_add(1);
-        *last_number = number;
-        number
-    }
-}
-
-impl Opening for ServiceState {
-    fn wait_for_begin<R: Wait>(&self, rt: &R) {
-        self.stages.wait_for_begin(rt);
+    /// Whether a delivery is under way.
+    pub(crate) fn is_delivering<R: Wait>(&self, rt: &R) -> bool {
+        *self.deliveries.lock(rt) > 0
     }
 }

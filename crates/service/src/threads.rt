@@ -1,8 +1,9 @@
-//! The threads of a service, from its start to its end.
+//! The ports of a service, and the threads of an epoch, from its start to its end.
 ghost use Rattle.std.specs.Prelude.{◌≡◌, Some, IfErr};
 ghost use Rattle.service.specs.Faults.{IsFaultAt, IsLocalFaultAt, IsPeerFault, IsPopFault, IsPortFault};
 
 use crate::brand::Service;
+use crate::life::ServiceLife;
 use crate::operator::OperatorHandler;
 use crate::options::Settings;
 use crate::peers::{PeerHandler, most_file};
@@ -11,7 +12,7 @@ use crate::served_node::ServedNode;
 use crate::served_sessions::ServedSessions;
 use crate::service_nodes::ServiceDesk;
 use crate::state::ServiceState;
-use crate::{majority, ticker};
+use crate::{draining, majority, ticker};
 use ballot::NodeId;
 use cluster::Link;
 use ports::{
@@ -180,6 +181,59 @@ impl Ports {
         Ok(Ports { pop, peers, ctl })
     }
 
+    /// Starts the threads that take connections at all ports, once the service begins. They end once the ports are closed.
+    pub(crate) fn start_taking<R: System>(
+        &self,
+        rt: R,
+        life: &Arc<ServiceLife>,
+        threads: &mut Vec<JoinHandle<()>>,
+    ) -> Result<(), Fault> {
+        for peer in &self.peers {
+            start_taking(rt, &peer.port, life, threads)?;
+        }
+        for pop in &self.pop {
+            start_taking(rt, &pop.port, life, threads)?;
+        }
+        start_taking(rt, &self.ctl, life, threads)
+    }
+
+    /// Lets POP3 clients wait who come from now on, until `resume_pop` or `resume`.
+    pub(crate) fn pause_pop<R: Wait>(&self, rt: &R) {
+        for port in &self.pop {
+            port.port.pause(rt);
+        }
+    }
+
+    /// Serves POP3 clients again.
+    pub(crate) fn resume_pop<R: Wait>(&self, rt: &R) {
+        for port in &self.pop {
+            port.port.resume(rt);
+        }
+    }
+
+    /// Lets POP3 clients wait who come from now on, until the next epoch serves them.
+    pub(crate) fn hand_over_pop<R: Wait>(&self, rt: &R) {
+        for port in &self.pop {
+            port.port.hand_over(rt);
+        }
+    }
+
+    /// Lets operators wait who come from now on, until `resume`.
+    pub(crate) fn pause_ctl<R: Wait>(&self, rt: &R) {
+        self.ctl.pause(rt);
+    }
+
+    /// Lets operators wait who come from now on, until the next epoch serves them. Those who are there are heard no longer.
+    pub(crate) fn hand_over_ctl<R: Wait>(&self, rt: &R) {
+        self.ctl.hand_over(rt);
+    }
+
+    /// Serves clients and operators, with those who have waited.
+    pub(crate) fn resume<R: Wait>(&self, rt: &R) {
+        self.resume_pop(rt);
+        self.ctl.resume(rt);
+    }
+
     /// Lets no POP3 client come any more.
     pub(crate) fn close_pop<R: Wait>(&self, rt: &R) {
         for port in &self.pop {
@@ -198,23 +252,29 @@ impl Ports {
     pub(crate) fn close_ctl<R: Wait>(&self, rt: &R) {
         self.ctl.close(rt);
     }
+
+    /// Lets nobody come any more.
+    pub(crate) fn close<R: Wait>(&self, rt: &R) {
+        self.close_pop(rt);
+        self.close_ctl(rt);
+        self.close_peers(rt);
+    }
 }
 
-/// The threads of a service.
+/// The threads of an epoch.
 #[derive(Drop)]
-pub(crate) struct ServiceThreads {
-    /// Those of the POP3 ports. They end once these are closed and their sessions have ended.
+pub(crate) struct EpochThreads {
+    /// Those that serve POP3 clients. They end once the ports are handed over or closed, and their sessions have ended.
     pub(crate) sessions: Vec<JoinHandle<()>>,
     /// Those that look after the nodes. They end once the sessions have ended.
     pub(crate) nodes: Vec<JoinHandle<()>>,
     /// Those of the nodes' ports. They end once these are closed.
     pub(crate) peers: Vec<JoinHandle<()>>,
-    /// Those of the operator's port. They end once it is closed and its connections have ended.
+    /// Those that serve operators. They end once the port is handed over or closed, and its connections have ended.
     pub(crate) operators: Vec<JoinHandle<()>>,
 }
 
-/// Starts all threads of a service, and then has connections taken. If a thread can't be had, the service is stopped before
-/// it takes any.
+/// Starts all threads of an epoch, and then has clients and operators served. If a thread can't be had, nobody is served.
 pub(crate) fn start<
     D: Service + Send + Sync + 'static,
     R: System,
@@ -227,8 +287,8 @@ pub(crate) fn start<
     state: &Arc<ServiceState>,
     sessions: &Arc<ServedSessions<D>>,
     settings: &Settings,
-) -> (ServiceThreads, Result<(), Fault>) {
-    let mut threads = ServiceThreads {
+) -> (EpochThreads, Result<(), Fault>) {
+    let mut threads = EpochThreads {
         sessions: Vec::new(alloc),
         nodes: Vec::new(alloc),
         peers: Vec::new(alloc),
@@ -236,14 +296,13 @@ pub(crate) fn start<
     };
     let started = threads.start_all(rt, alloc, nodes, ports, state, sessions, settings);
     if started.is_ok() {
-        state.stages().begin(&rt);
-    } else {
-        state.stages().stop(&rt);
+        state.life().stages().begin(&rt);
+        ports.resume(&rt);
     }
     (threads, started)
 }
 
-impl ServiceThreads {
+impl EpochThreads {
     fn start_all<
         D: Service + Send + Sync + 'static,
         R: System,
@@ -273,14 +332,7 @@ impl ServiceThreads {
             state,
             settings,
             &mut self.operators,
-        )?;
-        for peer in &ports.peers {
-            start_taking(rt, &peer.port, state, &mut self.peers)?;
-        }
-        for pop in &ports.pop {
-            start_taking(rt, &pop.port, state, &mut self.sessions)?;
-        }
-        start_taking(rt, &ports.ctl, state, &mut self.operators)
+        )
     }
 }
 
@@ -295,6 +347,7 @@ fn start_nodes<R: System, N: ServedNode + Send + Sync + Drop + 'static>(
 ) -> Result<(), Fault> {
     let tick = Duration::from_millis(settings.tick_ms);
     let elsewhere = settings.node.map(|_| settings.cluster);
+    draining::start(rt, nodes, state, threads)?;
     ticker::start(rt, alloc, nodes, state, tick, elsewhere, threads)?;
     if settings.no_majority_seconds > 0 {
         let limit_ms = settings.no_majority_seconds.saturating_mul(1_000);

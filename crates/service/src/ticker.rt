@@ -17,8 +17,8 @@ use std::time::{Clock, Duration};
 /// How many milliseconds lie between two looks at the locks of sessions whose nodes are down.
 const LOCK_LOOK_MS: u64 = 1_000;
 
-/// How often in a row a tick is put off at most.
-const MOST_PUT_OFF: u32 = 50;
+/// For how many milliseconds a tick is put off at most.
+const LONGEST_PUT_OFF_MS: u64 = 10_000;
 
 /// A node, and how long it has waited in vain.
 #[derive(Drop)]
@@ -68,7 +68,7 @@ impl Alone {
         let heard = self.hears;
         self.hears = self.hearing.look(rt, state.heard_nodes(), passed_ms);
         if heard && !self.hears {
-            state.log().no_majority(rt);
+            state.life().log().no_majority(rt);
         }
         self.pace.is_due(passed_ms, is_busy, self.hears)
     }
@@ -124,7 +124,7 @@ fn run<R: Wait + Clock, N: ServedNode + Drop>(
     mut alone: Option<Alone>,
 ) {
     let every_ms = u64::try_from(every.as_millis()).unwrap_or(u64::MAX);
-    let mut put_off = 0;
+    let mut put_off_ms: u64 = 0;
     let mut waited = Duration::ZERO;
     for _ in rt.forever() {
         if state.stages().pauses(rt, every) {
@@ -135,13 +135,13 @@ fn run<R: Wait + Clock, N: ServedNode + Drop>(
         waited = waited.saturating_add(every);
         if look.up < nodes.len() && waited >= Duration::from_millis(LOCK_LOOK_MS) {
             waited = Duration::ZERO;
-            let _more = state.lock_breaker().look(rt, nodes, state.log());
+            let _more = state.lock_breaker().look(rt, nodes, state.life().log());
         }
-        if put_off < MOST_PUT_OFF && has_unheard(&watched) {
-            put_off += 1;
+        if put_off_ms < LONGEST_PUT_OFF_MS && has_unheard(&watched) {
+            put_off_ms = put_off_ms.saturating_add(every_ms);
             continue;
         }
-        put_off = 0;
+        put_off_ms = 0;
         let is_busy = !look.are_at_rest;
         let is_due = match &mut alone {
             None => is_busy,

@@ -5,13 +5,10 @@ ghost use Rattle.session.specs.declared.transcript.Transcript.{Transcript};
 ghost use Rattle.session.specs.Serve.{IsReadAndWritten};
 ghost use Rattle.session.specs.Transcript.{IsHistory};
 ghost use Rattle.service.specs.Transcripts as spec;
-ghost use Rattle.service.specs.Transcripts.{AreEnded, WereServed};
-ghost use Rattle.service.specs.Verdicts.{CanServe, IsJudged, IsLegal, WasLegal, config_of};
-ghost use Rattle.service.specs.declared.verdict.Verdict.TheVariants.{Legal, Memory};
+ghost use Rattle.service.specs.Transcripts.{AreEnded, KeepsServed};
 
 use crate::brand::Service;
-use crate::service_nodes::ServiceLogs;
-use crate::verdict::{Verdict, verdict_of};
+use crate::rolls::session_bytes;
 use apop::{Accounts, Stamp};
 use maildrop::{Op, Outcome};
 use session::{Desk, End, Gate, Transcript, serve};
@@ -77,6 +74,17 @@ impl<D: Service> Served<D> {
         self.transcript.end
     }
 
+    /// How many bytes it takes until it is audited, with what the nodes keep for it, about.
+    pub(crate) fn bytes(&self) -> u64 {
+        let mut listed: usize = 0;
+        for asked in self.transcript.asked.get() {
+            if let Some(Outcome::Taken(taken)) = &asked.outcome {
+                listed = listed.saturating_add(taken.get().len());
+            }
+        }
+        session_bytes(self.transcript.asked.len(), listed)
+    }
+
     /// Drops it: the service has ended, or isn't audited.
     pub(crate) fn lose(self) {
         let Served {
@@ -84,6 +92,29 @@ impl<D: Service> Served<D> {
             of: _,
         } = self;
     }
+}
+
+/// What is kept of the sessions of a service that has ended.
+#[derive(Drop)]
+pub(crate) struct TranscriptList {
+    /// The transcripts of sessions that asked something, in the order in which these ended.
+    pub kept: Vec<Transcript>,
+    /// The number of each of these sessions among all, counted from 0 in the order in which they ended.
+    pub numbers: Vec<usize>,
+    /// How many sessions were greeted.
+    pub greeted: usize,
+    /// How many sessions have ended.
+    pub ended: usize,
+    /// Whether there was no room for something.
+    pub is_short: bool,
+}
+
+impl Model for TranscriptList {
+    ghost use Rattle.service.specs.Transcripts.{TranscriptsValue};
+
+    ghost Value = { TranscriptsValue };
+
+    ghost view = { λ t. record { kept = t.kept.items; numbers = t.numbers.items; greeted = t.greeted; ended = t.ended; is_short = t.is_short } };
 }
 
 /// The transcripts of the sessions that have ended, and how many were greeted. A session that asked nothing leaves only its
@@ -155,37 +186,26 @@ impl<D: Service> Transcripts<D> {
         self.is_short = self.is_short | !is_added;
     }
 
-    /// The verdict of an audit on all that the service's nodes and sessions did, by the logs of all nodes. `Memory` if the
-    /// transcript of a session that was greeted is missing.
-    pub(crate) fn verdict(&self, alloc: Global, logs: &ServiceLogs<D>) -> Verdict
-        requires { CanServe D.accounts D.setup }
-        ensures judged { IsJudged logs.now self.now result }
-        ensures whole { (result ≡ Memory) ⊎ ((self.now.is_short ≡ false) × (self.now.ended ≡ self.now.greeted)) }
-        ensures legal { result ≡ Legal → (all : List (Transcript Global)) → AreEnded self.now all → WereServed D.accounts all
-            → IsLegal (config_of D.accounts D.setup) logs.now all }
-        ensures found { result ≡ Legal → WasLegal (config_of D.accounts D.setup) logs.now self.now.kept self.now.greeted }
-    {
-        if self.is_short || self.ended != self.greeted {
-            return Verdict::Memory;
-        }
-        let verdict = verdict_of(alloc, logs.get(), self.kept.as_slice());
-        numbered(&self.numbers, verdict)
-    }
-
-    /// The transcripts of sessions that asked something, and how many sessions were greeted.
-    pub(crate) fn into_parts(self) -> (Vec<Transcript>, usize)
-        ensures kept { result.0.items ≡ self.kept }
-        ensures greeted { result.1 ≡ self.greeted }
+    /// All that is kept, without the book.
+    pub(crate) fn into_list(self) -> TranscriptList
+        ensures list { result ≡ self }
+        ensures served { KeepsServed D.accounts result }
     {
         let Transcripts {
             kept,
-            numbers: _,
+            numbers,
             greeted,
-            ended: _,
-            is_short: _,
+            ended,
+            is_short,
             book: _,
         } = self;
-        (kept, greeted)
+        TranscriptList {
+            kept,
+            numbers,
+            greeted,
+            ended,
+            is_short,
+        }
     }
 }
 
@@ -228,24 +248,4 @@ fn add_to(
     kept.push_reserved(transcript);
     numbers.push_reserved(number);
     true
-}
-
-/// The same verdict, with the number of a session among all sessions in place of the place of its transcript.
-fn numbered(numbers: &[usize], verdict: Verdict) -> Verdict
-    ensures { result ≡ spec.numbered numbers.now verdict }
-{
-    match verdict {
-        Verdict::WrongAnswer(place) => Verdict::WrongAnswer(number_at(numbers, place)),
-        Verdict::Legal | Verdict::NoOrder(_) | Verdict::Memory => verdict,
-    }
-}
-
-/// The number of the session whose transcript is at this place.
-fn number_at(numbers: &[usize], place: usize) -> usize
-    ensures { result ≡ spec.number_at numbers.now place }
-{
-    match numbers.get(place) {
-        Some(number) => *number,
-        None => place,
-    }
 }

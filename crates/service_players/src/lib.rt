@@ -13,7 +13,7 @@ pub use clients::{
 };
 pub use holdings::{descriptors, descriptors_fall_to, threads, threads_fall_to};
 pub use nodes::{NodePlan, NodeSite, Nodes, nodes_beside_deaf, nodes_with, run_node};
-pub use plays::{Row, STOP, Scene, play, play_after, play_at};
+pub use plays::{Row, STOP, Scene, play, play_after, play_at, play_epochs};
 pub use running::{
     Doors, Ended, Plan, Ports, Running, STARTS, Site, Told, at_one_port, at_port, at_socket, begun,
     bounded, ctl_with, file, free_ports, options, over_ports, planned, remove, run, with_few_bytes,

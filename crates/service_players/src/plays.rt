@@ -255,8 +255,21 @@ pub fn play_after<
     R: Net<Listener = TcpListener, Stream = TcpStream> + Threads + RandomSource + Files + Eprint,
 >(rt: &R, alloc: Global, service: Running, scene: &Scene, greeted: u64) -> Result<(), Fail> {
     play_at(rt, alloc, service.doors(), scene, greeted)?;
+    ends_well(rt, service, b"audit ok\n")
+}
+
+/// Plays a scene at a service that has just begun, and that must end well and write these verdicts.
+pub fn play_epochs<
+    R: Net<Listener = TcpListener, Stream = TcpStream> + Threads + RandomSource + Files + Eprint,
+>(rt: &R, alloc: Global, service: Running, scene: &Scene, verdicts: &[u8]) -> Result<(), Fail> {
+    play_at(rt, alloc, service.doors(), scene, 0)?;
+    ends_well(rt, service, verdicts)
+}
+
+/// Waits for the end of a service, which must have written these verdicts.
+fn ends_well<R: Threads>(rt: &R, service: Running, verdicts: &[u8]) -> Result<(), Fail> {
     let (status, written) = service.end(rt);
-    if status != 0 || written.as_slice() != b"audit ok\n".as_slice() {
+    if status != 0 || written.as_slice() != verdicts {
         return Err(Fail::from("another verdict"));
     }
     Ok(())

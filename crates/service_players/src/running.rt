@@ -2,7 +2,7 @@
 
 use crate::clients::{PATIENCE, local};
 use ctl::{CtlOptions, ctl_run};
-use service::{ServeOptions, ServiceEnd, serve_run};
+use service::{OnFault, ServeOptions, ServiceEnd, serve_run};
 use std::alloc::Global;
 use std::fs::File;
 use std::io::{Eprint, Read, Write};
@@ -87,6 +87,10 @@ pub fn options<'a>(accounts: &'a str, pop_port: u16, ctl_port: u16) -> ServeOpti
         idle_seconds: 0,
         no_majority_seconds: 0,
         delivery_bytes: 1 << 30,
+        epoch_sessions: 0,
+        epoch_bytes: 0,
+        keys: 10_000,
+        on_fault: OnFault::Stop,
         log: None,
     }
 }
@@ -175,7 +179,7 @@ pub struct Plan {
     socket: Option<String>,
     /// How many bytes the files have that are delivered at a time.
     delivery_bytes: u64,
-    /// Whether it has one port for all nodes, that of node 1, and ends after a second without a majority.
+    /// Whether it has one port for all nodes, that of node 1, and its epoch ends after a second without a majority.
     has_one_port: bool,
     /// The port above which its nodes send to one another, if they have ports for that.
     peer_port: Option<u16>,
@@ -257,7 +261,7 @@ pub fn at_socket<R: Net<Listener = TcpListener, Stream = TcpStream> + RandomSour
     Ok((plan, site))
 }
 
-/// The same service at one port for all nodes, which ends after a second without a majority.
+/// The same service at one port for all nodes, whose epoch ends after a second without a majority.
 pub fn at_one_port<R: Net<Listener = TcpListener, Stream = TcpStream> + RandomSource + Files>(
     rt: &R,
     alloc: Global,

@@ -56,6 +56,10 @@ with_crash text node = text ++ codes "event=crash node=" ++ decimal node ++ code
 abbrev pub with_break : List ℕ → List ℕ → ℕ → List ℕ
 with_break text user node = text ++ codes "event=break user=" ++ user ++ codes " node=" ++ decimal node ++ codes "\n"
 
+-- an epoch begins, with what the one before it has left
+abbrev pub with_roll : List ℕ → ℕ → List ℕ
+with_roll text epoch = text ++ codes "event=roll epoch=" ++ decimal epoch ++ codes "\n"
+
 -- an event that has only a name
 abbrev pub with_event : List ℕ → List ℕ → List ℕ
 with_event text name = text ++ codes "event=" ++ name ++ codes "\n"

@@ -125,6 +125,13 @@ pub(crate) fn put_broken(text: &mut Vec<u8>, user: &Name, node: u8) -> Result<()
     put_number_line(text, b" node=", node as u64)
 }
 
+/// Adds the line of an epoch that begins.
+pub(crate) fn put_roll(text: &mut Vec<u8>, epoch: u64) -> Result<(), Memory>
+    ensures { OnOk result (text.new.items ≡ spec.with_roll text.old.items epoch) }
+{
+    put_number_line(text, b"event=roll epoch=", epoch)
+}
+
 /// Adds the line of an event that has only a name.
 pub(crate) fn put_event(text: &mut Vec<u8>, name: &[u8]) -> Result<(), Memory>
     ensures { OnOk result (text.new.items ≡ spec.with_event text.old.items name.now) }

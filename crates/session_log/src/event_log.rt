@@ -1,7 +1,8 @@
 //! The log: a line for each event.
 
 use crate::event_lines::{
-    put_broken, put_crash, put_delivery, put_event, put_fault, put_refused, put_session, put_time,
+    put_broken, put_crash, put_delivery, put_event, put_fault, put_refused, put_roll, put_session,
+    put_time,
 };
 use crate::facts::{Ending, SessionFacts};
 use crate::open_sessions::peer_text;
@@ -157,7 +158,15 @@ impl EventLog {
         }
     }
 
-    /// The service ends for want of a majority.
+    /// An epoch of this number begins, with what the one before it has left.
+    pub fn roll<R: Wait + Clock>(&self, rt: &R, epoch: u64) {
+        if let Some(mut line) = self.begin(rt) {
+            let put = put_roll(&mut line, epoch);
+            self.end(rt, line, put);
+        }
+    }
+
+    /// The nodes lack a majority.
     pub fn no_majority<R: Wait + Clock>(&self, rt: &R) {
         self.event(rt, b"no_majority");
     }

@@ -26,6 +26,8 @@ pub struct OpenSession {
     pub facts: SharedFacts,
     /// Its connection.
     pub stream: Arc<TcpStream>,
+    /// How many bytes had been sent both ways when `end_idle` looked last: the highest number before.
+    pub moved: u64,
 }
 
 impl OpenSession {
@@ -40,6 +42,22 @@ impl OpenSession {
     /// Cuts the connection, so that the session ends and gives its lock back.
     fn cut(&self) {
         let _closed = self.stream.shutdown(Shutdown::Both);
+    }
+
+    /// Hears the client no longer. The session ends as if the client had hung up, once it has written what it replies now.
+    fn end(&self) {
+        let _closed = self.stream.shutdown(Shutdown::Read);
+    }
+
+    /// Whether nothing was sent either way since the last look, and the client awaits no reply. Takes this for the next look.
+    fn is_idle<R: Wait>(&mut self, rt: &R) -> bool {
+        let facts = self.facts.lock(rt);
+        let moved = facts.bytes_read.saturating_add(facts.bytes_written);
+        let is_asked = facts.begins_reply;
+        drop(facts);
+        let is_still = moved == self.moved;
+        self.moved = moved;
+        is_still && !is_asked
     }
 }
 
@@ -103,6 +121,23 @@ impl OpenSessions {
     pub fn cut_all<R: Wait>(&self, rt: &R) {
         for session in self.open.lock(rt).values() {
             session.cut();
+        }
+    }
+
+    /// Ends the sessions in which nothing was sent either way since the last such look, and whose clients await no reply.
+    /// Each ends as if its client had hung up: it gives its lock back, and removes nothing.
+    pub fn end_idle<R: Wait>(&self, rt: &R) {
+        for session in self.open.lock(rt).values_mut() {
+            if session.is_idle(rt) {
+                session.end();
+            }
+        }
+    }
+
+    /// Ends all sessions, each as if its client had hung up, once it has written what it replies now.
+    pub fn end_all<R: Wait>(&self, rt: &R) {
+        for session in self.open.lock(rt).values() {
+            session.end();
         }
     }
 

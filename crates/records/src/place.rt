@@ -1,0 +1,99 @@
+//! What stands at a place of a file.
+ghost use Rattle.std.specs.Prelude.{◌≡◌, ◌≤◌, option_map, IfSome};
+ghost use Rattle.std.specs.Int.{w32, w64};
+ghost use Rattle.records.specs.Reading.{number_at, part_at};
+ghost use Rattle.records.specs.Reading as spec;
+
+use crate::sum::sum_of;
+
+/// The most bytes that a payload has: 2^30 + 4096.
+pub const LARGEST_PAYLOAD: usize = 1_073_745_920;
+
+/// How many bytes the head of a record has.
+const RECORD_HEAD: usize = 12;
+
+/// How many bytes a sum has.
+const SUM: usize = 8;
+
+/// How many bytes a record has beside its payload.
+pub(crate) const FRAME: usize = 20;
+
+/// A number of four bytes, and the bytes after it.
+fn u32_at(bytes: &[u8]) -> Option<(u32, &[u8])>
+    ensures { option_map (λ x. (x.0, x.1.now)) result ≡ number_at w32 bytes.now }
+{
+    if bytes.len() < 4 {
+        return None;
+    }
+    let (front, rest) = bytes.split_at(4);
+    let number = u32::from_be_bytes([front[0], front[1], front[2], front[3]]);
+    Some((number, rest))
+}
+
+/// A number of eight bytes, and the bytes after it.
+fn u64_at(bytes: &[u8]) -> Option<(u64, &[u8])>
+    ensures { option_map (λ x. (x.0, x.1.now)) result ≡ number_at w64 bytes.now }
+{
+    if bytes.len() < 8 {
+        return None;
+    }
+    let (front, rest) = bytes.split_at(8);
+    let number = u64::from_be_bytes([
+        front[0], front[1], front[2], front[3], front[4], front[5], front[6], front[7],
+    ]);
+    Some((number, rest))
+}
+
+/// So many bytes, and those after them.
+fn part_of(n: usize, bytes: &[u8]) -> Option<(&[u8], &[u8])>
+    ensures { option_map (λ x. (x.0.now, x.1.now)) result ≡ part_at n bytes.now }
+{
+    if bytes.len() < n {
+        return None;
+    }
+    Some(bytes.split_at(n))
+}
+
+/// How long the payload of a record is whose head stands here, and the bytes after the head.
+#[tactic(auto, unfolding(crate::specs::Reading::head_at))]
+fn head_at(salt: u64, at: u64, bytes: &[u8]) -> Option<(usize, &[u8])>
+    ensures value { option_map (λ x. (x.0, x.1.now)) result ≡ spec.head_at salt at bytes.now }
+    ensures short { IfSome result (λ x. x.0 ≤ LARGEST_PAYLOAD) }
+{
+    let (n, rest) = u32_at(bytes)?;
+    let (sum, rest) = u64_at(rest)?;
+    let size = n as usize;
+    if size <= LARGEST_PAYLOAD && sum == sum_of(salt, at, &n.to_be_bytes()) {
+        Some((size, rest))
+    } else {
+        None
+    }
+}
+
+/// The payload of a whole record that stands here, and the bytes after it.
+#[tactic(auto, unfolding(crate::specs::Reading::record_at))]
+pub(crate) fn record_at(salt: u64, at: u64, bytes: &[u8]) -> Option<(&[u8], &[u8])>
+    ensures { option_map (λ x. (x.0.now, x.1.now)) result ≡ spec.record_at salt at bytes.now }
+{
+    let (size, rest) = head_at(salt, at, bytes)?;
+    let (payload, rest) = part_of(size, rest)?;
+    let (sum, rest) = u64_at(rest)?;
+    if sum == sum_of(salt, at, payload) {
+        Some((payload, rest))
+    } else {
+        None
+    }
+}
+
+/// Whether the bytes end inside a head, or inside a record whose head is right.
+pub(crate) fn is_cut(salt: u64, at: u64, bytes: &[u8]) -> bool
+    ensures { result ≡ spec.is_cut salt at bytes.now }
+{
+    if bytes.len() < RECORD_HEAD {
+        return true;
+    }
+    match head_at(salt, at, bytes) {
+        None => false,
+        Some((size, rest)) => rest.len() < size + SUM,
+    }
+}

@@ -1,0 +1,143 @@
+//! The end of an epoch's sessions, if the service goes on without them.
+
+use crate::majority::{count_up, crash_all, is_majority};
+use crate::served_node::ServedNode;
+use crate::state::ServiceState;
+use ports::{Fault, STACK};
+use std::sync::{Arc, Condvar, Mutex, Wait};
+use std::thread;
+use std::thread::{Builder, JoinHandle, Threads};
+use std::time::{Clock, Duration};
+
+/// How many milliseconds lie between two looks at the sessions. One that is silent for so long ends.
+const LOOK_MS: u64 = 500;
+
+/// From which look on all sessions end: after 10 seconds.
+const LAST_LOOK: u32 = 20;
+
+/// From which look on their connections are cut, and the nodes stop that they may wait for: after 15 seconds.
+const CUT_LOOK: u32 = 30;
+
+/// How often deliveries are looked at that are under way: for 10 seconds.
+const DELIVERY_LOOKS: u32 = 2_000;
+
+/// How many milliseconds lie between two looks at them.
+const DELIVERY_LOOK_MS: u64 = 5;
+
+/// How far the end of an epoch's sessions has come.
+#[derive(Clone, Copy, Debug, PartialEq, Eq)]
+enum Stage {
+    /// They go on.
+    Open,
+    /// They are to end.
+    Ending,
+    /// They have ended.
+    Ended,
+}
+
+/// The end of an epoch's sessions.
+#[derive(Drop)]
+pub(crate) struct Draining {
+    stage: Mutex<Stage>,
+    changes: Condvar,
+}
+
+impl Draining {
+    /// Of sessions that go on.
+    pub(crate) fn new() -> Self {
+        Draining {
+            stage: Mutex::new(Stage::Open),
+            changes: Condvar::new(),
+        }
+    }
+
+    /// The sessions are to end.
+    pub(crate) fn begin<R: Wait>(&self, rt: &R) {
+        *self.stage.lock(rt) = Stage::Ending;
+        self.changes.notify_all();
+    }
+
+    /// The sessions have ended.
+    pub(crate) fn end<R: Wait>(&self, rt: &R) {
+        *self.stage.lock(rt) = Stage::Ended;
+        self.changes.notify_all();
+    }
+
+    /// Waits until the sessions are to end. Returns false if they have ended by themselves.
+    fn waits_for_begin<R: Wait>(&self, rt: &R) -> bool {
+        let guard = self.stage.lock(rt);
+        let stage = self
+            .changes
+            .wait_while(rt, guard, |stage| matches!(*stage, Stage::Open));
+        matches!(*stage, Stage::Ending)
+    }
+
+    /// Waits so long, or until the sessions have ended. Returns whether they have.
+    fn pauses<R: Wait + Clock>(&self, rt: &R, time: Duration) -> bool {
+        let guard = self.stage.lock(rt);
+        let (stage, _) = self
+            .changes
+            .wait_timeout_while(rt, guard, time, |stage| !matches!(*stage, Stage::Ended));
+        matches!(*stage, Stage::Ended)
+    }
+}
+
+/// Starts the thread that ends the sessions of an epoch, once that is asked for.
+pub(crate) fn start<
+    R: Threads + Wait + Clock + Copy + Send + 'static,
+    N: ServedNode + Send + Sync + Drop + 'static,
+>(
+    rt: R,
+    nodes: &Arc<Vec<N>>,
+    state: &Arc<ServiceState>,
+    threads: &mut Vec<JoinHandle<()>>,
+) -> Result<(), Fault> {
+    threads.reserve(1)?;
+    let nodes = Arc::try_clone(nodes)?;
+    let state = Arc::try_clone(state)?;
+    let Ok(thread) = Builder::new()
+        .stack_size(STACK)
+        .spawn(&rt, move || drain(&rt, &nodes, &state))
+    else {
+        return Err(Fault::Memory);
+    };
+    threads.push_reserved(thread);
+    Ok(())
+}
+
+/// Ends the sessions, once that is asked for: those that are silent, later all as if their clients had hung up, and in the end
+/// with their connections and nodes. Nodes without a majority stop at once, since nobody gets an answer from them.
+fn drain<R: Wait + Clock, N: ServedNode>(rt: &R, nodes: &[N], state: &ServiceState) {
+    if !state.draining().waits_for_begin(rt) {
+        return;
+    }
+    if !is_majority(count_up(nodes), nodes.len()) {
+        crash_all(nodes);
+    }
+    let sessions = state.life().sessions();
+    let mut looks: u32 = 0;
+    for _ in rt.forever() {
+        if looks < LAST_LOOK {
+            sessions.end_idle(rt);
+        } else if looks < CUT_LOOK {
+            sessions.end_all(rt);
+        } else {
+            sessions.cut_all(rt);
+            crash_all(nodes);
+        }
+        if state.draining().pauses(rt, Duration::from_millis(LOOK_MS)) {
+            return;
+        }
+        looks = looks.saturating_add(1);
+    }
+}
+
+/// Waits until no delivery is under way, but not for long.
+pub(crate) fn wait_for_deliveries<R: Wait + Clock>(rt: &R, state: &ServiceState) {
+    for _ in 0..DELIVERY_LOOKS {
+        if !state.is_delivering(rt) {
+            return;
+        }
+        thread::sleep(rt, Duration::from_millis(DELIVERY_LOOK_MS));
+    }
+}

@@ -1,0 +1,218 @@
+//! The epochs of a service, one after another.
+ghost use Rattle.std.specs.Prelude.{◌≡◌, None, Ok, option_map, IfOk, IfSome};
+ghost use Rattle.cluster.specs.Ends.{IsLeftBy};
+ghost use Rattle.service.specs.Epochs as spec;
+ghost use Rattle.service.specs.EpochEnds.{IsLeftOf};
+ghost use Rattle.service.specs.Epochs.{TellsOn};
+
+use crate::epoch::EndedEpoch;
+use crate::epoch_run::{EpochEnd, EpochLeft, run_epoch, tell_verdict};
+use crate::life::ServiceLife;
+use crate::options::{ServeOptions, Settings};
+use crate::past::Past;
+use crate::serve::{accounts_of, note_fault, setup_of};
+use crate::threads::{Ports, join_all};
+use apop::Accounts;
+use ports::{Fault, System};
+use std::alloc::Global;
+use std::fs::File;
+use std::io::Write;
+use std::marker::Brand;
+use std::mem;
+use std::rt::Files;
+use std::sync::Arc;
+use std::sync::ledger::Blank;
+use std::thread::JoinHandle;
+
+/// The last epoch of a service.
+#[derive(Drop)]
+pub(crate) struct LastEpoch {
+    /// Nothing if a node left no log, or the transcripts are gone.
+    pub ended: Option<EndedEpoch>,
+    /// Why it is the last one, unless the service was stopped.
+    pub fault: Option<Fault>,
+}
+
+/// The threads of operators of the last two epochs that have ended. An operator may still wait for the next epoch, or for the
+/// end of the service.
+#[derive(Drop)]
+pub(crate) struct PastOperators {
+    last: Vec<JoinHandle<()>>,
+    before: Vec<JoinHandle<()>>,
+}
+
+impl PastOperators {
+    /// Of a service without such epochs. Takes no memory.
+    pub(crate) fn new(alloc: Global) -> Self {
+        PastOperators {
+            last: Vec::new(alloc),
+            before: Vec::new(alloc),
+        }
+    }
+
+    /// Takes the threads of one more epoch. Those of the epoch two before it are waited for: their operators wait for nothing
+    /// any more.
+    fn add<R: System>(&mut self, rt: &R, life: &ServiceLife, threads: Vec<JoinHandle<()>>) {
+        life.rolls().join_before_last(rt);
+        let last = mem::replace(&mut self.last, threads);
+        join_all(rt, mem::replace(&mut self.before, last));
+    }
+
+    /// Waits for all, once the service has ended.
+    pub(crate) fn join<R: System>(self, rt: &R) {
+        let PastOperators { last, before } = self;
+        join_all(rt, before);
+        join_all(rt, last);
+    }
+}
+
+/// The accounts of the file, or those of the last epoch if it is faulty now.
+fn next_accounts<R: System + Files<File = File>>(
+    rt: &R,
+    alloc: Global,
+    options: &ServeOptions<'_>,
+    life: &ServiceLife,
+    last: Arc<Accounts>,
+) -> Arc<Accounts> {
+    let read = match accounts_of(rt, alloc, options.accounts) {
+        Ok(accounts) => match Arc::new(alloc, accounts) {
+            Ok(accounts) => Ok(accounts),
+            Err(_) => Err(Fault::Memory),
+        },
+        Err(fault) => Err(fault),
+    };
+    match read {
+        Ok(accounts) => accounts,
+        Err(fault) => {
+            note_fault(rt, alloc, life.log(), fault);
+            last
+        }
+    }
+}
+
+/// Runs the next epoch with these accounts.
+fn run_next<R: System, W: Write>(
+    rt: R,
+    alloc: Global,
+    settings: &Settings,
+    ports: &Ports,
+    life: &Arc<ServiceLife>,
+    accounts: &Arc<Accounts>,
+    past: &mut Past,
+    writer: &mut W,
+) -> Result<EpochEnd, Fault>
+    ensures past { past.new.kept ≡ past.old.kept }
+    ensures told { TellsOn (W.contents writer.old) (W.contents writer.new) past.old past.new }
+    ensures end { IfOk result (λ end. IfSome end.left (IsLeftOf settings.now.cluster settings.now.window settings.now.limits settings.now.keys past.old.kept)) }
+{
+    let setup = setup_of(alloc, settings, accounts, past.kept()?)?;
+    let accounts = Arc::try_clone(accounts)?;
+    let book = Blank::new(1);
+    run_epoch::<Brand, R, W>(
+        rt, alloc, settings, ports, life, setup, accounts, book, past, writer,
+    )
+}
+
+/// Runs an epoch, and adds it to those that have ended. Returns it instead if it is the last one. If there was no memory to
+/// open it, nothing has changed, and the caller may try again once the audit of the one before it has ended.
+#[tactic(auto, using(crate::proofs::Lasts::last_of))]
+fn run_one<R: System, W: Write>(
+    rt: R,
+    alloc: Global,
+    settings: &Settings,
+    ports: &Ports,
+    life: &Arc<ServiceLife>,
+    accounts: &Arc<Accounts>,
+    operators: &mut PastOperators,
+    past: &mut Past,
+    writer: &mut W,
+) -> Result<Option<LastEpoch>, Fault>
+    ensures told { TellsOn (W.contents writer.old) (W.contents writer.new) past.old past.new }
+    ensures last { IfOk result (λ found. IfSome found (λ last. (past.new.pending ≡ None) × IfSome last.ended (spec.IsEpochOf settings.now.cluster settings.now.window settings.now.limits settings.now.keys past.new.kept))) }
+{
+    let EpochEnd {
+        left,
+        operators: theirs,
+        served,
+    } = run_next(rt, alloc, settings, ports, life, accounts, past, writer)?;
+    let is_over = tell_verdict(&rt, alloc, settings.on_fault, life, past, writer);
+    operators.add(&rt, life, theirs);
+    add_or_end(rt, alloc, life, is_over, served, left, past)
+}
+
+/// Adds an epoch to those that have ended, or returns it if the service is over. One in which nobody was served is no more.
+fn add_or_end<R: System>(
+    rt: R,
+    alloc: Global,
+    life: &Arc<ServiceLife>,
+    is_over: bool,
+    served: Result<(), Fault>,
+    left: Option<EpochLeft>,
+    past: &mut Past,
+) -> Result<Option<LastEpoch>, Fault>
+    requires left { IfSome left (λ left. (left.epoch.setup.kept ≡ past.old.kept) × IfOk left.kept (IsLeftBy left.epoch.setup left.epoch.logs)) }
+    requires known { past.old.pending ≡ None }
+    ensures told { past.new.told ≡ past.old.told }
+    ensures good { past.new.is_good ≡ past.old.is_good }
+    ensures added { result ≡ Ok None → option_map (λ left. left.epoch) left ≡ past.new.pending }
+    ensures last { IfOk result (λ found. IfSome found (λ last. (past.new ≡ past.old) × (last.ended ≡ option_map (λ left. left.epoch) left))) }
+{
+    served?;
+    let Some(EpochLeft { epoch, kept }) = left else {
+        return Ok(Some(LastEpoch {
+            ended: None,
+            fault: None,
+        }));
+    };
+    if is_over || life.rolls().is_stopping(&rt) {
+        return Ok(Some(LastEpoch {
+            ended: Some(epoch),
+            fault: None,
+        }));
+    }
+    let Ok(kept) = kept else {
+        return Ok(Some(LastEpoch {
+            ended: Some(epoch),
+            fault: Some(Fault::Memory),
+        }));
+    };
+    past.add(rt, alloc, life, epoch, kept)?;
+    Ok(None)
+}
+
+/// Runs epoch after epoch until the service is over, and returns the last one. It is judged by the caller, and all others are
+/// judged here. The accounts are read anew for each epoch. After a fault the last of those that have ended may still be
+/// audited.
+pub(crate) fn run_epochs<R: System + Files<File = File>, W: Write>(
+    rt: R,
+    alloc: Global,
+    options: &ServeOptions<'_>,
+    settings: &Settings,
+    ports: &Ports,
+    life: &Arc<ServiceLife>,
+    accounts: Arc<Accounts>,
+    operators: &mut PastOperators,
+    past: &mut Past,
+    writer: &mut W,
+) -> Result<LastEpoch, Fault>
+    ensures told { TellsOn (W.contents writer.old) (W.contents writer.new) past.old past.new }
+    ensures last { IfOk result (λ last. (past.new.pending ≡ None) × IfSome last.ended (spec.IsEpochOf settings.now.cluster settings.now.window settings.now.limits settings.now.keys past.new.kept)) }
+{
+    let mut accounts = accounts;
+    for _ in rt.forever() {
+        match run_one(
+            rt, alloc, settings, ports, life, &accounts, operators, past, writer,
+        ) {
+            Ok(Some(last)) => return Ok(last),
+            Ok(None) => accounts = next_accounts(&rt, alloc, options, life, accounts),
+            Err(Fault::Memory) if past.is_auditing() => {
+                // There is more memory once the audit has ended.
+                if tell_verdict(&rt, alloc, settings.on_fault, life, past, writer) {
+                    life.stop(&rt);
+                }
+            }
+            Err(fault) => return Err(fault),
+        }
+    }
+    unreachable!()
+}

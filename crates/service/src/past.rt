@@ -1,0 +1,224 @@
+//! The epochs of a service that have ended.
+ghost use Rattle.std.specs.Prelude.{◌≡◌, ◌+◌, true, false, None, Some, is_some, IfOk, IfSome, OnOk, OnErr};
+ghost use Rattle.maildrop.specs.Kept.{with_others_of};
+ghost use Rattle.cluster.specs.Ends.{IsLeftBy};
+ghost use Rattle.service.specs.Epochs as spec;
+ghost use Rattle.service.specs.Epochs.{WasLegalEpoch};
+ghost use Rattle.service.specs.declared.verdict.Verdict.TheVariants.{Legal};
+
+use crate::epoch::EndedEpoch;
+use crate::life::ServiceLife;
+use crate::verdict::Verdict;
+use ballot::Memory;
+use maildrop::{Kept, Shared};
+use std::alloc::Global;
+use std::marker::Model;
+use std::snapshot::Snapshot;
+use std::sync::{Arc, Wait};
+use std::thread;
+use std::thread::{Promise, PromisedHandle, Threads};
+
+/// What the thread that audits an epoch will return: `Legal` only if the epoch had a legal order.
+#[derive(Drop)]
+pub(crate) struct AuditOf(Snapshot<EndedEpoch>);
+
+impl Promise<Verdict> for AuditOf {
+    ghost use Rattle.std.specs.Prelude.{◌≡◌};
+    ghost use Rattle.service.specs.Epochs.{WasLegalEpoch};
+    ghost use Rattle.service.specs.declared.verdict.Verdict.TheVariants.{Legal};
+
+    ghost kept_by = { λ promise verdict. verdict ≡ Legal → WasLegalEpoch promise.0.value };
+}
+
+/// The epochs of a service that have ended, and what the next one opens with. The last one may still be audited, on a thread
+/// of its own.
+#[derive(Drop)]
+pub(crate) struct Past {
+    kept: Shared<Kept>,
+    /// How many verdicts are known.
+    told: u64,
+    /// Whether each of them is that all is in order, and was reported.
+    is_good: bool,
+    /// The first one that isn't.
+    first_bad: Option<Verdict>,
+    audit: Option<PromisedHandle<Verdict, AuditOf>>,
+}
+
+impl Model for Past {
+    ghost use Rattle.std.specs.Prelude.{option_map};
+    ghost use Rattle.service.specs.Epochs.{PastValue, HasLedIfGood};
+
+    ghost Value = { PastValue };
+
+    ghost view = { λ p. record { kept = p.kept; told = p.told; is_good = p.is_good; pending = option_map (λ audit. audit.promise.0.value) p.audit } };
+
+    ghost invariant = { λ p. HasLedIfGood (record { kept = p.kept; told = p.told; is_good = p.is_good; pending = option_map (λ audit. audit.promise.0.value) p.audit }) };
+}
+
+/// Whether a verdict is that all is in order.
+fn is_legal(verdict: &Verdict) -> bool
+    ensures { result ≡ true → verdict.now ≡ Legal }
+{
+    matches!(verdict, Verdict::Legal)
+}
+
+/// The first verdict that isn't that all is in order, once one more is known.
+fn first_bad_of(first_bad: &Option<Verdict>, verdict: &Verdict) -> Option<Verdict>
+    ensures { result ≡ spec.first_bad_of first_bad.now verdict.now }
+{
+    match (first_bad, verdict) {
+        (Some(bad), _) => Some(*bad),
+        (None, Verdict::Legal) => None,
+        (None, bad) => Some(*bad),
+    }
+}
+
+/// Counts one more. Returns false if no number is left.
+fn count_one(count: &mut u64) -> bool
+    ensures { result ≡ true → count.new ≡ count.old + 1 }
+{
+    match count.checked_add(1) {
+        Some(more) => {
+            *count = more;
+            true
+        }
+        None => false,
+    }
+}
+
+/// Audits an epoch, and notes that this has ended.
+fn audit_epoch<R: Wait>(rt: &R, alloc: Global, life: &ServiceLife, epoch: EndedEpoch) -> Verdict
+    ensures { result ≡ Legal → WasLegalEpoch epoch }
+{
+    let verdict = epoch.verdict(alloc);
+    drop(epoch);
+    life.rolls().end_audit(rt);
+    verdict
+}
+
+/// What the next epoch opens with: what an epoch left, and what was kept of users without an account there.
+fn handed_on(alloc: Global, left: Kept, before: &Kept) -> Result<Shared<Kept>, Memory>
+    ensures { IfOk result (λ kept. kept ≡ with_others_of left before.now) }
+{
+    let mut left = left;
+    left.add_others_of(before)?;
+    Shared::new(alloc, left)
+}
+
+/// Starts the thread that audits an epoch.
+fn start_audit<R: Threads + Wait + Copy + Send + 'static>(
+    rt: R,
+    alloc: Global,
+    life: &Arc<ServiceLife>,
+    epoch: EndedEpoch,
+) -> Result<PromisedHandle<Verdict, AuditOf>, Memory>
+    ensures { IfOk result (λ audit. audit.promise.0.value ≡ epoch) }
+{
+    let life = Arc::try_clone(life)?;
+    life.rolls().begin_audit(&rt);
+    let promise = AuditOf(Snapshot::of(&epoch));
+    let audit = move || audit_epoch(&rt, alloc, &life, epoch);
+    match thread::spawn_with(&rt, promise, audit) {
+        Ok(handle) => Ok(handle),
+        Err(_) => Err(Memory),
+    }
+}
+
+impl Past {
+    /// Of a service without an epoch that has ended.
+    pub(crate) fn new(alloc: Global) -> Result<Self, Memory>
+        ensures { IfOk result (λ past. past ≡ spec.no_past) }
+    {
+        let kept = Shared::new(alloc, Kept::new(alloc))?;
+        Ok(Past {
+            kept,
+            told: 0,
+            is_good: true,
+            first_bad: None,
+            audit: None,
+        })
+    }
+
+    /// What the next epoch opens with.
+    pub(crate) fn kept(&self) -> Result<Shared<Kept>, Memory>
+        ensures { IfOk result (λ kept. kept ≡ self.now.kept) }
+    {
+        self.kept.copy()
+    }
+
+    /// How many verdicts are known.
+    pub(crate) fn told(&self) -> u64
+        ensures { result ≡ self.now.told }
+    {
+        self.told
+    }
+
+    /// Whether each of them is that all is in order, and was reported.
+    pub(crate) fn is_good(&self) -> bool
+        ensures { result ≡ self.now.is_good }
+    {
+        self.is_good
+    }
+
+    /// The first one that isn't.
+    pub(crate) fn first_bad(&self) -> &Option<Verdict> {
+        &self.first_bad
+    }
+
+    /// Whether an epoch is still audited.
+    pub(crate) fn is_auditing(&self) -> bool
+        ensures { result ≡ is_some self.now.pending }
+    {
+        self.audit.is_some()
+    }
+
+    /// A verdict couldn't be reported.
+    pub(crate) fn fail(&mut self)
+        ensures kept { self.new.kept ≡ self.old.kept }
+        ensures pending { self.new.pending ≡ self.old.pending }
+        ensures bad { self.new.is_good ≡ false }
+    {
+        self.is_good = false;
+    }
+
+    /// Waits for the verdict on the last epoch, unless it is known.
+    pub(crate) fn collect<R: Threads + Wait>(&mut self, rt: &R) -> Option<Verdict>
+        ensures kept { self.new.kept ≡ self.old.kept }
+        ensures pending { self.new.pending ≡ None }
+        ensures known { result ≡ None → self.new ≡ self.old }
+        ensures good { IfSome result (λ verdict. self.new.is_good ≡ true → (self.old.is_good ≡ true) × (verdict ≡ Legal) × (self.new.told ≡ self.old.told + 1)) }
+    {
+        let audit = self.audit.take()?;
+        let verdict = audit.join(rt);
+        let is_counted = count_one(&mut self.told);
+        self.is_good = self.is_good & is_counted & is_legal(&verdict);
+        self.first_bad = first_bad_of(&self.first_bad, &verdict);
+        Some(verdict)
+    }
+
+    /// Adds an epoch that has ended, and left these maildrops. It is audited on a thread of its own. After `Memory` it isn't
+    /// there.
+    pub(crate) fn add<R: Threads + Wait + Copy + Send + 'static>(
+        &mut self,
+        rt: R,
+        alloc: Global,
+        life: &Arc<ServiceLife>,
+        epoch: EndedEpoch,
+        left: Kept,
+    ) -> Result<(), Memory>
+        requires opened { epoch.setup.kept ≡ self.old.kept }
+        requires left { IsLeftBy epoch.setup epoch.logs left }
+        requires known { self.old.pending ≡ None }
+        ensures kept { OnOk result (self.new.kept ≡ with_others_of left self.old.kept) }
+        ensures pending { OnOk result (self.new.pending ≡ Some epoch) }
+        ensures told { self.new.told ≡ self.old.told }
+        ensures good { self.new.is_good ≡ self.old.is_good }
+        ensures err { OnErr result (self.new ≡ self.old) }
+    {
+        let kept = handed_on(alloc, left, self.kept.get())?;
+        let audit = start_audit(rt, alloc, life, epoch)?;
+        self.kept = kept;
+        self.audit = Some(audit);
+        Ok(())
+    }
+}

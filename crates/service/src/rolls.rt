@@ -1,0 +1,401 @@
+//! When the epochs of a service end.
+ghost use Rattle.std.specs.Prelude.{◌≡◌};
+ghost use Rattle.service.specs.Rolls as spec;
+
+use std::sync::{Condvar, Mutex, Wait};
+use std::time::{Clock, Duration, Instant};
+
+/// How many times as much as its limit an epoch may have before it ends although sessions are open.
+const FORCED: u64 = 5;
+
+/// How old an epoch is at least, in milliseconds, before it ends although sessions are open.
+const FORCED_AGE_MS: u64 = 60_000;
+
+/// How many bytes are kept for a command until the audit, about: its inputs at all nodes, and what its session left.
+const COMMAND_BYTES: u64 = 2_700;
+
+/// How many bytes are kept for a message that a login lists, about.
+const LISTED_BYTES: u64 = 25;
+
+/// After how many milliseconds the epoch is looked at again.
+const LOOK_MS: u64 = 100;
+
+/// The same until its nodes lead.
+const LEAD_LOOK_MS: u64 = 2;
+
+/// How many milliseconds lie between the first two tries to find a moment without an open session. Later it is twice as long
+/// each time.
+const FIRST_RETRY_MS: u64 = 1_000;
+
+/// How many milliseconds lie between two such tries at most.
+const LAST_RETRY_MS: u64 = 30_000;
+
+/// From how many sessions on, and from how many bytes kept for its audit on, an epoch ends: 0 for any number.
+#[derive(Clone, Copy, Debug, PartialEq, Eq)]
+pub(crate) struct RollLimits {
+    pub sessions: u64,
+    pub bytes: u64,
+}
+
+/// How many sessions of an epoch have ended that asked for something, and how many bytes are kept for its audit, about.
+#[derive(Clone, Copy, Debug, PartialEq, Eq)]
+pub(crate) struct EpochLoad {
+    pub sessions: u64,
+    pub bytes: u64,
+}
+
+/// Whether an epoch is to end.
+#[derive(Clone, Copy, Debug, PartialEq, Eq)]
+pub(crate) enum Due {
+    /// It goes on.
+    No,
+    /// It ends at the first moment without an open session.
+    Quiet,
+    /// It ends, and its sessions with it.
+    Forced,
+}
+
+impl EpochLoad {
+    /// Of an epoch that begins.
+    fn new() -> Self
+        ensures { result ≡ spec.no_load }
+    {
+        EpochLoad {
+            sessions: 0,
+            bytes: 0,
+        }
+    }
+
+    /// A session has ended, and left so many bytes.
+    fn end_session(&mut self, bytes: u64)
+        ensures { self.new ≡ spec.after_session bytes self.old }
+    {
+        self.sessions = self.sessions.saturating_add(1);
+        self.bytes = self.bytes.saturating_add(bytes);
+    }
+
+    /// So many messages were stored or refused, of so many octets together.
+    fn store(&mut self, messages: u64, octets: u64)
+        ensures { self.new ≡ spec.after_delivery messages octets self.old }
+    {
+        let bytes = messages
+            .saturating_mul(COMMAND_BYTES)
+            .saturating_add(octets);
+        self.bytes = self.bytes.saturating_add(bytes);
+    }
+}
+
+/// How many bytes a session leaves that asked for so much and was listed so many messages, about.
+pub(crate) fn session_bytes(asked: usize, listed: usize) -> u64
+    ensures { result ≡ spec.session_bytes asked listed }
+{
+    let commands = (asked as u64).saturating_mul(COMMAND_BYTES);
+    commands.saturating_add((listed as u64).saturating_mul(LISTED_BYTES))
+}
+
+/// Whether a number is at least so many times its limit, if there is one.
+fn reaches(count: u64, limit: u64, times: u64) -> bool
+    ensures { result ≡ spec.reaches count limit times }
+{
+    limit > 0 && limit as u128 * times as u128 <= count as u128
+}
+
+/// Whether an epoch has at least so many times as much as one of its limits.
+fn has_reached(load: EpochLoad, limits: RollLimits, times: u64) -> bool
+    ensures { result ≡ spec.has_reached load limits times }
+{
+    reaches(load.sessions, limits.sessions, times) || reaches(load.bytes, limits.bytes, times)
+}
+
+/// Whether an epoch of this age is to end.
+fn when_due(load: EpochLoad, limits: RollLimits, age_ms: u64) -> Due
+    ensures { result ≡ spec.when_due load limits age_ms }
+{
+    if has_reached(load, limits, FORCED) && age_ms >= FORCED_AGE_MS {
+        Due::Forced
+    } else if has_reached(load, limits, 1) {
+        Due::Quiet
+    } else {
+        Due::No
+    }
+}
+
+/// What wakes the thread that looks after the epochs.
+#[derive(Clone, Copy, Debug, PartialEq, Eq)]
+pub(crate) enum Wake {
+    /// The service stops.
+    Stop,
+    /// The audit of the epoch before this one has ended.
+    Audited,
+    /// The epoch is to end, and its sessions with it.
+    Roll,
+    /// The epoch is to end if no session is open.
+    Quiet,
+    /// Time has passed.
+    Look,
+}
+
+/// How far the epochs of a service have come.
+#[derive(Drop)]
+struct Progress {
+    /// The number of this epoch, counted from 1.
+    epoch: u64,
+    /// The last epoch of which a node led.
+    led: u64,
+    /// The last epoch whose operators are waited for.
+    joined: u64,
+    /// When this epoch began, unless the clock couldn't be read.
+    began: Option<Instant>,
+    load: EpochLoad,
+    /// When a moment without an open session was looked for last.
+    tried: Option<Instant>,
+    /// How many milliseconds after that it is looked for again.
+    retry_ms: u64,
+    /// Whether an operator, or want of a majority, asks for the end of this epoch.
+    is_asked: bool,
+    /// Whether the audit of the epoch before this one goes on.
+    is_auditing: bool,
+    /// Whether it has ended, and nobody was told so yet.
+    has_audited: bool,
+    is_stopping: bool,
+    has_ended: bool,
+}
+
+/// How many milliseconds have passed since then. Any number if the clock can't be read.
+fn millis_since<R: Clock>(rt: &R, since: &Option<Instant>) -> u64 {
+    match since {
+        Some(since) => match since.elapsed(rt) {
+            Ok(time) => u64::try_from(time.as_millis()).unwrap_or(u64::MAX),
+            Err(_) => u64::MAX,
+        },
+        None => u64::MAX,
+    }
+}
+
+impl Progress {
+    /// Whether there is something to do at once.
+    fn is_urgent(&self) -> bool {
+        self.is_stopping || self.has_audited || (self.is_asked && !self.is_auditing)
+    }
+
+    /// What is to be done.
+    fn wake<R: Clock>(&mut self, rt: &R, limits: RollLimits) -> Wake {
+        if self.is_stopping {
+            return Wake::Stop;
+        }
+        if self.has_audited {
+            self.has_audited = false;
+            return Wake::Audited;
+        }
+        if self.is_auditing {
+            return Wake::Look;
+        }
+        if self.is_asked {
+            return Wake::Roll;
+        }
+        match when_due(self.load, limits, millis_since(rt, &self.began)) {
+            Due::Forced => Wake::Roll,
+            Due::Quiet if millis_since(rt, &self.tried) >= self.retry_ms => {
+                self.tried = Instant::now(rt).ok();
+                self.retry_ms = self.retry_ms.saturating_mul(2).min(LAST_RETRY_MS);
+                Wake::Quiet
+            }
+            _ => Wake::Look,
+        }
+    }
+}
+
+/// What operators are told of the epochs.
+#[derive(Clone, Copy, Debug, PartialEq, Eq)]
+pub(crate) struct EpochStats {
+    /// The number of this epoch.
+    pub epoch: u64,
+    /// How many seconds it runs.
+    pub seconds: u64,
+    pub load: EpochLoad,
+    /// Whether the audit of the one before it goes on.
+    pub is_auditing: bool,
+}
+
+/// How far the epochs of a service have come, for all its threads.
+#[derive(Drop)]
+pub(crate) struct Rolls {
+    /// There are none if there is only one epoch, whose nodes have ports.
+    limits: Option<RollLimits>,
+    progress: Mutex<Progress>,
+    changes: Condvar,
+}
+
+impl Rolls {
+    /// Of a service before its first epoch.
+    pub(crate) fn new(limits: Option<RollLimits>) -> Self {
+        Rolls {
+            limits,
+            progress: Mutex::new(Progress {
+                epoch: 0,
+                led: 0,
+                joined: 0,
+                began: None,
+                load: EpochLoad::new(),
+                tried: None,
+                retry_ms: 0,
+                is_asked: false,
+                is_auditing: false,
+                has_audited: false,
+                is_stopping: false,
+                has_ended: false,
+            }),
+            changes: Condvar::new(),
+        }
+    }
+
+    /// The next epoch begins. Returns its number.
+    pub(crate) fn begin<R: Wait + Clock>(&self, rt: &R) -> u64 {
+        let mut guard = self.progress.lock(rt);
+        let progress = &mut *guard;
+        progress.epoch = progress.epoch.saturating_add(1);
+        progress.began = Instant::now(rt).ok();
+        progress.load = EpochLoad::new();
+        progress.tried = None;
+        progress.retry_ms = FIRST_RETRY_MS;
+        progress.is_asked = false;
+        progress.epoch
+    }
+
+    /// The epoch that has just begun couldn't be started: nobody was served in it.
+    pub(crate) fn withdraw<R: Wait>(&self, rt: &R) {
+        let mut guard = self.progress.lock(rt);
+        let progress = &mut *guard;
+        progress.epoch = progress.epoch.saturating_sub(1);
+    }
+
+    /// A node of this epoch leads.
+    pub(crate) fn lead<R: Wait>(&self, rt: &R) {
+        let mut guard = self.progress.lock(rt);
+        let progress = &mut *guard;
+        progress.led = progress.epoch;
+        self.changes.notify_all();
+    }
+
+    /// Whether a node of this epoch has led.
+    pub(crate) fn has_led<R: Wait>(&self, rt: &R) -> bool {
+        let progress = self.progress.lock(rt);
+        progress.led == progress.epoch
+    }
+
+    /// Asks for the end of this epoch, unless it has ended. Returns false if there is only one.
+    pub(crate) fn ask<R: Wait>(&self, rt: &R, epoch: u64) -> bool {
+        if self.limits.is_none() {
+            return false;
+        }
+        let mut guard = self.progress.lock(rt);
+        let progress = &mut *guard;
+        progress.is_asked = progress.is_asked | (progress.epoch == epoch);
+        self.changes.notify_all();
+        true
+    }
+
+    /// Waits until a node of a later epoch than this one leads. Returns false if the service ends instead.
+    pub(crate) fn waits_for_next<R: Wait>(&self, rt: &R, epoch: u64) -> bool {
+        let guard = self.progress.lock(rt);
+        let progress = self.changes.wait_while(rt, guard, |progress| {
+            progress.led <= epoch && progress.joined < epoch && !progress.has_ended
+        });
+        progress.led > epoch
+    }
+
+    /// Waits so long, or until the service has ended or the operators of this epoch are waited for. Returns whether that is
+    /// so.
+    pub(crate) fn pauses<R: Wait + Clock>(&self, rt: &R, epoch: u64, time: Duration) -> bool {
+        let guard = self.progress.lock(rt);
+        let (progress, _) = self
+            .changes
+            .wait_timeout_while(rt, guard, time, |progress| {
+                progress.joined < epoch && !progress.has_ended
+            });
+        progress.has_ended || progress.joined >= epoch
+    }
+
+    /// The operators of all epochs but the last two are waited for: they wait for nothing any more.
+    pub(crate) fn join_before_last<R: Wait>(&self, rt: &R) {
+        let mut guard = self.progress.lock(rt);
+        let progress = &mut *guard;
+        progress.joined = progress.epoch.saturating_sub(2);
+        self.changes.notify_all();
+    }
+
+    /// The service stops.
+    pub(crate) fn stop<R: Wait>(&self, rt: &R) {
+        self.progress.lock(rt).is_stopping = true;
+        self.changes.notify_all();
+    }
+
+    /// Whether the service stops.
+    pub(crate) fn is_stopping<R: Wait>(&self, rt: &R) -> bool {
+        self.progress.lock(rt).is_stopping
+    }
+
+    /// The service has ended.
+    pub(crate) fn end<R: Wait>(&self, rt: &R) {
+        self.progress.lock(rt).has_ended = true;
+        self.changes.notify_all();
+    }
+
+    /// The audit of an epoch that has ended begins.
+    pub(crate) fn begin_audit<R: Wait>(&self, rt: &R) {
+        let mut guard = self.progress.lock(rt);
+        let progress = &mut *guard;
+        progress.is_auditing = true;
+        progress.has_audited = false;
+    }
+
+    /// It has ended.
+    pub(crate) fn end_audit<R: Wait>(&self, rt: &R) {
+        let mut guard = self.progress.lock(rt);
+        let progress = &mut *guard;
+        progress.is_auditing = false;
+        progress.has_audited = true;
+        self.changes.notify_all();
+    }
+
+    /// A session that asked for something has ended, and left so many bytes.
+    pub(crate) fn end_session<R: Wait>(&self, rt: &R, bytes: u64) {
+        self.progress.lock(rt).load.end_session(bytes);
+    }
+
+    /// So many messages were stored or refused, of so many octets together.
+    pub(crate) fn store<R: Wait>(&self, rt: &R, messages: u64, octets: u64) {
+        self.progress.lock(rt).load.store(messages, octets);
+    }
+
+    /// Waits until there is something to do for the epochs, or some time has passed.
+    pub(crate) fn wait<R: Wait + Clock>(&self, rt: &R) -> Wake {
+        let guard = self.progress.lock(rt);
+        let look_ms = if guard.led == guard.epoch {
+            LOOK_MS
+        } else {
+            LEAD_LOOK_MS
+        };
+        let look = Duration::from_millis(look_ms);
+        let (mut guard, _) = self
+            .changes
+            .wait_timeout_while(rt, guard, look, |progress| !progress.is_urgent());
+        let limits = self.limits.unwrap_or(RollLimits {
+            sessions: 0,
+            bytes: 0,
+        });
+        let progress = &mut *guard;
+        progress.wake(rt, limits)
+    }
+
+    /// What operators are told of the epochs.
+    pub(crate) fn stats<R: Wait + Clock>(&self, rt: &R) -> EpochStats {
+        let progress = self.progress.lock(rt);
+        EpochStats {
+            epoch: progress.epoch,
+            seconds: millis_since(rt, &progress.began) / 1_000,
+            load: progress.load,
+            is_auditing: progress.is_auditing,
+        }
+    }
+}
