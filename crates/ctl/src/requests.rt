@@ -10,10 +10,8 @@ pub fn awaits_nodes(request: &Request) -> bool
     ensures { result ≡ spec.awaits_nodes request.now }
 {
     match request {
-        Request::Deliver { .. }
-        | Request::Put { .. }
-        | Request::Break { .. }
-        | Request::Roll => true,
+        Request::Deliver { .. } | Request::Put { .. } | Request::Break { .. } | Request::Roll =>
+            true,
         Request::Kick { .. }
         | Request::Crash { .. }
         | Request::Status

@@ -58,7 +58,10 @@ fn a_service_without_a_majority_goes_on_with_all_nodes(rt: HostRuntime) -> Resul
     let third = service.ctl(&rt, alloc, &["crash", "1"]);
     let (status, written) = service.stop(&rt, alloc)?;
     assert!(rt; are_served && by_all && third.is(0, b"crashed\n") && status == 0);
-    assert_eq!(rt; written.as_slice(), b"epoch 1: audit ok\naudit ok\n".as_slice());
+    assert_eq!(rt;
+        written.as_slice(),
+        b"epoch 1: audit ok\naudit ok\n".as_slice()
+    );
     Ok(())
 }
 

@@ -15,12 +15,24 @@ const THREE_EPOCHS: Scene = Scene {
     accounts: ACCOUNTS,
     mailbox: MAILBOX,
     rows: &[
-        Ctl("deliver 2 alice FILE monday", 0, "op alice 2/1 stored 1\nend\n"),
+        Ctl(
+            "deliver 2 alice FILE monday",
+            0,
+            "op alice 2/1 stored 1\nend\n",
+        ),
         Ctl("crash 2", 0, "crashed\n"),
         Ctl("roll", 0, "rolled\n"),
         Shows("node 2 up "),
-        Ctl("deliver 2 alice FILE monday", 0, "op alice 2/1 stored 1\nend\n"),
-        Ctl("deliver 2 alice FILE tuesday", 0, "op alice 2/2 stored 2\nend\n"),
+        Ctl(
+            "deliver 2 alice FILE monday",
+            0,
+            "op alice 2/1 stored 1\nend\n",
+        ),
+        Ctl(
+            "deliver 2 alice FILE tuesday",
+            0,
+            "op alice 2/2 stored 2\nend\n",
+        ),
         Comes(3),
         Says(
             0,
@@ -39,7 +51,11 @@ const THREE_EPOCHS: Scene = Scene {
             "+OK send PASS\r\n+OK maildrop has 2 messages (8 octets)\r\n+OK\r\n1 1\r\n2 2\r\n.\r\n+OK message 1 deleted\r\n+OK signing off\r\n",
         ),
         Ctl("roll", 0, "rolled\n"),
-        Ctl("deliver 1 alice FILE monday", 0, "op alice 1/1 stored 1\nend\n"),
+        Ctl(
+            "deliver 1 alice FILE monday",
+            0,
+            "op alice 1/1 stored 1\nend\n",
+        ),
         Ctl("deliver 1 alice FILE", 0, "op alice 1/2 stored 3\nend\n"),
         Asks("roll now\n", "bad request\n"),
         STOP,
