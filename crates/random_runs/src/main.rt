@@ -1,6 +1,6 @@
 //! Plays services under random events, with losses, repeats, delays and crashes, and holds each run against what is
 //! promised of all runs: at most one command is chosen in a slot; nodes perform what is chosen, in one order; what they
-//! perform was submitted; and each session is told a prefix of what a server says that has its user's maildrop alone.
+//! perform was submitted; and each session gets a prefix of what a server replies that has only its user's maildrop.
 //!
 //! Some of the services are audited too. The audit must take what a service left: a service that is given the order's
 //! events takes each of them, and comes to the same logs and transcripts. Then one of these is changed at random: the

@@ -9,7 +9,7 @@ use std::thread;
 use std::thread::{Builder, JoinHandle, Threads};
 use std::time::{Clock, Duration};
 
-/// How many milliseconds lie between two looks at the sessions. One that is silent for so long ends.
+/// How many milliseconds lie between two looks at the sessions. A session whose client is silent for so long ends.
 const LOOK_MS: u64 = 500;
 
 /// From which look on all sessions end: after 10 seconds.
@@ -118,7 +118,7 @@ fn drain<R: Wait + Clock, N: ServedNode>(rt: &R, nodes: &[N], state: &ServiceSta
     let mut looks: u32 = 0;
     for _ in rt.forever() {
         if looks < LAST_LOOK {
-            sessions.end_idle(rt);
+            sessions.end_idle(rt, LOOK_MS);
         } else if looks < CUT_LOOK {
             sessions.end_all(rt);
         } else {

@@ -12,8 +12,8 @@ use std::alloc::Global;
 
 /// Epochs of which each had a legal order, and each opened with what the one before it handed on, are one life of services:
 /// there is a run of each that brings what its nodes and sessions left, and each run opens with what a node of the one before
-/// it left. The first one opened with nothing. So what `runs::lives_go_on` states holds of them: whatever opens next tells its
-/// sessions what one server alone would say after the user's commands of all epochs.
+/// it left. The first one opened with nothing. So what `runs::lives_go_on` states holds of them: in the service that opens
+/// next, each session gets the replies that one server alone would give after the user's commands of all epochs.
 pub fn audited_epochs_are_a_life()
     ensures { (before : List EpochValue) (last : Config Global) → LeadTo before last.kept → All WasLegalEpoch before
         → (runs : List (Epoch Global)) × AreRunsOf before runs × IsLife runs last × ((first_of runs last).kept ≡ []) }

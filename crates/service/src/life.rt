@@ -22,7 +22,7 @@ const END: &[u8] = b"end\n";
 #[derive(Drop)]
 pub(crate) struct ServiceLife {
     host: Items<u8>,
-    /// What a login that is refused is told.
+    /// The reply to a login that is refused.
     refusal: Items<u8>,
     idle_seconds: u64,
     /// The line about what all nodes of the service must begin with, if its nodes have ports.
@@ -37,7 +37,7 @@ pub(crate) struct ServiceLife {
     log: EventLog,
 }
 
-/// What a login that is refused is told.
+/// The reply to a login that is refused.
 fn refusal_of(alloc: Global) -> Result<Items<u8>, Memory>
     ensures { IfOk result (λ refusal. refusal ≡ invalid_login) }
 {
@@ -92,7 +92,7 @@ impl ServiceLife {
         })
     }
 
-    /// What a login that is refused is told.
+    /// The reply to a login that is refused.
     pub(crate) fn refusal(&self) -> &[u8] {
         self.refusal.get()
     }

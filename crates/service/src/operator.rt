@@ -90,7 +90,7 @@ fn tell(stream: &OperatorStream, line: &[u8]) -> Result<(), Fault> {
     say(&mut writer, line)
 }
 
-/// Says why a node didn't answer. A client that has gone is told nothing.
+/// Says why a node didn't answer. It writes nothing to a client that has gone.
 fn tell_why(stream: &OperatorStream, why: Unanswered) -> Result<(), Fault> {
     match why {
         Unanswered::Stopped => tell(stream, b"down\n"),

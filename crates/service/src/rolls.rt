@@ -205,7 +205,7 @@ impl Progress {
     }
 }
 
-/// What operators are told of the epochs.
+/// The numbers of the epochs, for operators.
 #[derive(Clone, Copy, Debug, PartialEq, Eq)]
 pub(crate) struct EpochStats {
     /// The number of this epoch.
@@ -388,7 +388,7 @@ impl Rolls {
         progress.wake(rt, limits)
     }
 
-    /// What operators are told of the epochs.
+    /// The numbers of the epochs, for operators.
     pub(crate) fn stats<R: Wait + Clock>(&self, rt: &R) -> EpochStats {
         let progress = self.progress.lock(rt);
         EpochStats {

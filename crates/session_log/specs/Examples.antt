@@ -1,12 +1,13 @@
 -- Worked examples of the bounds of a session, of what is counted of it, and of what operators are told.
-use Rattle.std.specs.Prelude.{◌≡◌, refl, true, false, [], codes, Some, None}
+use Rattle.std.specs.Prelude.{◌≡◌, refl, true, false, [], codes, Option, Some, None}
 use Rattle.std.specs.Fmt.{digits}
+use Rattle.std.specs.declared.time.Instant.{Instant}
 use Rattle.maildrop.specs.declared.outcome.Outcome.TheVariants as outcome
 use Rattle.pop3_wire.specs.Reply.{invalid_login, already_locked, maildrop_has, drop_listing}
 use Rattle.session.specs.declared.transcript.End.TheVariants as end
 use Rattle.session_log.specs.Bounds.{bytes_left, line_seconds, time_left}
 use Rattle.session_log.specs.Events as event
-use Rattle.session_log.specs.Sessions.{no_facts, is_message, reply_kind, after_answer, after_line, after_write, begins_refusal, ending_of}
+use Rattle.session_log.specs.Sessions.{no_facts, is_message, reply_kind, after_answer, after_awaiting, after_line, after_read, after_write, begins_refusal, ending_of}
 use Rattle.session_log.specs.Stats.{no_counts, after_session, text_of}
 use Rattle.session_log.specs.Written.{with_session}
 use Rattle.session_log.specs.declared.bounds.TimeLeft.TheVariants.{Any, Millis, Nothing}
@@ -63,6 +64,10 @@ one_refused = refl
 
 pause : (after_write invalid_login invalid_login 20 (after_line no_facts)).owes_pause ≡ true
 pause = refl
+
+-- a client is silent no longer once it has sent a part of a line
+heard : (since : Option Instant) → (after_read 5 (after_awaiting since no_facts)).awaits_line_since ≡ None
+heard since = refl
 
 in_use : (A : Type 0) → (after_answer {A = A} (codes "bob") asked.Take outcome.InUse no_facts).user ≡ None
 in_use A = refl

@@ -18,6 +18,7 @@ use Rattle.session_log.specs.declared.facts.AskedKind.TheVariants as asked
 use Rattle.session_log.specs.declared.facts.Ending.{Ending}
 use Rattle.session_log.specs.declared.facts.Ending.TheVariants as ending
 use Rattle.session_log.specs.declared.facts.SessionFacts.{SessionFacts}
+use Rattle.std.specs.declared.time.Instant.{Instant}
 
 -- a count that stays at the highest number of 64 bits
 abbrev pub added : ℕ → ℕ → ℕ
@@ -34,6 +35,7 @@ no_facts = record {
   begins_reply = false;
   owes_pause = false;
   cut = None;
+  awaits_line_since = None;
 }
 
 -- the first line of a reply to RETR (RFC 1939 section 5), without its line end
@@ -47,7 +49,7 @@ is_message_in (line ∷ others) = announces_message line
 abbrev pub is_message : List ℕ → Bool
 is_message text = is_message_in (lines text)
 
--- what a reply is, where a login that is refused is told this
+-- what kind of reply begins with this, where the first text is the reply to a login that is refused
 abbrev pub reply_kind : List ℕ → List ℕ → ReplyKind
 reply_kind refusal text =
     if bytes_eq text refusal then reply.Refusal else if is_message text then reply.Message else reply.Other
@@ -86,7 +88,11 @@ ending_of end.DeskStopped cause = ending.Stopped
 ending_of end.Memory cause = ending.NoMemory
 
 abbrev pub after_read : ℕ → SessionFacts → SessionFacts
-after_read count facts = record facts { bytes_read = added facts.bytes_read count }
+after_read count facts = record facts { bytes_read = added facts.bytes_read count; awaits_line_since = None }
+
+-- a line is awaited of which nothing has come since then
+abbrev pub after_awaiting : Option Instant → SessionFacts → SessionFacts
+after_awaiting since facts = record facts { awaits_line_since = since }
 
 abbrev pub after_cut : Cut → SessionFacts → SessionFacts
 after_cut cause facts = record facts { cut = Some cause }

@@ -48,11 +48,13 @@ impl<'a, R: Wait + Clock> BoundedReader<'a, R> {
 
     /// How many bytes may still be read, and how much time is left for that.
     fn bounds(&mut self) -> (u64, TimeLeft) {
-        let facts = self.facts.lock(&self.rt);
+        let waited = self.waited();
+        let awaited = if self.has_part { None } else { self.since };
+        let mut facts = self.facts.lock(&self.rt);
+        facts.await_line(awaited);
         let is_logged_in = facts.user.is_some();
         let left = bytes_left(facts.bytes_read, is_logged_in);
         drop(facts);
-        let waited = self.waited();
         let seconds = line_seconds(is_logged_in, self.idle_seconds);
         (left, time_left(seconds, waited))
     }
@@ -135,7 +137,7 @@ fn is_part(had_part: bool, piece: &[u8]) -> bool {
 }
 
 /// How many milliseconds have passed since then, or 0 if the clock can't be read.
-fn millis_since<R: Clock>(rt: &R, since: &Instant) -> u64 {
+pub(crate) fn millis_since<R: Clock>(rt: &R, since: &Instant) -> u64 {
     match since.elapsed(rt) {
         Ok(time) => u64::try_from(time.as_millis()).unwrap_or(u64::MAX),
         Err(_) => 0,

@@ -68,7 +68,7 @@ impl Counts {
     }
 }
 
-/// What an operator is told who asks what the service has done.
+/// What the service has done, for operators.
 #[derive(Clone, Copy, Debug, PartialEq, Eq)]
 pub struct Stats {
     /// Sessions that are open.
@@ -151,7 +151,7 @@ impl Counters {
         self.counts.lock(rt).store(messages, octets);
     }
 
-    /// What an operator is told, if so many sessions are open and this is the slot of the node that is furthest.
+    /// What operators get, if so many sessions are open and this is the slot of the node that is furthest.
     pub fn stats<R: Wait + Clock>(&self, rt: &R, open: u64, slots: u64) -> Stats {
         let counts = *self.counts.lock(rt);
         Stats {

@@ -5,6 +5,7 @@ ghost use Rattle.session_log.specs.Sessions as spec;
 use maildrop::{Name, Op, Outcome, next_line};
 use session::End;
 use std::sync::{Arc, Mutex};
+use std::time::Instant;
 
 /// Why a client is read no further.
 #[derive(Clone, Copy, Debug, PartialEq, Eq)]
@@ -79,6 +80,8 @@ pub struct SessionFacts {
     pub owes_pause: bool,
     /// Why its client is read no further.
     pub cut: Option<Cut>,
+    /// Since when a line is awaited of which nothing has come. None also if the clock couldn't be read.
+    pub awaits_line_since: Option<Instant>,
 }
 
 /// What is known of a session, for its own thread and for operators.
@@ -101,7 +104,7 @@ fn is_message(reply: &[u8]) -> bool
     }
 }
 
-/// What a reply is that begins so, if a login that is refused is told this.
+/// What kind of reply begins with this, if this is the reply to a login that is refused.
 pub(crate) fn reply_kind(refusal: &[u8], reply: &[u8]) -> ReplyKind
     ensures { result ≡ spec.reply_kind refusal.now reply.now }
 {
@@ -158,7 +161,15 @@ impl SessionFacts {
             begins_reply: false,
             owes_pause: false,
             cut: None,
+            awaits_line_since: None,
         }
+    }
+
+    /// It awaits a line, since then if nothing of it has come.
+    pub(crate) fn await_line(&mut self, since: Option<Instant>)
+        ensures { self.new ≡ spec.after_awaiting since self.old }
+    {
+        self.awaits_line_since = since;
     }
 
     /// Its client sent so many bytes.
@@ -166,6 +177,7 @@ impl SessionFacts {
         ensures { self.new ≡ spec.after_read count self.old }
     {
         self.bytes_read = self.bytes_read.saturating_add(count as u64);
+        self.awaits_line_since = None;
     }
 
     /// Its client is read no further.

@@ -2,6 +2,7 @@
 ghost use Rattle.std.specs.Prelude.{◌≡◌, OnOk};
 ghost use Rattle.session_log.specs.Written as spec;
 
+use crate::bounded_reader::millis_since;
 use crate::counters::seconds_since;
 use crate::facts::SharedFacts;
 use crate::writing::{put, put_labelled, put_number_line, put_user};
@@ -49,19 +50,25 @@ impl OpenSession {
         let _closed = self.stream.shutdown(Shutdown::Read);
     }
 
-    /// Whether nothing was sent either way since the last look, and the client awaits no reply. Takes this for the next look.
-    fn is_idle<R: Wait>(&mut self, rt: &R) -> bool {
+    /// Whether the client awaits no reply, and has been silent: for so many milliseconds, or since the last look. Takes this
+    /// look for the next one.
+    fn is_idle<R: Wait + Clock>(&mut self, rt: &R, millis: u64) -> bool {
         let facts = self.facts.lock(rt);
         let moved = facts.bytes_read.saturating_add(facts.bytes_written);
         let is_asked = facts.begins_reply;
+        let awaits_line_since = facts.awaits_line_since;
         drop(facts);
+        let is_silent = match &awaits_line_since {
+            Some(since) => millis_since(rt, since) >= millis,
+            None => false,
+        };
         let is_still = moved == self.moved;
         self.moved = moved;
-        is_still && !is_asked
+        (is_silent || is_still) && !is_asked
     }
 }
 
-/// What an operator is told of a session.
+/// A session, for operators.
 #[derive(Drop)]
 struct SessionRow {
     number: u64,
@@ -124,11 +131,12 @@ impl OpenSessions {
         }
     }
 
-    /// Ends the sessions in which nothing was sent either way since the last such look, and whose clients await no reply.
-    /// Each ends as if its client had hung up: it gives its lock back, and removes nothing.
-    pub fn end_idle<R: Wait>(&self, rt: &R) {
+    /// Ends the sessions whose clients await no reply, and have sent nothing for so many milliseconds or have neither sent
+    /// nor read anything since the last such look. Each ends as if its client had hung up: it gives its lock back, and
+    /// removes nothing.
+    pub fn end_idle<R: Wait + Clock>(&self, rt: &R, millis: u64) {
         for session in self.open.lock(rt).values_mut() {
-            if session.is_idle(rt) {
+            if session.is_idle(rt, millis) {
                 session.end();
             }
         }
@@ -155,7 +163,7 @@ impl OpenSessions {
         Ok(text)
     }
 
-    /// What is told of the sessions, in any order. The lock is held for no longer than it takes to copy this.
+    /// The open sessions, in any order. The lock is held for no longer than it takes to copy this.
     fn rows<R: Wait + Clock>(&self, rt: &R, alloc: Global) -> Result<Vec<SessionRow>, Memory> {
         let mut rows = Vec::new(alloc);
         let open = self.open.lock(rt);
@@ -167,7 +175,7 @@ impl OpenSessions {
     }
 }
 
-/// What is told of a session.
+/// The row of a session.
 fn row_of<R: Wait + Clock>(rt: &R, number: u64, session: &OpenSession) -> SessionRow {
     let facts = session.facts.lock(rt);
     SessionRow {
