@@ -72,6 +72,11 @@ impl Draining {
         matches!(*stage, Stage::Ending)
     }
 
+    /// Whether the sessions are to end, or have ended so.
+    pub(crate) fn has_begun<R: Wait>(&self, rt: &R) -> bool {
+        !matches!(*self.stage.lock(rt), Stage::Open)
+    }
+
     /// Waits so long, or until the sessions have ended. Returns whether they have.
     fn pauses<R: Wait + Clock>(&self, rt: &R, time: Duration) -> bool {
         let guard = self.stage.lock(rt);
@@ -105,8 +110,9 @@ pub(crate) fn start<
     Ok(())
 }
 
-/// Ends the sessions, once that is asked for: those that are silent, later all as if their clients had hung up, and in the end
-/// with their connections and nodes. Nodes without a majority stop at once, since nobody gets an answer from them.
+/// Once asked, ends the sessions: for 10 s those whose clients are silent, then all, each after the reply that it writes. From
+/// 15 s on it cuts their connections and stops the nodes. Without a majority the nodes stop at once, since no session could
+/// get an answer.
 fn drain<R: Wait + Clock, N: ServedNode>(rt: &R, nodes: &[N], state: &ServiceState) {
     if !state.draining().waits_for_begin(rt) {
         return;
@@ -135,9 +141,10 @@ fn drain<R: Wait + Clock, N: ServedNode>(rt: &R, nodes: &[N], state: &ServiceSta
 /// Waits until no delivery is under way, but not for long.
 pub(crate) fn wait_for_deliveries<R: Wait + Clock>(rt: &R, state: &ServiceState) {
     for _ in 0..DELIVERY_LOOKS {
+        // A connection that was just taken counts a moment later.
+        thread::sleep(rt, Duration::from_millis(DELIVERY_LOOK_MS));
         if !state.is_delivering(rt) {
             return;
         }
-        thread::sleep(rt, Duration::from_millis(DELIVERY_LOOK_MS));
     }
 }

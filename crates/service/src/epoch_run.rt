@@ -53,7 +53,7 @@ pub(crate) enum Ending {
     Rolled,
 }
 
-/// What an epoch has left: what is audited, and the maildrops as a node has them than which none has performed more.
+/// What an ended epoch leaves: what is audited, and the maildrops of a node that has performed the most.
 #[derive(Drop)]
 pub(crate) struct EpochLeft {
     pub epoch: EndedEpoch,
@@ -133,14 +133,16 @@ fn note_verdict<R: Wait + Clock>(rt: &R, alloc: Global, life: &ServiceLife, verd
     }
 }
 
-/// Whether no session is open and no delivery is under way, or soon is, if new clients wait. If so, they still wait.
+/// Holds new POP3 clients back, and waits some 20 ms for a moment without a session or a delivery. Returns whether there was
+/// one: then the clients are still held back.
 fn is_quiet<R: System>(rt: &R, ports: &Ports, state: &ServiceState) -> bool {
     ports.pause_pop(rt);
     for _ in 0..QUIET_LOOKS {
+        // A connection that was just taken counts a moment later.
+        thread::sleep(rt, Duration::from_millis(QUIET_LOOK_MS));
         if state.life().sessions().count(rt) == 0 && !state.is_delivering(rt) {
             return true;
         }
-        thread::sleep(rt, Duration::from_millis(QUIET_LOOK_MS));
     }
     ports.resume_pop(rt);
     false
@@ -163,8 +165,8 @@ fn note_leader<R: Wait, N: ServedNode>(rt: &R, life: &ServiceLife, nodes: &[N]) 
     }
 }
 
-/// Waits until an epoch is to end. Meanwhile the verdict on the one before it is reported as soon as it is known. An epoch
-/// whose service goes on ends only after that.
+/// Waits until the epoch is to end, and reports the verdict on the one before it as soon as it is known. Unless the service
+/// stops, the epoch doesn't end before that.
 fn watch<R: System, W: Write, N: ServedNode>(
     rt: &R,
     alloc: Global,
@@ -254,7 +256,13 @@ pub(crate) fn state_of<R: System>(
     let accounts = Arc::try_clone(accounts)?;
     let epoch = life.rolls().begin(rt);
     let state = ServiceState::new(alloc, shared, epoch, accounts);
-    Ok(Arc::new(alloc, state)?)
+    match Arc::new(alloc, state) {
+        Ok(state) => Ok(state),
+        Err(error) => {
+            life.rolls().withdraw(rt);
+            Err(Fault::from(error))
+        }
+    }
 }
 
 /// What the nodes of an epoch leave whose sessions have ended.

@@ -113,8 +113,8 @@ fn run_next<R: System, W: Write>(
     )
 }
 
-/// Runs an epoch, and adds it to those that have ended. Returns it instead if it is the last one. If there was no memory to
-/// open it, nothing has changed, and the caller may try again once the audit of the one before it has ended.
+/// Runs an epoch, and adds it to those that have ended. Returns it instead if it is the last one. If there was no memory or
+/// no thread to open it, nobody was served, and the caller may try again once the audit of the one before it has ended.
 #[tactic(auto, using(crate::proofs::Lasts::last_of))]
 fn run_one<R: System, W: Write>(
     rt: R,
@@ -136,11 +136,20 @@ fn run_one<R: System, W: Write>(
         served,
     } = run_next(rt, alloc, settings, ports, life, accounts, past, writer)?;
     let is_over = tell_verdict(&rt, alloc, settings.on_fault, life, past, writer);
-    operators.add(&rt, life, theirs);
+    if is_over {
+        life.stop(&rt);
+    }
+    if served.is_ok() {
+        operators.add(&rt, life, theirs);
+    } else {
+        // The ports stayed closed to them, so they answer nobody, and the next try has the number of this epoch.
+        join_all(&rt, theirs);
+    }
     add_or_end(rt, alloc, life, is_over, served, left, past)
 }
 
-/// Adds an epoch to those that have ended, or returns it if the service is over. One in which nobody was served is no more.
+/// Adds an epoch to those that have ended, or returns it if the service is over. An epoch in which nobody was served is
+/// dropped, and its fault is returned.
 fn add_or_end<R: System>(
     rt: R,
     alloc: Global,
@@ -200,12 +209,13 @@ pub(crate) fn run_epochs<R: System + Files<File = File>, W: Write>(
 {
     let mut accounts = accounts;
     for _ in rt.forever() {
+        let was_auditing = past.is_auditing();
         match run_one(
             rt, alloc, settings, ports, life, &accounts, operators, past, writer,
         ) {
             Ok(Some(last)) => return Ok(last),
             Ok(None) => accounts = next_accounts(&rt, alloc, options, life, accounts),
-            Err(Fault::Memory) if past.is_auditing() => {
+            Err(Fault::Memory) if was_auditing => {
                 // There is more memory once the audit has ended.
                 if tell_verdict(&rt, alloc, settings.on_fault, life, past, writer) {
                     life.stop(&rt);

@@ -111,7 +111,7 @@ fn is_rolled<R: Wait + Clock>(rt: &R, state: &ServiceState) -> bool {
         return false;
     }
     for _ in rt.forever() {
-        if life.stages().is_stopping(rt) {
+        if life.stages().is_stopping(rt) && !state.draining().has_begun(rt) {
             return false;
         }
         if state.stages().pauses(rt, Duration::from_millis(LOOK_MS)) {

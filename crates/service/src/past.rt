@@ -196,8 +196,8 @@ impl Past {
         Some(verdict)
     }
 
-    /// Adds an epoch that has ended, and left these maildrops. It is audited on a thread of its own. After `Memory` it isn't
-    /// there.
+    /// Adds an epoch that has ended, and left these maildrops. It is audited on a thread of its own. After `Memory` the epoch
+    /// and its maildrops are lost, and nothing else has changed.
     pub(crate) fn add<R: Threads + Wait + Copy + Send + 'static>(
         &mut self,
         rt: R,

@@ -23,8 +23,8 @@ const LOOK_MS: u64 = 100;
 /// The same until its nodes lead.
 const LEAD_LOOK_MS: u64 = 2;
 
-/// How many milliseconds lie between the first two tries to find a moment without an open session. Later it is twice as long
-/// each time.
+/// Half of the milliseconds between the first two tries to find a moment without an open session. The time doubles with each
+/// try.
 const FIRST_RETRY_MS: u64 = 1_000;
 
 /// How many milliseconds lie between two such tries at most.
@@ -304,8 +304,8 @@ impl Rolls {
         progress.led > epoch
     }
 
-    /// Waits so long, or until the service has ended or the operators of this epoch are waited for. Returns whether that is
-    /// so.
+    /// Waits at most so long for the end of the service, or until the threads of this epoch's operators are to be joined.
+    /// Returns whether either has happened.
     pub(crate) fn pauses<R: Wait + Clock>(&self, rt: &R, epoch: u64, time: Duration) -> bool {
         let guard = self.progress.lock(rt);
         let (progress, _) = self
@@ -316,7 +316,7 @@ impl Rolls {
         progress.has_ended || progress.joined >= epoch
     }
 
-    /// The operators of all epochs but the last two are waited for: they wait for nothing any more.
+    /// The threads of operators are to be joined, except those of the last two epochs: who still waits there stops waiting.
     pub(crate) fn join_before_last<R: Wait>(&self, rt: &R) {
         let mut guard = self.progress.lock(rt);
         let progress = &mut *guard;
