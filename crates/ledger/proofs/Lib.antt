@@ -1,0 +1,11 @@
+pub mod Enough
+pub mod Epochs
+pub mod Steps
+pub mod Formats
+pub mod Ascending
+pub mod Fields
+pub mod Entries
+pub mod Lines
+pub mod Loops
+pub mod Sizes
+pub mod Writing

@@ -1,0 +1,5 @@
+pub mod Changes
+pub mod Payloads
+pub mod Reading
+pub mod Fitting
+pub mod Examples
