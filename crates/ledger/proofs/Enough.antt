@@ -55,7 +55,7 @@ module _ {A : Type 0} where
   by_free m true = refl
   by_free m false = refl
 
-  by_operation : (m : Maildrop A) (ticket : Ticket) (op : Op A) → changed_by (closed m) (changes_of m op) ≡ closed ((effect_of m ticket op).after)
+  pub by_operation : (m : Maildrop A) (ticket : Ticket) (op : Op A) → changed_by (closed m) (changes_of m op) ≡ closed ((effect_of m ticket op).after)
   by_operation m ticket (Mail text key) = by_mail m text key (uid_of key m.keys) (refusal_of m text)
   by_operation m ticket Take = by_take m ticket m.holder
   by_operation m ticket (Commit lock uids) = by_commit m uids (is_held_by m.holder lock)
@@ -91,30 +91,23 @@ module _ {A : Type 0} where
       ∙ ap (λ (ids : List ℕ). ids ++ stored_in (written_of next cs)) (given_by m c.op)
       ∙ ap (λ (ids : List ℕ). ids_given_by m c.op ++ ids) (written_ids next cs)
 
-  -- Messages that are stored after those that are there. The next unique id is set after them, so what it was doesn't matter.
-  with_messages : (m : KeptMaildrop A) (ms : List (Message A)) (rest : List (Change A)) (n : ℕ) (next : KeptMaildrop A) →
-      next ≡ record m { messages = m.messages ++ ms; next_uid = n }
-      → ((k : ℕ) → changed_by (record m { messages = m.messages ++ ms; next_uid = k }) rest ≡ changed_by next rest)
-      → changed_by m (map message_change ms ++ rest) ≡ changed_by next rest
-  with_messages m [] rest n next is same = ap (λ (x : List (Message A)). changed_by (record m { messages = x }) rest) (sym (append-nil m.messages)) ∙ same m.next_uid
-  with_messages m (g ∷ ms) rest n next is same =
-      let one = changed m (message_change g) in
-      let moved : (k : ℕ) → changed_by (record one { messages = one.messages ++ ms; next_uid = k }) rest ≡ changed_by next rest =
-      λ k. ap (λ (x : List (Message A)). changed_by (record m { messages = x; next_uid = k }) rest) (append_assoc m.messages (g ∷ []) ms) ∙ same k in
-      with_messages one ms rest n next (is ∙ ap (λ (x : List (Message A)). record m { messages = x; next_uid = n }) (sym (append_assoc m.messages (g ∷ []) ms))) moved
+  -- messages that are stored after those that are there, and the next unique id
+  with_messages : (m : KeptMaildrop A) (ms : List (Message A)) (n : ℕ) (rest : List (Change A)) →
+      changed_by m (map message_change ms ++ Next n ∷ rest) ≡ changed_by (record m { messages = m.messages ++ ms; next_uid = n }) rest
+  with_messages m [] n rest = ap (λ (x : List (Message A)). changed_by (record m { messages = x; next_uid = n }) rest) (sym (append-nil m.messages))
+  with_messages m (g ∷ ms) n rest =
+      with_messages (changed m (message_change g)) ms n rest
+      ∙ ap (λ (x : List (Message A)). changed_by (record m { messages = x; next_uid = n }) rest) (append_assoc m.messages (g ∷ []) ms)
 
-  with_keys : (m : KeptMaildrop A) (ks : List (List ℕ × ℕ)) (n : ℕ) → changed_by m (map key_change ks ++ Next n ∷ []) ≡ record m { keys = m.keys ++ ks; next_uid = n }
-  with_keys m [] n = ap (λ (x : List (List ℕ × ℕ)). record m { keys = x; next_uid = n }) (sym (append-nil m.keys))
-  with_keys m (k ∷ ks) n = with_keys (changed m (key_change k)) ks n ∙ ap (λ (x : List (List ℕ × ℕ)). record m { keys = x; next_uid = n }) (append_assoc m.keys (k ∷ []) ks)
+  -- keys after those that are there
+  with_keys : (m : KeptMaildrop A) (keys : List (List ℕ × ℕ)) → changed_by m (map key_change keys) ≡ record m { keys = m.keys ++ keys }
+  with_keys m [] = ap (λ (x : List (List ℕ × ℕ)). record m { keys = x }) (sym (append-nil m.keys))
+  with_keys m (k ∷ ks) = with_keys (changed m (key_change k)) ks ∙ ap (λ (x : List (List ℕ × ℕ)). record m { keys = x }) (append_assoc m.keys (k ∷ []) ks)
 
   pub snapshot_whole : (kept : KeptMaildrop A) → changed_by nothing_kept (snapshot_of kept) ≡ kept
   snapshot_whole kept =
-      let nothing : KeptMaildrop A = nothing_kept in
-      let rest = map key_change kept.keys ++ Next kept.next_uid ∷ [] in
-      let filled : KeptMaildrop A = record nothing { messages = kept.messages; next_uid = kept.next_uid } in
-      let same : (k : ℕ) → changed_by (record filled { next_uid = k }) rest ≡ changed_by filled rest =
-      λ k. with_keys (record filled { next_uid = k }) kept.keys kept.next_uid ∙ sym (with_keys filled kept.keys kept.next_uid) in
-      with_messages nothing kept.messages rest kept.next_uid filled refl same ∙ with_keys filled kept.keys kept.next_uid
+      let filled : KeptMaildrop A = record { messages = kept.messages; next_uid = kept.next_uid; keys = [] } in
+      with_messages nothing_kept kept.messages kept.next_uid (map key_change kept.keys) ∙ with_keys filled kept.keys
 
   pub snapshot_more : (m : Maildrop A) (commands : List (Command A)) → changed_by nothing_kept (snapshot_of (closed m) ++ written_of m commands) ≡ closed (after_steps m (performing commands))
   snapshot_more m commands =

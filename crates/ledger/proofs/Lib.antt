@@ -1,5 +1,6 @@
 pub mod Enough
 pub mod Epochs
+pub mod Fronts
 pub mod Steps
 pub mod Formats
 pub mod Ascending

@@ -1,6 +1,6 @@
 -- What is written of a user's commands: what they change of the user's maildrop, but for its lock and its limits.
 use Rattle.std.specs.Prelude.{ℕ, ◌+◌, List, [], ◌∷◌, ◌++◌, map, Some, None, if◌then◌else◌}
-use Rattle.maildrop.specs.Kept.{KeptMaildrop}
+use Rattle.maildrop.specs.Kept.{KeptMaildrop, IsConsistent}
 use Rattle.maildrop.specs.Key.{with_key}
 use Rattle.maildrop.specs.Limits.{Limits}
 use Rattle.maildrop.specs.Maildrop.{Maildrop, opened, closed, is_stored, is_held_by, without}
@@ -78,9 +78,15 @@ module _ {A : Type 0} where
   abbrev pub key_change : List ℕ × ℕ → Change A
   key_change entry = Keyed entry.0 entry.1
 
-  -- a snapshot: the changes by which a maildrop comes from nothing
+  -- what is kept is consistent, and so it is after each of these changes
+  abbrev pub StaysConsistent : KeptMaildrop A → List (Change A) → Type 0
+  StaysConsistent kept [] = IsConsistent kept
+  StaysConsistent kept (change ∷ changes) = IsConsistent kept × StaysConsistent (changed kept change) changes
+
+  -- A snapshot: the changes by which a maildrop comes from nothing. The next unique id comes before the keys, so that there
+  -- are always fewer keys than that.
   abbrev pub snapshot_of : KeptMaildrop A → List (Change A)
-  snapshot_of kept = map message_change kept.messages ++ (map key_change kept.keys ++ Next kept.next_uid ∷ [])
+  snapshot_of kept = map message_change kept.messages ++ Next kept.next_uid ∷ map key_change kept.keys
 
   -- the maildrop with which an epoch begins, if this was kept
   abbrev pub opening_of : KeptMaildrop A → Epoch A → Maildrop A

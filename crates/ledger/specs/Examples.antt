@@ -76,14 +76,18 @@ after_removed : {A : Type 0} → changed {A = A} kept (Removed (3 ∷ 4 ∷ []))
 after_removed = refl
 
 -- the next unique id of a snapshot is above that of its last message, which isn't the last one that came
-snapshot : {A : Type 0} → snapshot_of {A = A} kept ≡ Stored 3 small None ∷ Stored 7 small None ∷ Keyed (codes "k1") 5 ∷ Next 9 ∷ []
+snapshot : {A : Type 0} → snapshot_of {A = A} kept ≡ Stored 3 small None ∷ Stored 7 small None ∷ Next 9 ∷ Keyed (codes "k1") 5 ∷ []
 snapshot = refl
 
-snapshot_read : {A : Type 0} → changed_by {A = A} nothing_kept (Stored 3 small None ∷ Stored 7 small None ∷ Keyed (codes "k1") 5 ∷ Next 9 ∷ []) ≡ kept
+snapshot_read : {A : Type 0} → changed_by {A = A} nothing_kept (Stored 3 small None ∷ Stored 7 small None ∷ Next 9 ∷ Keyed (codes "k1") 5 ∷ []) ≡ kept
 snapshot_read = refl
 
--- Two epochs. In the first message 7 is removed and two come, one of them under a key. The second opens with the last key
--- alone, so the first key is free again.
+-- of an empty maildrop whose messages were removed
+empty_snapshot : {A : Type 0} → snapshot_of {A = A} (record { messages = []; next_uid = 9; keys = (codes "k1", 5) ∷ [] }) ≡ Next 9 ∷ Keyed (codes "k1") 5 ∷ []
+empty_snapshot = refl
+
+-- Two epochs. In the first message 7 is removed and two come, one of them under a key. The second opens with only the
+-- last key, so the first key is free again.
 abbrev epochs : {A : Type 0} → List (Epoch A)
 epochs = record {
   limits = narrow;

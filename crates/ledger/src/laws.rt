@@ -2,12 +2,13 @@
 ghost use Rattle.std.specs.Prelude.{◌≡◌, ◌≤◌, ◌++◌, ℕ, List};
 ghost use Rattle.std.specs.List.{All};
 ghost use Rattle.std.specs.List.Sorted.{IsStrictlyIncreasing};
-ghost use Rattle.maildrop.specs.Kept.{KeptMaildrop, nothing_kept};
+ghost use Rattle.maildrop.specs.Kept.{KeptMaildrop, IsConsistent, nothing_kept};
+ghost use Rattle.maildrop.specs.Limits.{AreLimits};
 ghost use Rattle.maildrop.specs.Maildrop.{Maildrop, closed};
 ghost use Rattle.maildrop.specs.Office.{ids_given};
 ghost use Rattle.maildrop.specs.Reopening.{after_steps};
 ghost use Rattle.maildrop.specs.declared.command.Command.{Command};
-ghost use Rattle.ledger.specs.Changes.{Epoch, changed_by, performing, written_of, stored_in, snapshot_of, opening_after, file_of, read_file, joined, outcomes_by_epochs, outcomes_in_steps, ids_by_epochs, ids_in_file};
+ghost use Rattle.ledger.specs.Changes.{Epoch, StaysConsistent, changed_by, performing, written_of, stored_in, snapshot_of, opening_after, file_of, read_file, joined, outcomes_by_epochs, outcomes_in_steps, ids_by_epochs, ids_in_file};
 
 use maildrop::reopening_keeps_ids;
 use std::alloc::Allocator;
@@ -27,6 +28,14 @@ pub fn a_snapshot_is_the_maildrop<A: Allocator>()
     ensures more { (maildrop : Maildrop A) (commands : List (Command A)) →
         changed_by nothing_kept (snapshot_of (closed maildrop) ++ written_of maildrop commands)
         ≡ closed (after_steps maildrop (performing commands)) }
+{}
+
+/// What is kept stays consistent after each change that is read, whether it was written of commands or is part of a
+/// snapshot. So a reader can refuse a change that breaks this.
+pub fn each_change_keeps_consistency<A: Allocator>()
+    ensures written { (maildrop : Maildrop A) (commands : List (Command A)) → AreLimits maildrop.limits → IsConsistent (closed maildrop) →
+        StaysConsistent (closed maildrop) (written_of maildrop commands) }
+    ensures snapshot { (kept : KeptMaildrop A) → IsConsistent kept → StaysConsistent nothing_kept (snapshot_of kept) }
 {}
 
 /// A restart is an epoch that opens with what the one before it left. What was written in all epochs, read back, is what
