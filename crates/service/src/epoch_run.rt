@@ -191,9 +191,12 @@ fn watch<R: System, W: Write, N: ServedNode>(
         let is_due = match wake {
             Wake::Roll => true,
             Wake::Quiet => is_quiet(rt, ports, state),
-            Wake::Stop | Wake::Audited | Wake::Look => false,
+            Wake::Stop | Wake::Audited | Wake::Behind | Wake::Look => false,
         };
-        if is_due || matches!(wake, Wake::Audited) {
+        if matches!(wake, Wake::Behind) {
+            ports.pause_pop(rt);
+        }
+        if is_due || matches!(wake, Wake::Audited | Wake::Behind) {
             let is_over = tell_verdict(rt, alloc, on_fault, life, past, writer);
             if is_over {
                 life.stop(rt);
@@ -201,6 +204,7 @@ fn watch<R: System, W: Write, N: ServedNode>(
             if is_due || is_over {
                 return Ending::Rolled;
             }
+            ports.resume_pop(rt);
         }
     }
     unreachable!()

@@ -8,6 +8,10 @@ use std::time::{Clock, Duration, Instant};
 /// How many times as much as its limit an epoch may have before it ends although sessions are open.
 const FORCED: u64 = 5;
 
+/// How many times as much as its limit an epoch may have before new clients wait for the audit of the one before it. Else
+/// memory would grow with each epoch while sessions come faster than they are audited.
+const BEHIND: u64 = 2;
+
 /// How old an epoch is at least, in milliseconds, before it ends although sessions are open.
 const FORCED_AGE_MS: u64 = 60_000;
 
@@ -127,6 +131,8 @@ pub(crate) enum Wake {
     Stop,
     /// The audit of the epoch before this one has ended.
     Audited,
+    /// The audit of the epoch before this one is behind.
+    Behind,
     /// The epoch is to end, and its sessions with it.
     Roll,
     /// The epoch is to end if no session is open.
@@ -186,6 +192,9 @@ impl Progress {
         if self.has_audited {
             self.has_audited = false;
             return Wake::Audited;
+        }
+        if self.is_auditing && has_reached(self.load, limits, BEHIND) {
+            return Wake::Behind;
         }
         if self.is_auditing {
             return Wake::Look;
