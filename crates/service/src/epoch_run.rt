@@ -194,6 +194,7 @@ fn watch<R: System, W: Write, N: ServedNode>(
             Wake::Stop | Wake::Audited | Wake::Behind | Wake::Look => false,
         };
         if matches!(wake, Wake::Behind) {
+            // Else each epoch would grow beyond the one before it while sessions come faster than they are audited.
             ports.pause_pop(rt);
         }
         if is_due || matches!(wake, Wake::Audited | Wake::Behind) {

@@ -8,10 +8,6 @@ use std::time::{Clock, Duration, Instant};
 /// How many times as much as its limit an epoch may have before it ends although sessions are open.
 const FORCED: u64 = 5;
 
-/// How many times as much as its limit an epoch may have before new clients wait for the audit of the one before it. Else
-/// memory would grow with each epoch while sessions come faster than they are audited.
-const BEHIND: u64 = 2;
-
 /// How old an epoch is at least, in milliseconds, before it ends although sessions are open.
 const FORCED_AGE_MS: u64 = 60_000;
 
@@ -131,7 +127,7 @@ pub(crate) enum Wake {
     Stop,
     /// The audit of the epoch before this one has ended.
     Audited,
-    /// The audit of the epoch before this one is behind.
+    /// The epoch has as much as a limit, and the audit of the one before it goes on.
     Behind,
     /// The epoch is to end, and its sessions with it.
     Roll,
@@ -193,7 +189,7 @@ impl Progress {
             self.has_audited = false;
             return Wake::Audited;
         }
-        if self.is_auditing && has_reached(self.load, limits, BEHIND) {
+        if self.is_auditing && has_reached(self.load, limits, 1) {
             return Wake::Behind;
         }
         if self.is_auditing {
