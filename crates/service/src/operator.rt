@@ -188,7 +188,6 @@ impl<R: Wait + Clock + Copy, N: ServedNode + Drop> OperatorHandler<R, N> {
         may_wait: bool,
     ) -> Result<(), Fault> {
         match request {
-            None if self.state.stages().has_ended(&self.rt) => tell(stream, b"down\n"),
             None => tell(stream, b"bad request\n"),
             Some(Request::Status) => self.tell_status(stream),
             Some(Request::Sessions) => self.tell_sessions(stream),
