@@ -1,13 +1,18 @@
 //! The maildrops of users while no office has them open.
-ghost use Rattle.std.specs.Prelude.{◌≡◌, ℕ, List, [], ◌∷◌, true, false, length, take, option_map, unwrap_or, IfOk, OnOk, OnErr};
+ghost use Rattle.std.specs.Prelude.{◌≡◌, ℕ, List, [], ◌∷◌, true, false, None, length, slice_get, take, map, option_map, unwrap_or, IfOk, OnOk, OnErr};
 ghost use Rattle.std.specs.Map.{lookup};
 ghost use Rattle.std.specs.Str.{bytes_eq};
+ghost use Rattle.maildrop.specs.Changes.{can_change, changed_if_fit};
 ghost use Rattle.maildrop.specs.Kept.{kept_for, nothing_kept, has_name, with_others_of};
 ghost use Rattle.maildrop.specs.Maildrop.{closed, opened};
+ghost use Rattle.maildrop.specs.Changes.{kept_in};
 ghost use Rattle.maildrop.specs.Office.{users_of, kept_of};
 
+use crate::change::Change;
+use crate::key::Key;
 use crate::limits::Limits;
 use crate::maildrop::Maildrop;
+use crate::message::Message;
 use crate::name::Name;
 use ballot::Memory;
 use indexmap::IndexMap;
@@ -67,6 +72,60 @@ impl<A: Allocator + Copy> Kept<A> {
         Ok(())
     }
 
+    /// Changes what is kept of a user, and returns whether it can change so. If it can't, nothing changes, nor after `Memory`.
+    /// Nothing changes of other users.
+    pub fn change(&mut self, name: Name, change: &Change<A>) -> Result<bool, Memory>
+        ensures can { IfOk result (λ can. can ≡ can_change (kept_for name self.old) change.now) }
+        ensures after { OnOk result (kept_for name self.new ≡ changed_if_fit (kept_for name self.old) change.now) }
+        ensures others { (other : List ℕ) → bytes_eq other name ≡ false → kept_for other self.new ≡ kept_for other self.old }
+        ensures err { OnErr result (self.new ≡ self.old) }
+    {
+        change_in(&mut self.maildrops, name, change)
+    }
+
+    /// How many users it keeps something of.
+    pub fn users(&self) -> usize
+        ensures { result ≡ length self.now }
+    {
+        self.maildrops.len()
+    }
+
+    /// The name of the user at this place. The first place is 0.
+    pub fn name_at(&self, place: usize) -> Option<Name>
+        ensures { result ≡ slice_get (map (λ e. e.0) self.now) place }
+    {
+        name_at(&self.maildrops, place)
+    }
+
+    /// The messages that are kept of a user, in order of their unique ids.
+    pub fn messages(&self, name: &Name) -> &[Message<A>]
+        ensures { result.now ≡ (kept_for name.now self.now).messages }
+    {
+        messages_in(&self.maildrops, name)
+    }
+
+    /// The next unique id that is kept of a user.
+    pub fn next_uid(&self, name: &Name) -> u64
+        ensures { result ≡ (kept_for name.now self.now).next_uid }
+    {
+        next_uid_in(&self.maildrops, name)
+    }
+
+    /// How many keys are kept of a user.
+    pub fn key_count(&self, name: &Name) -> usize
+        ensures { result ≡ length (kept_for name.now self.now).keys }
+    {
+        key_count_in(&self.maildrops, name)
+    }
+
+    /// The key of a user at this place, in the order in which they came, with the unique id of its message. The first place is
+    /// 0.
+    pub fn key_at(&self, name: &Name, place: usize) -> Option<(Key, u64)>
+        ensures { result ≡ slice_get (kept_for name.now self.now).keys place }
+    {
+        key_in(&self.maildrops, name, place)
+    }
+
     /// The user's maildrop with these limits and the last `keys` of its keys: an empty one if nothing is kept of the
     /// user. The texts share their lines.
     pub(crate) fn open(
@@ -94,6 +153,92 @@ fn open_in<A: Allocator + Copy>(
     match maildrops.get(&name) {
         None => Ok(Maildrop::new(alloc, limits)),
         Some(maildrop) => maildrop.reopen(alloc, limits, keys),
+    }
+}
+
+fn change_in<A: Allocator + Copy>(
+    maildrops: &mut Maildrops<A>,
+    name: Name,
+    change: &Change<A>,
+) -> Result<bool, Memory>
+    ensures can { IfOk result (λ can. can ≡ can_change (kept_in name maildrops.old.entries) change.now) }
+    ensures after { OnOk result (kept_in name maildrops.new.entries ≡ changed_if_fit (kept_in name maildrops.old.entries) change.now) }
+    ensures others { (other : List ℕ) → bytes_eq other name ≡ false → kept_in other maildrops.new.entries ≡ kept_in other maildrops.old.entries }
+    ensures err { OnErr result (maildrops.new.entries ≡ maildrops.old.entries) }
+{
+    match maildrops.get_mut(&name) {
+        Some(maildrop) => maildrop.change(change),
+        None => change_new(maildrops, name, change),
+    }
+}
+
+/// Adds a user of whom nothing is kept, and changes that.
+fn change_new<A: Allocator + Copy>(
+    maildrops: &mut Maildrops<A>,
+    name: Name,
+    change: &Change<A>,
+) -> Result<bool, Memory>
+    requires { lookup (bytes_eq name) maildrops.old.entries ≡ None }
+    ensures can { IfOk result (λ can. can ≡ can_change nothing_kept change.now) }
+    ensures after { OnOk result (kept_in name maildrops.new.entries ≡ changed_if_fit nothing_kept change.now) }
+    ensures others { (other : List ℕ) → bytes_eq other name ≡ false → kept_in other maildrops.new.entries ≡ kept_in other maildrops.old.entries }
+    ensures err { OnErr result (maildrops.new.entries ≡ maildrops.old.entries) }
+{
+    let mut maildrop = Maildrop::new(*maildrops.allocator(), Limits::NONE);
+    let can = maildrop.change(change)?;
+    maildrops.insert(name, maildrop)?;
+    Ok(can)
+}
+
+fn name_at<A: Allocator + Copy>(maildrops: &Maildrops<A>, place: usize) -> Option<Name>
+    ensures { result ≡ option_map (λ e. e.0) (slice_get maildrops.now.entries place) }
+{
+    match maildrops.get_index(place) {
+        None => None,
+        Some((name, _)) => Some(*name),
+    }
+}
+
+fn messages_in<'a, A: Allocator + Copy>(
+    maildrops: &'a Maildrops<A>,
+    name: &Name,
+) -> &'a [Message<A>]
+    ensures { result.now ≡ (kept_in name.now maildrops.now.entries).messages }
+{
+    match maildrops.get(name) {
+        None => &[],
+        Some(maildrop) => maildrop.messages(),
+    }
+}
+
+fn next_uid_in<A: Allocator + Copy>(maildrops: &Maildrops<A>, name: &Name) -> u64
+    ensures { result ≡ (kept_in name.now maildrops.now.entries).next_uid }
+{
+    match maildrops.get(name) {
+        None => 1,
+        Some(maildrop) => maildrop.usage().next_uid,
+    }
+}
+
+fn key_count_in<A: Allocator + Copy>(maildrops: &Maildrops<A>, name: &Name) -> usize
+    ensures { result ≡ length (kept_in name.now maildrops.now.entries).keys }
+{
+    match maildrops.get(name) {
+        None => 0,
+        Some(maildrop) => maildrop.key_count(),
+    }
+}
+
+fn key_in<A: Allocator + Copy>(
+    maildrops: &Maildrops<A>,
+    name: &Name,
+    place: usize,
+) -> Option<(Key, u64)>
+    ensures { result ≡ slice_get (kept_in name.now maildrops.now.entries).keys place }
+{
+    match maildrops.get(name) {
+        None => None,
+        Some(maildrop) => maildrop.key_at(place),
     }
 }
 

@@ -1,5 +1,5 @@
 //! One user's maildrop.
-ghost use Rattle.std.specs.Prelude.{◌≡◌, ◌≢◌, ◌==◌, ◌+◌, ◌-◌, ◌<◌, ◌≤◌, ℕ, List, take, drop, false, None, IfOk, IsOk, OnOk, OnErr};
+ghost use Rattle.std.specs.Prelude.{◌≡◌, ◌≢◌, ◌==◌, ◌+◌, ◌-◌, ◌<◌, ◌≤◌, ℕ, List, take, drop, true, false, None, Some, Ok, IfOk, IsOk, OnOk, OnErr, slice_get, option_map, length};
 ghost use Rattle.std.specs.List.{list_any};
 ghost use Rattle.std.specs.Str.{bytes_eq};
 ghost use Rattle.indexmap.specs.IndexMap.{IsUnique, index_map_len};
@@ -8,9 +8,13 @@ ghost use Rattle.maildrop.specs.Limits.{most_octets};
 ghost use Rattle.maildrop.specs.Taken.{message_octets};
 ghost use Rattle.maildrop.specs.Key.{uid_of as uid_in, with_key};
 ghost use Rattle.maildrop.specs.Maildrop as spec;
+ghost use Rattle.maildrop.specs.Changes.{can_change, changed, changed_if_fit, change_of, with_kept};
+ghost use Rattle.maildrop.specs.declared.change.Change.TheVariants as change;
+ghost use Rattle.maildrop.specs.declared.op.Op.TheVariants as op;
 
+use crate::change::Change;
 use crate::key::Key;
-use crate::limits::Limits;
+use crate::limits::{HIGHEST_ID, Limits, MOST_MESSAGES, MOST_OCTETS};
 use crate::message::{Message, copies_of};
 use crate::op::Op;
 use crate::outcome::Outcome;
@@ -134,6 +138,193 @@ impl<A: Allocator + Copy> Maildrop<A> {
                 self.holder = None;
                 Ok(Outcome::Done)
             }
+        }
+    }
+
+    /// Performs one operation without its outcome, and returns what it changes of what is kept. After `Memory` the maildrop
+    /// is as it was. Costs the same however many messages there are, but for a Commit.
+    pub(crate) fn follow(&mut self, ticket: Ticket, op: &Op<A>) -> Result<Option<Change<A>>, Memory>
+        ensures change { IfOk result (λ change. change ≡ change_of self.old op.now) }
+        ensures after { OnOk result (self.new ≡ (spec.effect_of self.old ticket op.now).after) }
+        ensures err { OnErr result (self.new ≡ self.old) }
+    {
+        match op {
+            Op::Mail { text, key } => self.follow_mail(text, key),
+            Op::Take => {
+                self.hold(ticket);
+                Ok(None)
+            }
+            Op::Commit { lock, uids } => self.follow_commit(*lock, uids),
+            Op::Free { lock } => {
+                let _outcome = self.free(*lock);
+                Ok(None)
+            }
+            Op::Break => {
+                self.holder = None;
+                Ok(None)
+            }
+        }
+    }
+
+    fn follow_mail(
+        &mut self,
+        text: &Text<A>,
+        key: &Option<Key>,
+    ) -> Result<Option<Change<A>>, Memory>
+        ensures change { IfOk result (λ change. change ≡ change_of self.old (op.Mail text.now key.now)) }
+        ensures after { OnOk result (self.new ≡ (spec.delivered self.old text.now key.now (uid_in key.now self.old.keys) (spec.refusal_of self.old text.now)).after) }
+        ensures err { OnErr result (self.new ≡ self.old) }
+    {
+        if uid_of(&self.keys, key).is_some() || self.refusal(text).is_some() {
+            return Ok(None);
+        }
+        let next = self.next_uid;
+        let stored = text.copy()?;
+        let _outcome = self.store(text, key)?;
+        Ok(Some(Change::Stored {
+            uid: next,
+            text: stored,
+            key: *key,
+        }))
+    }
+
+    /// Takes the lock, unless somebody holds it.
+    fn hold(&mut self, ticket: Ticket)
+        ensures { self.new ≡ (spec.effect_of_take self.old ticket self.old.holder).after }
+    {
+        if self.holder.is_none() {
+            let holder = Some(ticket);
+            self.holder = holder;
+        }
+    }
+
+    fn follow_commit(&mut self, lock: Ticket, uids: &Uids<A>) -> Result<Option<Change<A>>, Memory>
+        ensures change { IfOk result (λ change. change ≡ change_of self.old (op.Commit lock uids.now)) }
+        ensures after { OnOk result (self.new ≡ (spec.unlocked self.old lock (spec.without uids.now self.old.messages)).after) }
+        ensures err { OnErr result (self.new ≡ self.old) }
+    {
+        if !is_held_by(&self.holder, lock) {
+            return Ok(None);
+        }
+        let removed = uids.copy()?;
+        let _outcome = self.commit(lock, uids);
+        Ok(Some(Change::Removed(removed)))
+    }
+
+    /// Changes so, and returns whether it can. If it can't, nothing changes, nor after `Memory`.
+    pub(crate) fn change(&mut self, change: &Change<A>) -> Result<bool, Memory>
+        ensures can { IfOk result (λ can. can ≡ can_change (spec.closed self.old) change.now) }
+        ensures after { OnOk result (self.new ≡ with_kept self.old (changed_if_fit (spec.closed self.old) change.now)) }
+        ensures err { OnErr result (self.new ≡ self.old) }
+    {
+        match change {
+            Change::Stored { uid, text, key } => self.put_message(*uid, text, key),
+            Change::Removed(uids) => {
+                self.remove(uids);
+                Ok(true)
+            }
+            Change::Keyed { key, uid } => self.put_key(key, *uid),
+            Change::Next(uid) => Ok(self.put_next(*uid)),
+        }
+    }
+
+    fn put_message(&mut self, uid: u64, text: &Text<A>, key: &Option<Key>) -> Result<bool, Memory>
+        ensures can { IfOk result (λ can. can ≡ can_change (spec.closed self.old) (change.Stored uid text.now key.now)) }
+        ensures after { OnOk result (self.new ≡ with_kept self.old (changed_if_fit (spec.closed self.old) (change.Stored uid text.now key.now))) }
+        ensures err { OnErr result (self.new ≡ self.old) }
+    {
+        if !self.can_store(uid, text, key) {
+            return Ok(false);
+        }
+        self.add(uid, text, key)?;
+        Ok(true)
+    }
+
+    fn can_store(&self, uid: u64, text: &Text<A>, key: &Option<Key>) -> bool
+        ensures { result ≡ can_change (spec.closed self.now) (change.Stored uid text.now key.now) }
+    {
+        let size = text.octets();
+        if self.messages.len() as u64 >= MOST_MESSAGES || size > MOST_OCTETS as u128 {
+            return false;
+        }
+        if self.octets + size as u64 > MOST_OCTETS || uid < self.next_uid || uid > HIGHEST_ID {
+            return false;
+        }
+        uid_of(&self.keys, key).is_none()
+    }
+
+    /// Adds a message that it can have.
+    fn add(&mut self, uid: u64, text: &Text<A>, key: &Option<Key>) -> Result<(), Memory>
+        requires { can_change (spec.closed self.old) (change.Stored uid text.now key.now) ≡ true }
+        ensures ok { OnOk result (self.new ≡ with_kept self.old (changed (spec.closed self.old) (change.Stored uid text.now key.now))) }
+        ensures err { OnErr result (self.new ≡ self.old) }
+    {
+        let octets = text.octets() as u64;
+        let text = text.copy()?;
+        self.messages.reserve(1)?;
+        keep(&mut self.keys, key, uid)?;
+        self.messages.push_reserved(Message { uid, text });
+        self.octets += octets;
+        self.next_uid = uid + 1;
+        Ok(())
+    }
+
+    /// Removes messages. Takes no memory.
+    fn remove(&mut self, uids: &Uids<A>)
+        ensures { self.new ≡ with_kept self.old (changed (spec.closed self.old) (change.Removed uids.now)) }
+    {
+        let listed = uids;
+        remove_listed(&mut self.messages, listed);
+        let octets = octets_of(&self.messages);
+        self.octets = octets;
+    }
+
+    fn put_key(&mut self, key: &Key, uid: u64) -> Result<bool, Memory>
+        ensures can { IfOk result (λ can. can ≡ can_change (spec.closed self.old) (change.Keyed key.now uid)) }
+        ensures after { OnOk result (self.new ≡ with_kept self.old (changed_if_fit (spec.closed self.old) (change.Keyed key.now uid))) }
+        ensures err { OnErr result (self.new ≡ self.old) }
+    {
+        let key = Some(*key);
+        if self.keys.len() as u64 + 1 >= self.next_uid || uid_of(&self.keys, &key).is_some() {
+            return Ok(false);
+        }
+        keep(&mut self.keys, &key, uid)?;
+        Ok(true)
+    }
+
+    /// Sets the next unique id, and returns whether it can be this one.
+    fn put_next(&mut self, uid: u64) -> bool
+        ensures can { result ≡ can_change (spec.closed self.old) (change.Next uid) }
+        ensures after { self.new ≡ with_kept self.old (changed_if_fit (spec.closed self.old) (change.Next uid)) }
+    {
+        if uid < self.next_uid || uid > HIGHEST_ID + 1 {
+            return false;
+        }
+        self.next_uid = uid;
+        true
+    }
+
+    /// The messages, in order of their unique ids.
+    pub(crate) fn messages(&self) -> &[Message<A>]
+        ensures { result.now ≡ self.now.messages }
+    {
+        &self.messages
+    }
+
+    /// How many keys it has.
+    pub(crate) fn key_count(&self) -> usize
+        ensures { result ≡ length self.now.keys }
+    {
+        self.keys.len()
+    }
+
+    /// The key at this place, in the order in which they came, with the unique id of its message. The first place is 0.
+    pub(crate) fn key_at(&self, place: usize) -> Option<(Key, u64)>
+        ensures { result ≡ slice_get self.now.keys place }
+    {
+        match self.keys.get_index(place) {
+            None => None,
+            Some((key, uid)) => Some((*key, *uid)),
         }
     }
 
