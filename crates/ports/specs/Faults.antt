@@ -1,10 +1,10 @@
 -- What the ends of a run mean for the program.
-use Rattle.std.specs.Prelude.{◌≡◌, refl, ℕ, Option, Some, None, [], ◌∷◌}
+use Rattle.std.specs.Prelude.{◌≡◌, refl, ℕ, Bool, true, false, Option, Some, None, [], ◌∷◌}
 use Rattle.std.specs.Net.Addr.{ipv4_octets}
 use Rattle.std.specs.declared.net.ip_addr.IpAddr.{IpAddr}
 use Rattle.std.specs.declared.net.ip_addr.IpAddr.TheVariants.{V4, V6}
 use Rattle.ports.specs.declared.fault.Fault.{Fault}
-use Rattle.ports.specs.declared.fault.Fault.TheVariants.{Value, Account, NameTwice, Listen, ListenSocket, Reach, ReachSocket, StartedBefore, Mark, Log, NoMajority, Memory, Read, Write}
+use Rattle.ports.specs.declared.fault.Fault.TheVariants.{Value, Account, NameTwice, Listen, ListenSocket, Reach, ReachSocket, StartedBefore, Mark, Log, InUse, NotBegun, NotEmpty, Damaged, NoMajority, Memory, Read, Write}
 
 abbrev pub status_at : Fault → ℕ
 status_at Value = 2
@@ -17,6 +17,10 @@ status_at ReachSocket = 1
 status_at (StartedBefore node) = 2
 status_at Mark = 1
 status_at Log = 1
+status_at InUse = 1
+status_at NotBegun = 1
+status_at NotEmpty = 1
+status_at (Damaged segment at) = 1
 status_at NoMajority = 1
 status_at Memory = 1
 status_at Read = 1
@@ -30,6 +34,20 @@ twice = refl
 
 started_before : status_at (StartedBefore 3) ≡ 2
 started_before = refl
+
+-- whether a fault is one of the data folder
+abbrev pub is_of_folder : Fault → Bool
+is_of_folder InUse = true
+is_of_folder NotBegun = true
+is_of_folder NotEmpty = true
+is_of_folder (Damaged segment at) = true
+is_of_folder fault = false
+
+damaged_folder : is_of_folder (Damaged 3 120) ≡ true
+damaged_folder = refl
+
+no_memory_of_a_folder : is_of_folder Memory ≡ false
+no_memory_of_a_folder = refl
 
 -- the address of this machine by which only its own programs reach it
 abbrev pub IsLocal : IpAddr → Type 0

@@ -1,6 +1,6 @@
 //! Why a service, or an operator's request, ends before its end.
 ghost use Rattle.std.specs.Prelude.{◌≡◌};
-ghost use Rattle.ports.specs.Faults.{status_at};
+ghost use Rattle.ports.specs.Faults.{status_at, is_of_folder};
 
 use ballot::Memory;
 use std::alloc::{AllocError, AllocFailed};
@@ -40,6 +40,18 @@ pub enum Fault {
     /// The log can't be opened.
     #[error("cannot open the log")]
     Log,
+    /// Another process uses the data folder. The text goes after the folder's path, as those of the next three.
+    #[error(" is in use")]
+    InUse,
+    /// There is no data folder, or none that was begun.
+    #[error(" was not begun")]
+    NotBegun,
+    /// A folder that is to be begun has something in it.
+    #[error(" is not empty")]
+    NotEmpty,
+    /// The segment of this number is damaged at this byte.
+    #[error("/{0:08}.log is damaged at byte {1}")]
+    Damaged(u64, u64),
     /// Fewer than a majority of the nodes were up for longer than the options allow.
     #[error("no majority")]
     NoMajority,
@@ -53,6 +65,16 @@ pub enum Fault {
 }
 
 impl Fault {
+    /// Whether its text goes after the path of the data folder.
+    pub fn is_of_folder(self) -> bool
+        ensures { result ≡ is_of_folder self }
+    {
+        matches!(
+            self,
+            Fault::InUse | Fault::NotBegun | Fault::NotEmpty | Fault::Damaged(_, _)
+        )
+    }
+
     /// The exit status: 2 for a fault of the options, the words or the accounts file and for a node that was started before,
     /// 1 for a fault of memory, reading, writing or the network.
     pub fn status(self) -> u8
@@ -66,6 +88,10 @@ impl Fault {
             | Fault::ReachSocket
             | Fault::Mark
             | Fault::Log
+            | Fault::InUse
+            | Fault::NotBegun
+            | Fault::NotEmpty
+            | Fault::Damaged(_, _)
             | Fault::NoMajority
             | Fault::Memory
             | Fault::Read
