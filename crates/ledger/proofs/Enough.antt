@@ -1,7 +1,9 @@
 -- What is written of commands is enough.
 use Rattle.std.proofs.Common.{◌≡◌, ℕ, Bool, true, false, cond, List, [], ◌∷◌, ◌++◌, Option, Some, None, refl, sym, ap, ◌∙◌, append_assoc}
 use Rattle.std.specs.Prelude.{◌&&◌, is_none, map}
+use Rattle.std.specs.Option.{option_to_list}
 use Rattle.std.proofs.lemmas.List.{append-nil}
+use Rattle.maildrop.specs.Changes.{changed}
 use Rattle.maildrop.specs.Key.{uid_of}
 use Rattle.maildrop.specs.Kept.{KeptMaildrop, nothing_kept}
 use Rattle.maildrop.specs.Ticket.{Ticket}
@@ -14,17 +16,17 @@ use Rattle.maildrop.specs.declared.outcome.Outcome.{Outcome}
 use Rattle.maildrop.specs.declared.outcome.Outcome.TheVariants.{Done, NotHolder}
 use Rattle.maildrop.specs.declared.op.Op.{Op}
 use Rattle.maildrop.specs.declared.op.Op.TheVariants.{Mail, Take, Commit, Free, Break}
-use Rattle.ledger.specs.declared.change.Change.{Change}
-use Rattle.ledger.specs.declared.change.Change.TheVariants.{Stored, Removed, Next}
-use Rattle.ledger.specs.Changes.{changes_of, changed, changed_by, performing, written_of, stored_by, stored_in, message_change, key_change, snapshot_of}
+use Rattle.maildrop.specs.declared.change.Change.{Change}
+use Rattle.maildrop.specs.declared.change.Change.TheVariants.{Stored, Removed, Next}
+use Rattle.ledger.specs.Changes.{changes_of, changed_by, performing, written_of, stored_by, stored_in, message_change, key_change, snapshot_of}
 
 -- the unique ids that are written if a message is stored, and if messages are removed
 
-stored_if : (A : Type 0) (uid : ℕ) (text : List (List ℕ)) (key : Option (List ℕ)) (stores : Bool) → stored_in {A = A} (cond stores (Stored uid text key ∷ []) []) ≡ cond stores (uid ∷ []) []
+stored_if : (A : Type 0) (uid : ℕ) (text : List (List ℕ)) (key : Option (List ℕ)) (stores : Bool) → stored_in {A = A} (option_to_list (cond stores (Some (Stored uid text key)) None)) ≡ cond stores (uid ∷ []) []
 stored_if A uid text key true = refl
 stored_if A uid text key false = refl
 
-none_if : (A : Type 0) (uids : List ℕ) (held : Bool) → stored_in {A = A} (cond held (Removed uids ∷ []) []) ≡ []
+none_if : (A : Type 0) (uids : List ℕ) (held : Bool) → stored_in {A = A} (option_to_list (cond held (Some (Removed uids)) None)) ≡ []
 none_if A uids true = refl
 none_if A uids false = refl
 
@@ -36,7 +38,7 @@ module _ {A : Type 0} where
   -- one operation
 
   by_mail : (m : Maildrop A) (text : List (List ℕ)) (key : Option (List ℕ)) (known : Option ℕ) (refusal : Option (Outcome A)) →
-      changed_by (closed m) (cond (is_none known && is_none refusal) (Stored m.next_uid text key ∷ []) []) ≡ closed ((delivered m text key known refusal).after)
+      changed_by (closed m) (option_to_list (cond (is_none known && is_none refusal) (Some (Stored m.next_uid text key)) None)) ≡ closed ((delivered m text key known refusal).after)
   by_mail m text key (Some uid) refusal = refl
   by_mail m text key None (Some refusal) = refl
   by_mail m text key None None = refl
@@ -46,7 +48,7 @@ module _ {A : Type 0} where
   by_take m ticket (Some holder) = refl
 
   by_commit : (m : Maildrop A) (uids : List ℕ) (held : Bool) →
-      changed_by (closed m) (cond held (Removed uids ∷ []) [])
+      changed_by (closed m) (option_to_list (cond held (Some (Removed uids)) None))
       ≡ closed (Effect.after (cond held (record { outcome = Done; after = record m { messages = without uids m.messages; holder = None } }) (no_effect m NotHolder)))
   by_commit m uids true = refl
   by_commit m uids false = refl

@@ -1,18 +1,16 @@
--- Payloads are read as they are written.
-use Rattle.std.proofs.Common.{◌≡◌, ℕ, cond, eqb, List, [], ◌∷◌, ◌++◌, length, Option, Result, Ok, Err, refl, sym, ap, subst, ◌∙◌, append_assoc}
-use Rattle.std.specs.Prelude.{IfOk, OnOk}
+-- Payloads of changes are read as they are written.
+use Rattle.std.proofs.Common.{◌≡◌, ℕ, cond, eqb, List, [], ◌∷◌, ◌++◌, length, Option, Ok, Err, refl, sym, ap, subst, ◌∙◌, append_assoc}
 use Rattle.std.specs.Int.{w64}
 use Rattle.std.proofs.lemmas.Bool.{eqb-true}
 use Rattle.std.proofs.lemmas.List.{append-nil, nil_from_length}
-use Rattle.ledger.specs.declared.change.Change.{Change}
-use Rattle.ledger.specs.declared.change.Change.TheVariants.{Stored, Removed, Keyed, Next}
+use Rattle.maildrop.specs.declared.change.Change.{Change}
+use Rattle.maildrop.specs.declared.change.Change.TheVariants.{Stored, Removed, Keyed, Next}
 use Rattle.ledger.specs.declared.entry.Entry.{Entry}
-use Rattle.ledger.specs.declared.fault.PayloadFault.{PayloadFault}
 use Rattle.ledger.specs.declared.kind.Kind.{Kind}
 use Rattle.ledger.specs.declared.kind.Kind.TheVariants as kind
 use Rattle.ledger.specs.declared.malformed.Malformed.TheVariants as malformed
 use Rattle.ledger.specs.Payloads.{kind_number, kind_of_change, change_bytes, payload, short_string, u64_bytes, entry}
-use Rattle.ledger.specs.Reading.{◌>>=◌, Gives, number_at, kind_at, name_at, uids_at, stored_at, keyed_at, change_at, entry_at, entry_in}
+use Rattle.ledger.specs.Reading.{◌>>=◌, number_at, kind_at, name_at, uids_at, stored_at, keyed_at, change_at, entry_at, entry_in}
 use Rattle.ledger.specs.Fitting.{FitsChange, FitsEntry}
 use Rattle.ledger.proofs.Steps.{bind_ok, passed, ok_is, gave}
 use Rattle.ledger.proofs.Formats.{IsBytes, Takes, Takes-then, u64_agrees, both_take, both_again, three_take, three_again}
@@ -97,13 +95,3 @@ module _ {A : Type 0} where
       let whole = payload slot name change in
       let read : entry_at {A = A} whole ≡ Ok (entry slot name change, []) = ap (λ (t : List ℕ). entry_at {A = A} t) (sym (append-nil whole)) ∙ entry_again slot name change [] fit in
       rw read refl
-
-  pub given_whole : (bytes : List ℕ) (result : Result (Entry A) PayloadFault) → IsBytes bytes → Gives result (entry_in bytes) → IfOk result (λ x. bytes ≡ payload x.slot x.name x.change)
-  given_whole bytes (Ok x) fits given = read_whole bytes x fits given
-  given_whole bytes (Err f) fits given = tt
-
-  -- what a call wrote, if it wrote
-  pub written_again : {X E : Type 0} (result : Result X E) (slot : ℕ) (name : List ℕ) (change : Change A) → OnOk result (FitsEntry slot name change)
-      → OnOk result (entry_in (payload slot name change) ≡ Ok (entry slot name change))
-  written_again (Ok x) slot name change fit = read_again slot name change fit
-  written_again (Err e) slot name change fit = tt

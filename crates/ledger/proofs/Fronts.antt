@@ -2,11 +2,13 @@
 use Rattle.std.proofs.Common.{◌≡◌, ℕ, suc, ◌+◌, ◌<◌, ◌≤◌, Bool, true, false, cond, List, [], ◌∷◌, ◌++◌, length, get_or, map, Option, Some, None, refl, sym, ap, subst, ◌∙◌, append_assoc, arith, add-one}
 use Rattle.std.specs.Prelude.{◌&&◌, is_none}
 use Rattle.std.specs.List.{All}
+use Rattle.std.specs.Option.{option_to_list}
 use Rattle.std.specs.List.Sorted.{IsStrictlyIncreasing}
 use Rattle.std.proofs.lemmas.List.{append-nil, map-append, length-append, get_or_append_left}
 use Rattle.std.proofs.lemmas.List.Elements.{All-nil, All-cons}
 use Rattle.std.proofs.lemmas.List.Sums.{sum_by-append}
 use Rattle.std.proofs.Math.Seq.{get_or-append_seam}
+use Rattle.maildrop.specs.Changes.{changed}
 use Rattle.maildrop.specs.Key.{uid_of}
 use Rattle.maildrop.specs.Ticket.{Ticket}
 use Rattle.maildrop.specs.Text.{octets_of}
@@ -21,9 +23,9 @@ use Rattle.maildrop.specs.declared.op.Op.{Op}
 use Rattle.maildrop.specs.declared.op.Op.TheVariants.{Mail, Take, Commit, Free, Break}
 use Rattle.maildrop.specs.declared.outcome.Outcome.{Outcome}
 use Rattle.maildrop.proofs.Consistent.{room-from_no_refusal, consistent_with_message, consistent_without}
-use Rattle.ledger.specs.declared.change.Change.{Change}
-use Rattle.ledger.specs.declared.change.Change.TheVariants.{Stored, Removed, Next}
-use Rattle.ledger.specs.Changes.{StaysConsistent, changes_of, changed, changed_by, written_of, message_change, key_change, snapshot_of}
+use Rattle.maildrop.specs.declared.change.Change.{Change}
+use Rattle.maildrop.specs.declared.change.Change.TheVariants.{Stored, Removed, Next}
+use Rattle.ledger.specs.Changes.{StaysConsistent, changes_of, changed_by, written_of, message_change, key_change, snapshot_of}
 use Rattle.ledger.proofs.Enough.{by_operation}
 
 -- numbers that ascend
@@ -34,7 +36,7 @@ rising-front xs ys rising k inside =
     let next : get_or (xs ++ ys) (k + 1) 0 ≡ get_or xs (k + 1) 0 = get_or_append_left xs ys 0 (k + 1) inside in
     rw (here, next) at (rising k (omega (arith, inside, length-append xs ys)))
 
-rising-tail : (x : ℕ) (xs : List ℕ) → IsStrictlyIncreasing (x ∷ xs) → IsStrictlyIncreasing xs
+pub rising-tail : (x : ℕ) (xs : List ℕ) → IsStrictlyIncreasing (x ∷ xs) → IsStrictlyIncreasing xs
 rising-tail x xs rising k inside = rw add-one (rw add-one at (rising (suc k) (omega (arith, inside))))
 
 module _ {A : Type 0} where
@@ -49,12 +51,12 @@ module _ {A : Type 0} where
   -- one operation
 
   mail_stays : (m : Maildrop A) (text : List (List ℕ)) (key : Option (List ℕ)) (known : Option ℕ) (refusal : Option (Outcome A)) → refusal_of m text ≡ refusal → AreLimits m.limits → IsConsistent (closed m)
-      → StaysConsistent (closed m) (cond (is_none known && is_none refusal) (Stored m.next_uid text key ∷ []) [])
+      → StaysConsistent (closed m) (option_to_list (cond (is_none known && is_none refusal) (Some (Stored m.next_uid text key)) None))
   mail_stays m text key (Some uid) refusal is limits old = old
   mail_stays m text key None (Some refusal) is limits old = old
   mail_stays m text key None None is limits old = (old, consistent_with_message m text key limits old (room-from_no_refusal m text is))
 
-  commit_stays : (kept : KeptMaildrop A) (uids : List ℕ) (held : Bool) → IsConsistent kept → StaysConsistent kept (cond held (Removed uids ∷ []) [])
+  commit_stays : (kept : KeptMaildrop A) (uids : List ℕ) (held : Bool) → IsConsistent kept → StaysConsistent kept (option_to_list (cond held (Some (Removed uids)) None))
   commit_stays kept uids true old = (old, consistent_without kept uids old)
   commit_stays kept uids false old = old
 
@@ -80,7 +82,7 @@ module _ {A : Type 0} where
   either_limits limits true x y is other = is
   either_limits limits false x y is other = other
 
-  same_limits : (m : Maildrop A) (ticket : Ticket) (op : Op A) → (effect_of m ticket op).after.limits ≡ m.limits
+  pub same_limits : (m : Maildrop A) (ticket : Ticket) (op : Op A) → (effect_of m ticket op).after.limits ≡ m.limits
   same_limits m ticket (Mail text key) = mail_limits m text key (uid_of key m.keys) (refusal_of m text)
   same_limits m ticket Take = take_limits m ticket m.holder
   same_limits m ticket (Commit lock uids) = either_limits m.limits (is_held_by m.holder lock) _ _ refl refl
@@ -136,7 +138,7 @@ module _ {A : Type 0} where
       }
 
   -- with the first keys alone
-  few_keys : (keys : List (List ℕ × ℕ)) (whole : KeptMaildrop A) → length keys ≤ length whole.keys → IsConsistent whole → IsConsistent (record whole { keys = keys })
+  pub few_keys : (keys : List (List ℕ × ℕ)) (whole : KeptMaildrop A) → length keys ≤ length whole.keys → IsConsistent whole → IsConsistent (record whole { keys = keys })
   few_keys keys whole fewer old = record {
     few = old.few;
     small = old.small;
@@ -158,7 +160,7 @@ module _ {A : Type 0} where
   messages_stay front (g ∷ ms) next whole is old now =
       (now, messages_stay (front ++ g ∷ []) ms (g.uid + 1) whole (append_assoc front (g ∷ []) ms ∙ is) old (front_consistent front g ms whole is old))
 
-  nothing_consistent : IsConsistent {A = A} nothing_kept
+  pub nothing_consistent : IsConsistent {A = A} nothing_kept
   nothing_consistent = record {
     few = omega arith;
     small = omega arith;

@@ -1,11 +1,14 @@
 pub mod Enough
 pub mod Epochs
 pub mod Fronts
+pub mod Coming
 pub mod Steps
 pub mod Formats
 pub mod Ascending
 pub mod Fields
 pub mod Entries
+pub mod Records
+pub mod Taking
 pub mod Lines
 pub mod Loops
 pub mod Sizes

@@ -1,18 +1,18 @@
 -- What is written of a user's commands: what they change of the user's maildrop, but for its lock and its limits.
-use Rattle.std.specs.Prelude.{ℕ, ◌+◌, List, [], ◌∷◌, ◌++◌, map, Some, None, if◌then◌else◌}
+use Rattle.std.specs.Prelude.{ℕ, List, [], ◌∷◌, ◌++◌, map, Some, None}
+use Rattle.std.specs.Option.{option_to_list}
+use Rattle.maildrop.specs.Changes.{change_of, changed}
 use Rattle.maildrop.specs.Kept.{KeptMaildrop, IsConsistent}
-use Rattle.maildrop.specs.Key.{with_key}
 use Rattle.maildrop.specs.Limits.{Limits}
-use Rattle.maildrop.specs.Maildrop.{Maildrop, opened, closed, is_stored, is_held_by, without}
+use Rattle.maildrop.specs.Maildrop.{Maildrop, opened, closed}
 use Rattle.maildrop.specs.Office.{outcome_at, outcomes_at, ids_given}
 use Rattle.maildrop.specs.Reopening.{Step, Performs, Reopens, after_step, after_steps}
 use Rattle.maildrop.specs.declared.command.Command.{Command}
 use Rattle.maildrop.specs.declared.message.Message.{Message}
 use Rattle.maildrop.specs.declared.op.Op.{Op}
-use Rattle.maildrop.specs.declared.op.Op.TheVariants.{Mail, Take, Commit, Free, Break}
 use Rattle.maildrop.specs.declared.outcome.Outcome.{Outcome}
-use Rattle.ledger.specs.declared.change.Change.{Change}
-use Rattle.ledger.specs.declared.change.Change.TheVariants.{Stored, Removed, Keyed, Next}
+use Rattle.maildrop.specs.declared.change.Change.{Change}
+use Rattle.maildrop.specs.declared.change.Change.TheVariants.{Stored, Removed, Keyed, Next}
 
 -- a user's maildrop in one epoch: how it opens, and the user's commands that are performed then
 pub record Epoch (A : Type 0) : Type 0 where
@@ -28,26 +28,11 @@ pub record Segment (A : Type 0) : Type 0 where
   pub changes : List (Change A)
 
 module _ {A : Type 0} where
-  -- what is written of an operation on a maildrop
+  -- what is written of an operation on a maildrop: its change, if it has one
   abbrev pub changes_of : Maildrop A → Op A → List (Change A)
-  changes_of maildrop (Mail text key) = if is_stored maildrop text key then Stored maildrop.next_uid text key ∷ [] else []
-  changes_of maildrop Take = []
-  changes_of maildrop (Commit lock uids) = if is_held_by maildrop.holder lock then Removed uids ∷ [] else []
-  changes_of maildrop (Free lock) = []
-  changes_of maildrop Break = []
+  changes_of maildrop op = option_to_list (change_of maildrop op)
 
-  -- what is kept of a maildrop after a change that is read
-  abbrev pub changed : KeptMaildrop A → Change A → KeptMaildrop A
-  changed kept (Stored uid text key) = record kept {
-    messages = kept.messages ++ record { uid = uid; text = text } ∷ [];
-    next_uid = uid + 1;
-    keys = with_key key uid kept.keys;
-  }
-  changed kept (Removed uids) = record kept { messages = without uids kept.messages }
-  changed kept (Keyed key uid) = record kept { keys = with_key (Some key) uid kept.keys }
-  changed kept (Next uid) = record kept { next_uid = uid }
-
-  -- the same after changes, one after another
+  -- what is kept of a maildrop after changes that are read, one after another
   abbrev pub changed_by : KeptMaildrop A → List (Change A) → KeptMaildrop A
   changed_by kept [] = kept
   changed_by kept (change ∷ changes) = changed_by (changed kept change) changes

@@ -3,8 +3,8 @@ use Rattle.std.specs.Prelude.{◌≡◌, ℕ, ◌<◌, ◌^◌, List, [], ◌∷
 use Rattle.std.specs.List.{AllByRecursion}
 use Rattle.maildrop.specs.Name.{is_name}
 use Rattle.maildrop.specs.Key.{is_key}
-use Rattle.ledger.specs.declared.change.Change.{Change}
-use Rattle.ledger.specs.declared.change.Change.TheVariants.{Stored, Removed, Keyed, Next}
+use Rattle.maildrop.specs.declared.change.Change.{Change}
+use Rattle.maildrop.specs.declared.change.Change.TheVariants.{Stored, Removed, Keyed, Next}
 use Rattle.ledger.specs.Reading.{is_line, is_above}
 
 -- each number is above the one before it

@@ -1,6 +1,6 @@
--- How a change is written: the payload of a record. Numbers are unsigned, the most significant byte first.
+-- How a record's payload is written. Numbers are unsigned, the most significant byte first.
 --
--- A payload is a byte for the kind of the change, the slot of its command, the name of the user, and the fields of the
+-- The payload of a change is a byte for its kind, the slot of its command, the name of the user, and the fields of the
 -- change. Fields are written as in the frames that nodes send one another.
 use Rattle.std.specs.Prelude.{ℕ, ◌^◌, Bool, true, ◌&&◌, nat_le, nat_lt, List, [], ◌∷◌, ◌++◌, length, Option, Some, None, ◌==◌, if◌then◌else◌}
 use Rattle.std.specs.List.{flat_map}
@@ -8,13 +8,22 @@ use Rattle.std.specs.Int.{w32, w64, to_be_bytes}
 use Rattle.maildrop.specs.Name.{longest_name}
 use Rattle.maildrop.specs.Key.{longest_key}
 use Rattle.maildrop.specs.Text.{octets_of}
-use Rattle.ledger.specs.declared.change.Change.{Change}
-use Rattle.ledger.specs.declared.change.Change.TheVariants.{Stored, Removed, Keyed, Next}
+use Rattle.maildrop.specs.declared.change.Change.{Change}
+use Rattle.maildrop.specs.declared.change.Change.TheVariants.{Stored, Removed, Keyed, Next}
 use Rattle.ledger.specs.declared.entry.Entry.{Entry}
+use Rattle.ledger.specs.declared.entry.Record.{Record}
+use Rattle.ledger.specs.declared.entry.Record.TheVariants as said
 use Rattle.ledger.specs.declared.kind.Kind.{Kind}
 use Rattle.ledger.specs.declared.kind.Kind.TheVariants as kind
 
--- the numbers of kinds; 1 and 6 are those of records without a change
+-- the numbers of the kinds of records without a change
+abbrev pub begin_number : ℕ
+begin_number = 1
+
+abbrev pub opened_number : ℕ
+opened_number = 6
+
+-- and those of the kinds of changes
 abbrev pub kind_number : Kind → ℕ
 kind_number kind.Stored = 2
 kind_number kind.Removed = 3
@@ -59,6 +68,14 @@ abbrev pub key_bytes : Option (List ℕ) → List ℕ
 key_bytes None = short_string []
 key_bytes (Some key) = short_string key
 
+-- the first payload of a segment, with the segment's number
+abbrev pub begin_payload : ℕ → List ℕ
+begin_payload number = begin_number ∷ u64_bytes number
+
+-- the payload after a segment's snapshot
+abbrev pub opened_payload : List ℕ
+opened_payload = opened_number ∷ []
+
 module _ {A : Type 0} where
   abbrev pub kind_of_change : Change A → Kind
   kind_of_change (Stored uid text key) = kind.Stored
@@ -82,6 +99,12 @@ module _ {A : Type 0} where
   fits (Keyed key uid) = true
   fits (Next uid) = true
 
-  -- what a payload says
+  -- what the payload of a change says
   abbrev pub entry : ℕ → List ℕ → Change A → Entry A
   entry slot name change = record { slot = slot; name = name; change = change }
+
+  -- the payload that says this
+  abbrev pub record_payload : Record A → List ℕ
+  record_payload (said.Begin number) = begin_payload number
+  record_payload (said.Entry entry) = payload entry.slot entry.name entry.change
+  record_payload said.Opened = opened_payload

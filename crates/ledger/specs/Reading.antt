@@ -5,16 +5,18 @@ use Rattle.std.specs.Int.{Width, w32, w64, byte_len, from_be_bytes}
 use Rattle.memchr.specs.Find.{is_byte}
 use Rattle.maildrop.specs.Name.{is_name}
 use Rattle.maildrop.specs.Key.{is_key}
-use Rattle.ledger.specs.declared.change.Change.{Change}
-use Rattle.ledger.specs.declared.change.Change.TheVariants.{Stored, Removed, Keyed, Next}
+use Rattle.maildrop.specs.declared.change.Change.{Change}
+use Rattle.maildrop.specs.declared.change.Change.TheVariants.{Stored, Removed, Keyed, Next}
 use Rattle.ledger.specs.declared.entry.Entry.{Entry}
+use Rattle.ledger.specs.declared.entry.Record.{Record}
+use Rattle.ledger.specs.declared.entry.Record.TheVariants as said
 use Rattle.ledger.specs.declared.fault.PayloadFault.{PayloadFault}
 use Rattle.ledger.specs.declared.fault.PayloadFault.TheVariants as fault
 use Rattle.ledger.specs.declared.malformed.Malformed.{Malformed}
 use Rattle.ledger.specs.declared.malformed.Malformed.TheVariants as malformed
 use Rattle.ledger.specs.declared.kind.Kind.{Kind}
 use Rattle.ledger.specs.declared.kind.Kind.TheVariants as kind
-use Rattle.ledger.specs.Payloads.{kind_of, is_name_length, is_key_length}
+use Rattle.ledger.specs.Payloads.{begin_number, opened_number, kind_of, is_name_length, is_key_length}
 
 -- a value and the bytes after it, or the first fault
 abbrev pub Reading : Type 0 → Type 0
@@ -159,11 +161,28 @@ module _ {A : Type 0} where
     change ← change_at kind.0 name.1
     Ok (record { slot = slot.0; name = name.0; change = change.0 }, change.1)
 
-  -- what these bytes say, all of them
+  -- what these bytes say, all of them, if they are the payload of a change
   unfoldable pub entry_in : List ℕ → Result (Entry A) Malformed
   entry_in bytes = do
     entry ← entry_at bytes
     if length entry.1 == 0 then Ok entry.0 else Err malformed.Length
+
+  -- the same of the fields of records without a change
+  unfoldable pub begin_in : List ℕ → Result (Record A) Malformed
+  begin_in fields = do
+    number ← number_at w64 fields
+    if length number.1 == 0 then Ok (said.Begin number.0) else Err malformed.Length
+
+  unfoldable pub opened_in : List ℕ → Result (Record A) Malformed
+  opened_in fields = if length fields == 0 then Ok said.Opened else Err malformed.Length
+
+  -- what a payload says, by its kind
+  unfoldable pub record_in : List ℕ → Result (Record A) Malformed
+  record_in [] = Err malformed.Length
+  record_in (number ∷ fields) =
+      if number == begin_number then begin_in fields
+      else if number == opened_number then opened_in fields
+      else (entry_in (number ∷ fields) >>= λ entry. Ok (said.Entry entry))
 
 -- What a call that may run out of memory returns: what reading gives, unless memory ran out.
 abbrev pub Fails : {Y : Type 0} → PayloadFault → Result Y Malformed → Type 0

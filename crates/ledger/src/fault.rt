@@ -9,7 +9,7 @@ use thiserror::Error;
 /// a text or with unique ids.
 #[derive(Clone, Copy, Debug, PartialEq, Eq, Error)]
 pub enum PayloadFault {
-    /// No change has this kind.
+    /// No record has this kind.
     #[error("no such kind")]
     Kind,
     /// A field is outside its range or breaks its rule.

@@ -2,7 +2,7 @@
 ghost use Rattle.std.specs.Prelude.{◌≡◌};
 ghost use Rattle.ledger.specs.Payloads.{kind_of, kind_number, kind_of_change};
 
-use crate::change::Change;
+use maildrop::Change;
 use std::alloc::Allocator;
 
 /// The kind of a change.

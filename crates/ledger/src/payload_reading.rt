@@ -1,15 +1,13 @@
-//! Reads payloads.
-ghost use Rattle.std.specs.Prelude.{◌≡◌, true, IfOk, IsErrOf};
-ghost use Rattle.std.specs.Int.{w64};
-ghost use Rattle.ledger.specs.Payloads.{payload};
+//! Reads payloads of changes.
+ghost use Rattle.std.specs.Prelude.{◌≡◌, true, IsErrOf};
 ghost use Rattle.ledger.specs.Reading.{Gives, GivesFront, Reads, kind_at, stored_at, keyed_at, change_at, entry_at, entry_in, has_list, kind_has_list};
 
-use crate::change::Change;
 use crate::cursor::Cursor;
 use crate::entry::Entry;
 use crate::fault::PayloadFault;
 use crate::kind::Kind;
 use crate::malformed::Malformed;
+use maildrop::Change;
 use std::alloc::Allocator;
 
 impl<'a> Cursor<'a> {
@@ -63,7 +61,10 @@ impl<'a> Cursor<'a> {
 }
 
 #[tactic(auto, unfolding(crate::specs::Reading::entry_in))]
-fn entry_of<A: Allocator + Copy>(alloc: A, bytes: &[u8]) -> Result<Entry<A>, PayloadFault>
+pub(crate) fn entry_of<A: Allocator + Copy>(
+    alloc: A,
+    bytes: &[u8],
+) -> Result<Entry<A>, PayloadFault>
     ensures value { Gives result (entry_in bytes.now) }
     ensures memory { IsErrOf result PayloadFault.Memory → kind_has_list (kind_at bytes.now) ≡ true }
 {
@@ -73,21 +74,4 @@ fn entry_of<A: Allocator + Copy>(alloc: A, bytes: &[u8]) -> Result<Entry<A>, Pay
         return Err(PayloadFault::Length);
     }
     Ok(entry)
-}
-
-/// Reads a payload.
-///
-/// The first fault is reported, in this order: an unknown kind is `Kind`; then a field that is outside its range or breaks
-/// its rule is `Field`, and one that the payload cuts off is `Length`; bytes after the last field are `Length`.
-pub fn read_change<A: Allocator + Copy>(alloc: A, bytes: &[u8]) -> Result<Entry<A>, PayloadFault>
-    // What it returns and which fault it is, unless memory runs out.
-    ensures exact { Gives result (entry_in bytes.now) }
-
-    // The bytes are the payload of what it returns.
-    ensures whole { IfOk result (λ entry. bytes.now ≡ payload entry.slot entry.name entry.change) }
-
-    // Only a text and a list of unique ids take memory.
-    ensures memory { IsErrOf result PayloadFault.Memory → kind_has_list (kind_at bytes.now) ≡ true }
-{
-    entry_of(alloc, bytes)
 }

@@ -1,15 +1,15 @@
-//! Writes payloads.
+//! Writes payloads of changes.
 ghost use Rattle.std.specs.Prelude.{◌≡◌, ◌++◌, ◌<◌, ◌^◌, Option, List, ℕ, Ok, length, take, IsTrue, OnOk, OnErr};
 ghost use Rattle.maildrop.specs.Text.{octets_of};
 ghost use Rattle.ledger.specs.Fitting.{FitsChange, FitsEntry, FitsStored};
 ghost use Rattle.ledger.specs.Payloads.{u64_bytes, counted, long_string, key_bytes, change_bytes, payload, fits, entry};
-ghost use Rattle.ledger.specs.Reading.{entry_in};
+ghost use Rattle.ledger.specs.Reading.{record_in};
+ghost use Rattle.ledger.specs.declared.entry.Record.TheVariants as said;
 
-use crate::change::Change;
 use crate::kind::number_of;
 use crate::payload::{Front, Payload};
 use ballot::Memory;
-use maildrop::{Key, Name, Text};
+use maildrop::{Change, Key, Name, Text};
 use std::alloc::Allocator;
 use std::marker::Brand;
 use std::mem;
@@ -98,7 +98,7 @@ pub fn put_change<A: Allocator + Copy, B: Allocator + Copy>(
     ensures kept { OnErr result (out.new.items ≡ out.old.items) }
 
     // What is written is read back.
-    ensures read_back { OnOk result (entry_in (payload slot name.now change.now) ≡ Ok (entry slot name.now change.now)) }
+    ensures read_back { OnOk result (record_in (payload slot name.now change.now) ≡ Ok (said.Entry (entry slot name.now change.now))) }
 {
     let start = out.len();
     let written = put_payload::<A, B, Brand>(out, slot, name, change);

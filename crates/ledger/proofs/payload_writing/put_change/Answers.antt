@@ -1,4 +1,4 @@
-use Rattle.ledger.proofs.Entries.{written_again}
+use Rattle.ledger.proofs.Records.{written_again}
 use Rattle.ledger.proofs.payload_writing.put_change.Goals as goal
 
 pub returns-else-is_err-clause-read_back : goal.returns-else-is_err-clause-read_back
