@@ -4,6 +4,7 @@ pub mod Starts
 pub mod Members
 pub mod Jobs
 pub mod Users
+pub mod Performed
 pub mod Ends
 pub mod Bests
 pub mod Examples

@@ -2,12 +2,14 @@
 ghost use Rattle.std.specs.Prelude.{◌≡◌, true, IfOk, IfSome};
 ghost use Rattle.session.specs.Desks.{given_by_ask, given_by_tell};
 ghost use Rattle.cluster.specs.Members.{IsAnswered, IsGiven, IsStatusOf};
+ghost use Rattle.cluster.specs.Performed.{ArePerformedAfter};
 ghost use Rattle.cluster.specs.Users.{AreLocksOf, AreUsagesOf};
 
 use crate::handle::NodeHandle;
 use crate::hub::Hub;
 use crate::link::Link;
 use crate::op_kind::OpKind;
+use crate::performed::Performed;
 use crate::setup::Deployment;
 use crate::status::Status;
 use ballot::{Envelope, Memory, NodeId};
@@ -85,6 +87,14 @@ impl<D: Deployment, R: Wait, L: Link> NodeDesk<D, R, L> {
         ensures { IfOk result (λ usages. AreUsagesOf D.setup self.now usages.items) }
     {
         self.node.usages(&self.rt)
+    }
+
+    /// The commands that the node has performed after the first `taken`, each with its slot, in their order. What the node has
+    /// answered is among all that it has performed. `None` once its cluster has ended, or if the node has stopped without memory.
+    pub fn performed_after(&self, taken: u64) -> Result<Option<Performed>, Memory>
+        ensures { IfOk result (λ commands. IfSome commands (λ commands. ArePerformedAfter taken D.setup self.now commands.items)) }
+    {
+        self.node.performed_after(&self.rt, taken)
     }
 
     /// Whether an envelope lies in the inbox of a node of this cluster that runs here, and was not heard yet. Others may

@@ -1,6 +1,7 @@
 //! What the threads that step one node share.
 ghost use Rattle.std.specs.Prelude.{◌≡◌, IfOk, IfSome};
 ghost use Rattle.cluster.specs.Members.{IsAnswered, IsLogOf, IsStatusOf, AreAll};
+ghost use Rattle.cluster.specs.Performed.{ArePerformedAfter};
 ghost use Rattle.cluster.specs.Users.{AreLocksOf, AreUsagesOf};
 
 use crate::closed::Closed;
@@ -8,6 +9,7 @@ use crate::hub::Inbox;
 use crate::link::Link;
 use crate::member::Member;
 use crate::outbox::Outbox;
+use crate::performed::Performed;
 use crate::setup::Deployment;
 use crate::status::Status;
 use crate::waiters::{Groups, Waiters};
@@ -256,6 +258,23 @@ impl<D: Deployment, L: Link> NodeHandle<D, L> {
         match &*self.shared.member.lock(rt) {
             Some(member) if member.me() == self.me => member.usages(self.shared.alloc),
             _ => Ok(Vec::new(self.shared.alloc)),
+        }
+    }
+
+    /// The commands that the node has performed after the first `taken`, each with its slot, in their order. `None` if it is
+    /// no more, or if it has stopped without memory.
+    pub(crate) fn performed_after<R: Wait>(
+        &self,
+        rt: &R,
+        taken: u64,
+    ) -> Result<Option<Performed>, Memory>
+        ensures { IfOk result (λ commands. IfSome commands (λ commands. ArePerformedAfter taken D.setup self.now commands.items)) }
+    {
+        match &*self.shared.member.lock(rt) {
+            Some(member) if member.me() == self.me => {
+                member.performed_after(self.shared.alloc, taken)
+            }
+            _ => Ok(None),
         }
     }
 

@@ -6,16 +6,18 @@ ghost use Rattle.node.specs.Replay.{sends_of, ticket_of, replayed};
 ghost use Rattle.replica.specs.Replicas.{is_behind};
 ghost use Rattle.node.specs.Nodes.{logged, stops_after, no_ticket_for, answer_of, answer_after, answered, IsKnown};
 ghost use Rattle.node.specs.Tickets.{CanStop};
+ghost use Rattle.cluster.specs.Performed.{ArePerformedAfter};
 ghost use Rattle.cluster.specs.Users as spec;
 ghost use Rattle.cluster.specs.Members.{member_of, HasCrashed, is_first, still_told, IsGone, IsLogOf, IsAnswered, IsStatusOf, status_of};
 
 use crate::closed::{Closed, is_known};
+use crate::performed::{Performed, performed_after};
 use crate::setup::Deployment;
 use crate::status::Status;
 use crate::users::{locks_in, usages_in};
 use crate::waiters::Groups;
-use ballot::{Memory, NodeId};
-use maildrop::{CommandId, Name, Outcome, Ticket, Usage};
+use ballot::{Memory, NodeId, Slot};
+use maildrop::{CommandId, Name, Outcome, SharedCommand, Ticket, Usage};
 use node::{Input, Node, Outputs, Stopped};
 use std::alloc::Global;
 use std::collections::VecDeque;
@@ -222,6 +224,34 @@ impl<D: Deployment> Member<D> {
         }
         let usages = usages_in(alloc, self.node.office())?;
         Ok(usages)
+    }
+
+    /// The commands that the node has performed after the first `taken`, each with its slot, in their order. `None` if it has
+    /// stopped without memory: they are unknown then.
+    pub(crate) fn performed_after(
+        &self,
+        alloc: Global,
+        taken: u64,
+    ) -> Result<Option<Performed>, Memory>
+        ensures logged { IfOk result (λ commands. IfSome commands (λ commands. ArePerformedAfter taken D.setup self.now.log.opening.me commands.items)) }
+    {
+        let _ = &self.of;
+        let Some(performed) = self.known_performed() else {
+            return Ok(None);
+        };
+        let commands = performed_after(alloc, performed, taken)?;
+        Ok(Some(commands))
+    }
+
+    /// What the node has performed, unless it has stopped without memory.
+    fn known_performed(&self) -> Option<&[(Slot, SharedCommand)]>
+        ensures { IfSome result (λ performed. performed.now ≡ (replayed self.now.log).replica.performed) }
+    {
+        if is_known(self.node.stopped()) {
+            Some(self.node.performed())
+        } else {
+            None
+        }
     }
 
     /// The node, closed. Takes no memory.
