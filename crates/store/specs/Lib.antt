@@ -1,0 +1,6 @@
+pub mod Device
+pub mod Growing
+pub mod Segments
+pub mod Loading
+pub mod Numbers
+pub mod Running

@@ -1,0 +1,74 @@
+-- What is read of a segment.
+use Rattle.std.specs.Prelude.{◌≡◌, ℕ, List, [], ◌∷◌, ◌++◌, length, map, Option, Some, if◌then◌else◌}
+use Rattle.std.specs.Str.{bytes_eq}
+use Rattle.std.specs.declared.alloc.Global.{Global}
+use Rattle.maildrop.specs.Kept.{KeptMaildrop, KeptTable, kept_for, nothing_kept}
+use Rattle.maildrop.specs.Changes.{changed}
+use Rattle.ledger.specs.Payloads.{payload, begin_payload, opened_payload}
+use Rattle.ledger.specs.declared.entry.Entry.{Entry}
+use Rattle.records.specs.Files.{IsReadAs}
+use Rattle.records.specs.Readers.{HasRead}
+use Rattle.records.specs.Readers as readers
+use Rattle.store.specs.declared.loading.Loaded.{Loaded}
+use Rattle.store.specs.declared.loading.Stage.{Stage}
+use Rattle.store.specs.declared.loading.Stage.TheVariants.{Begin, Snapshot, Running}
+
+-- how far a segment was read, and what is kept so far
+pub record Loading (A : Type 0) : Type 0 where
+  pub number : ℕ
+  pub stage : Stage
+  pub kept : KeptTable A
+  pub changes : ℕ
+
+module _ {A : Type 0} where
+  abbrev pub entry_payload : Entry A → List ℕ
+  entry_payload entry = payload entry.slot entry.name entry.change
+
+  -- what is kept under a name after an entry, and after entries, one after another
+  abbrev pub kept_step : List ℕ → KeptMaildrop A → Entry A → KeptMaildrop A
+  kept_step name kept entry = if bytes_eq entry.name name then changed kept entry.change else kept
+
+  abbrev pub kept_by : List ℕ → KeptMaildrop A → List (Entry A) → KeptMaildrop A
+  kept_by name kept [] = kept
+  kept_by name kept (entry ∷ entries) = kept_by name (kept_step name kept entry) entries
+
+  -- the payloads of a segment: its number, entries of the snapshot, and those of the epoch
+  abbrev pub AreSaid : Stage → ℕ → List (List ℕ) → List (Entry A) → List (Entry A) → Type 0
+  AreSaid Begin number payloads snapshot epoch = (payloads ≡ []) × ((snapshot ≡ []) × (epoch ≡ []))
+  AreSaid Snapshot number payloads snapshot epoch = (payloads ≡ begin_payload number ∷ map entry_payload snapshot) × (epoch ≡ [])
+  AreSaid Running number payloads snapshot epoch =
+      payloads ≡ begin_payload number ∷ map entry_payload snapshot ++ opened_payload ∷ map entry_payload epoch
+
+  -- these payloads were read: what is kept under each name comes of nothing by the entries that they have
+  pub record HasLoaded (payloads : List (List ℕ)) (l : Loading A) : Type 0 where
+    pub snapshot : List (Entry A)
+    pub epoch : List (Entry A)
+    pub said : AreSaid l.stage l.number payloads snapshot epoch
+    pub kept : (name : List ℕ) → kept_for name l.kept ≡ kept_by name nothing_kept (snapshot ++ epoch)
+    pub count : l.changes ≡ length epoch
+
+  -- a reader has handed out what a loader has taken, of a file of which these bytes came
+  pub record IsInStep (bytes : List ℕ) (reader : readers.Kept) (l : Loading A) : Type 0 where
+    pub payloads : List (List ℕ)
+    pub read : HasRead bytes payloads reader
+    pub loaded : HasLoaded payloads l
+
+  -- a front of a file was read, and the rest is still to come
+  pub record HasTaken (bytes : List ℕ) (remaining : Option (List ℕ)) (reader : readers.Kept) (l : Loading A) : Type 0 where
+    pub front : List ℕ
+    pub rest : List ℕ
+    pub parts : bytes ≡ front ++ rest
+    pub remaining_is : remaining ≡ Some rest
+    pub step : IsInStep front reader l
+
+-- what was loaded, as a loader has it in the end
+abbrev pub loading_of : Loaded → Loading Global
+loading_of loaded = record { number = loaded.number; stage = Running; kept = loaded.kept; changes = loaded.changes }
+
+-- A file with these bytes is the segment with this number, and this was loaded of it: what is kept under each name comes of
+-- nothing by the changes in the file's records, one after another.
+pub record IsSegment (number : ℕ) (bytes : List ℕ) (loaded : Loaded) : Type 0 where
+  pub payloads : List (List ℕ)
+  pub read : IsReadAs bytes payloads loaded.ending
+  pub taken : HasLoaded payloads (loading_of loaded)
+  pub number_is : loaded.number ≡ number

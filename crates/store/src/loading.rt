@@ -1,0 +1,290 @@
+//! Reads a segment.
+ghost use Rattle.std.specs.Prelude.{◌≡◌, ◌+◌, ◌<◌, ◌≤◌, ◌++◌, ◌∷◌, [], List, ℕ, length, take, true, Some, OnOk, OnErr, IfOk};
+ghost use Rattle.std.specs.Io.KnownBytes.{Consumes, IsAtEnd};
+ghost use Rattle.maildrop.specs.Kept.{kept_for};
+ghost use Rattle.ledger.specs.Payloads.{record_payload};
+ghost use Rattle.records.specs.Files.{IsUndamaged};
+ghost use Rattle.records.specs.Readers.{IsDrained};
+ghost use Rattle.store.specs.Loading.{HasLoaded, IsInStep, IsSegment, kept_step, loading_of};
+
+use crate::batch::{FRAME, HEAD};
+use ballot::Memory;
+use ledger::{Entry, PayloadFault, Record, read_record};
+use maildrop::{Kept, Name};
+use records::{Ending, Reader};
+use std::alloc::{AllocError, AllocFailed, Global};
+use std::io::{ErrorKind, Read};
+use std::marker::Model;
+
+/// How many bytes are read at a time.
+const PIECE: usize = 1 << 18;
+
+/// Why a segment isn't loaded.
+#[derive(Clone, Copy, Debug, PartialEq, Eq)]
+pub enum LoadFault {
+    /// What stands at this place can't have been written so.
+    Damaged(u64),
+    Memory,
+    Read,
+}
+
+impl From<Memory> for LoadFault {
+    ghost use Rattle.std.specs.Prelude.{◌≡◌};
+    ghost use Rattle.store.specs.declared.loading.LoadFault.TheVariants as fault;
+
+    ghost from_gives = { λ _ f. f ≡ fault.Memory };
+
+    fn from(_error: Memory) -> LoadFault {
+        LoadFault::Memory
+    }
+}
+
+impl From<AllocError> for LoadFault {
+    ghost use Rattle.std.specs.Prelude.{◌≡◌};
+    ghost use Rattle.store.specs.declared.loading.LoadFault.TheVariants as fault;
+
+    ghost from_gives = { λ _ f. f ≡ fault.Memory };
+
+    fn from(_error: AllocError) -> LoadFault {
+        LoadFault::Memory
+    }
+}
+
+impl<T: Drop> From<AllocFailed<T>> for LoadFault {
+    ghost use Rattle.std.specs.Prelude.{◌≡◌};
+    ghost use Rattle.store.specs.declared.loading.LoadFault.TheVariants as fault;
+
+    ghost from_gives = { λ _ f. f ≡ fault.Memory };
+
+    fn from(_error: AllocFailed<T>) -> LoadFault {
+        LoadFault::Memory
+    }
+}
+
+/// Changes what is kept of the user of an entry. Returns whether it can change so.
+fn change_entry(kept: &mut Kept, entry: &Entry) -> Result<bool, Memory>
+    ensures { IfOk result (λ can. can ≡ true → (name : List ℕ) → kept_for name kept.new ≡ kept_step name (kept_for name kept.old) entry.now) }
+{
+    kept.change(entry.name, &entry.change)
+}
+
+/// How far a segment was read.
+#[derive(Clone, Copy, Debug, PartialEq, Eq)]
+pub(crate) enum Stage {
+    /// Its number comes next.
+    Begin,
+    /// Its snapshot comes.
+    Snapshot,
+    /// The changes of its epoch come.
+    Running,
+}
+
+/// Takes the payloads of a segment, one after another. After an error it must not be used.
+#[derive(Drop)]
+pub(crate) struct Loader {
+    alloc: Global,
+    number: u64,
+    stage: Stage,
+    kept: Kept,
+    changes: u64,
+    /// Where the next record stands.
+    place: u64,
+}
+
+impl Model for Loader {
+    ghost use Rattle.std.specs.declared.alloc.Global.{Global};
+    ghost use Rattle.store.specs.Loading.{Loading};
+
+    ghost Value = { Loading Global };
+
+    ghost view = { λ l. record { number = l.number; stage = l.stage; kept = l.kept; changes = l.changes } };
+}
+
+impl Loader {
+    /// Of the segment with this number, of which nothing was read.
+    pub(crate) fn new(alloc: Global, number: u64) -> Self
+        ensures loaded { HasLoaded [] result }
+        ensures number { result.number ≡ number }
+    {
+        Loader {
+            alloc,
+            number,
+            stage: Stage::Begin,
+            kept: Kept::new(alloc),
+            changes: 0,
+            place: HEAD,
+        }
+    }
+
+    /// Changes what is kept. Returns whether it can change so.
+    fn change(&mut self, entry: &Entry) -> Result<bool, Memory>
+        ensures kept { IfOk result (λ can. can ≡ true → (name : List ℕ) → kept_for name self.new.kept ≡ kept_step name (kept_for name self.old.kept) entry.now) }
+        ensures stage { self.new.stage ≡ self.old.stage }
+        ensures number { self.new.number ≡ self.old.number }
+        ensures changes { self.new.changes ≡ self.old.changes }
+    {
+        change_entry(&mut self.kept, entry)
+    }
+
+    /// Counts a change of the epoch. Answers `Memory` after 2^64 - 1 of them.
+    fn count_change(&mut self) -> Result<(), Memory>
+        ensures ok { OnOk result (self.new ≡ record self.old { changes = self.old.changes + 1 }) }
+        ensures err { OnErr result (self.new ≡ self.old) }
+    {
+        let Some(changes) = self.changes.checked_add(1) else {
+            return Err(Memory);
+        };
+        self.changes = changes;
+        Ok(())
+    }
+
+    /// Takes what a payload says. Returns whether it can come there.
+    fn take_said(&mut self, said: &Record) -> Result<bool, Memory>
+        ensures number { self.new.number ≡ self.old.number }
+        ensures taken { (payloads : List (List ℕ)) → HasLoaded payloads self.old → IfOk result (λ can. can ≡ true → HasLoaded (payloads ++ record_payload said.now ∷ []) self.new) }
+    {
+        match (self.stage, said) {
+            (Stage::Begin, Record::Begin(number)) if *number == self.number => {
+                self.stage = Stage::Snapshot;
+                Ok(true)
+            }
+            (Stage::Snapshot, Record::Entry(entry)) => self.change(entry),
+            (Stage::Snapshot, Record::Opened) => {
+                self.stage = Stage::Running;
+                Ok(true)
+            }
+            (Stage::Running, Record::Entry(entry)) => {
+                self.count_change()?;
+                self.change(entry)
+            }
+            _ => Ok(false),
+        }
+    }
+
+    /// Takes the next payload.
+    pub(crate) fn take(&mut self, payload: &[u8]) -> Result<(), LoadFault>
+        ensures number { OnOk result (self.new.number ≡ self.old.number) }
+        ensures taken { (payloads : List (List ℕ)) → HasLoaded payloads self.old → OnOk result (HasLoaded (payloads ++ payload.now ∷ []) self.new) }
+    {
+        let said = match read_record(self.alloc, payload) {
+            Ok(said) => said,
+            Err(PayloadFault::Memory) => return Err(LoadFault::Memory),
+            Err(_) => return Err(LoadFault::Damaged(self.place)),
+        };
+        if !self.take_said(&said)? {
+            return Err(LoadFault::Damaged(self.place));
+        }
+        let size = FRAME.saturating_add(payload.len() as u64);
+        self.place = self.place.saturating_add(size);
+        Ok(())
+    }
+}
+
+/// What a segment has.
+#[derive(Drop)]
+pub struct Loaded {
+    /// The number of the segment.
+    pub number: u64,
+    /// What is kept after all of its changes.
+    pub kept: Kept,
+    /// How its file ends: after a crash it may be cut or torn.
+    pub ending: Ending,
+    /// How many changes came after the snapshot.
+    pub changes: u64,
+}
+
+impl Loader {
+    /// Takes the records that have come whole.
+    fn take_records(&mut self, reader: &mut Reader) -> Result<(), LoadFault>
+        ensures taken { (bytes : List ℕ) → IsInStep bytes reader.old self.old → OnOk result (IsInStep bytes reader.new self.new) }
+        ensures drained { OnOk result (IsDrained reader.new) }
+        ensures number { OnOk result (self.new.number ≡ self.old.number) }
+    {
+        while let Some(payload) = reader.next()? {
+            self.take(&payload)?;
+        }
+        Ok(())
+    }
+
+    /// Takes the next bytes of the file.
+    fn take_piece(&mut self, reader: &mut Reader, piece: &[u8]) -> Result<(), LoadFault>
+        ensures taken { (bytes : List ℕ) → IsInStep bytes reader.old self.old → OnOk result (IsInStep (bytes ++ piece.now) reader.new self.new) }
+        ensures drained { OnOk result (IsDrained reader.new) }
+        ensures number { OnOk result (self.new.number ≡ self.old.number) }
+    {
+        reader.add(piece)?;
+        self.take_records(reader)
+    }
+
+    /// What was read of the segment, of which all bytes have come.
+    fn end(self, reader: Reader) -> Result<Loaded, LoadFault>
+        ensures { (bytes : List ℕ) → IsInStep bytes reader self → IsDrained reader → IfOk result (λ loaded. IsSegment self.number bytes loaded) }
+    {
+        self.finish(reader.finish())
+    }
+
+    /// What was read of the segment, which ends so.
+    fn finish(self, ending: Ending) -> Result<Loaded, LoadFault>
+        ensures loaded { (payloads : List (List ℕ)) → HasLoaded payloads self → IfOk result (λ loaded. HasLoaded payloads (loading_of loaded)) }
+        ensures number { IfOk result (λ loaded. loaded.number ≡ self.number) }
+        ensures ending { IfOk result (λ loaded. loaded.ending ≡ ending) }
+        ensures undamaged { OnOk result (IsUndamaged ending) }
+    {
+        match ending {
+            Ending::Damaged(place) => return Err(LoadFault::Damaged(place)),
+            Ending::NotASegment => return Err(LoadFault::Damaged(0)),
+            Ending::Clean(_) | Ending::Cut(_) | Ending::Torn(_) => {}
+        }
+        if self.stage != Stage::Running {
+            return Err(LoadFault::Damaged(self.place));
+        }
+        Ok(Loaded {
+            number: self.number,
+            kept: self.kept,
+            ending,
+            changes: self.changes,
+        })
+    }
+}
+
+/// Reads the next bytes of a file into `piece`, which has room, and returns how many: none at its end.
+fn read_piece<R: Read>(source: &mut R, piece: &mut [u8]) -> Result<usize, LoadFault>
+    ensures count { IfOk result (λ n. n ≤ length piece.new) }
+    ensures bytes { IfOk result (λ n. Consumes (R.remaining source.old) (R.remaining source.new) (take n piece.new)) }
+    ensures end { IfOk result (λ n. n ≡ 0 → IsAtEnd (R.remaining source.new)) }
+{
+    if piece.is_empty() {
+        return Err(LoadFault::Read);
+    }
+    for _ in 0..u64::MAX {
+        match source.read(piece) {
+            Ok(count) => return Ok(count),
+            Err(error) if error.kind() == ErrorKind::Interrupted => {}
+            Err(_) => return Err(LoadFault::Read),
+        }
+    }
+    Err(LoadFault::Read)
+}
+
+/// Reads the segment with this number. Takes memory for what is kept, for a piece of the file and for one record at a time.
+///
+/// `Damaged` is the place of the first record that can't have been written so: one that `records` finds damaged, that
+/// is no payload, that changes what can't change so, or that stands where it can't. A file with that name has its snapshot
+/// whole, so one that ends before is damaged where it ends.
+pub fn load<R: Read>(alloc: Global, number: u64, source: &mut R) -> Result<Loaded, LoadFault>
+    ensures { (bytes : List ℕ) → R.remaining source.old ≡ Some bytes → IfOk result (λ loaded. IsSegment number bytes loaded) }
+{
+    let mut room = vec![in alloc; 0u8; PIECE]?;
+    let piece: &mut [u8] = &mut room;
+    let mut reader = Reader::new(alloc);
+    let mut loader = Loader::new(alloc, number);
+    for _ in 0..u64::MAX {
+        let count = read_piece(source, piece)?;
+        if count == 0 {
+            return loader.end(reader);
+        }
+        let (read, _) = piece.split_at(count);
+        loader.take_piece(&mut reader, read)?;
+    }
+    Err(LoadFault::Read)
+}
