@@ -2,11 +2,13 @@
 #![tactic(auto)]
 
 mod arguments;
+mod data;
 mod lone;
 mod operator;
 mod serve;
 mod sim;
 
+use crate::data::{begin_command, check_command, export_command, run_begin, run_check, run_export};
 use crate::lone::{lone, run_lone};
 use crate::operator::{ctl, run_ctl};
 use crate::serve::{run_serve, serve};
@@ -35,7 +37,10 @@ fn command<'a>(alloc: Global) -> Result<Command<'a>, Error> {
         .subcommand(lone(alloc)?)?
         .subcommand(sim(alloc)?)?
         .subcommand(serve(alloc)?)?
-        .subcommand(ctl(alloc)?)?;
+        .subcommand(ctl(alloc)?)?
+        .subcommand(begin_command(alloc)?)?
+        .subcommand(check_command(alloc)?)?
+        .subcommand(export_command(alloc)?)?;
     Ok(maildropd)
 }
 
@@ -61,6 +66,9 @@ fn run<
         Some(("sim", _)) => Ok(run_sim(rt)),
         Some(("serve", inner)) => Ok(run_serve(rt, inner)),
         Some(("ctl", inner)) => Ok(run_ctl(rt, inner)),
+        Some(("begin", inner)) => Ok(run_begin(rt, inner)),
+        Some(("check", inner)) => Ok(run_check(rt, inner)),
+        Some(("export", inner)) => Ok(run_export(rt, inner)),
         _ => Ok(2),
     }
 }

@@ -16,6 +16,7 @@ use std::rt::Files;
 use std::sync::Wait;
 use std::thread::Threads;
 use std::time::Clock;
+use store::SyncMode;
 
 /// What `--help` shows below the options.
 const EXAMPLES: &str = "Examples, with a line `alice pass secret` in the file accounts:
@@ -26,7 +27,9 @@ const EXAMPLES: &str = "Examples, with a line `alice pass secret` in the file ac
 After the first, POP3 connections are taken at 127.0.0.1:11000, and served at the node that leads.
 `maildropd ctl --port 11999 stop` ends it. Then it prints what an audit finds: `audit ok` with the status 0, or what is wrong with the status 1.
 It prints the same about each epoch that ends before, as `epoch 1: audit ok`. `maildropd ctl --port 11999 roll` ends one, and reads the accounts anew.
-All mail lies in memory, and is gone when the process ends.
+All mail is in memory, and is gone when the process ends, unless there is a data folder:
+  maildropd begin --data mail
+  maildropd serve --data mail --accounts accounts --port 11000 --ctl-port 11999
 Each node in a process of its own, here node 2 of three, with a port of its own for clients and one for its operator:
   maildropd serve --accounts accounts --node 2 --peer-port 12000 --mark /var/lib/maildropd --port 11002 --ctl-port 11992
 It prints `stopped` at its end.";
@@ -195,6 +198,27 @@ const OPTIONS: &[Choice] = &[
         help: "If an audit finds an epoch that was not in order: stop ends the service, go-on doesn't",
     },
     Choice {
+        name: "data",
+        value: "FOLDER",
+        kind: Kind::Text,
+        presence: Presence::Optional,
+        help: "Keeps mail in this folder, which `maildropd begin` has made. Not with --node",
+    },
+    Choice {
+        name: "sync",
+        value: "WHEN",
+        kind: Kind::Text,
+        presence: Presence::Default("disk"),
+        help: "With --data: disk answers a change once it is on the disk, process once it is written, so that it outlives the process but no loss of power",
+    },
+    Choice {
+        name: "keep",
+        value: "COUNT",
+        kind: Kind::Number,
+        presence: Presence::Default("2"),
+        help: "With --data: how many segments stay in the folder, the last ones, 1 to 1000000",
+    },
+    Choice {
         name: "log",
         value: "FILE",
         kind: Kind::Text,
@@ -222,10 +246,20 @@ fn on_fault_of(word: &str) -> Option<OnFault> {
     }
 }
 
-/// What the options say, or nothing if the address or the word after a fault is none.
+/// When a change is answered, or nothing if the word is none.
+fn sync_of(word: &str) -> Option<SyncMode> {
+    match word {
+        "disk" => Some(SyncMode::Disk),
+        "process" => Some(SyncMode::Process),
+        _ => None,
+    }
+}
+
+/// What the options say, or nothing if the address or a word is none.
 fn options_of<'a>(matches: &ArgMatches<'a>) -> Option<ServeOptions<'a>> {
     let listen = text_of(matches, "listen").parse::<IpAddr>().ok()?;
     let on_fault = on_fault_of(text_of(matches, "on-fault"))?;
+    let sync = sync_of(text_of(matches, "sync"))?;
     Some(ServeOptions {
         accounts: text_of(matches, "accounts"),
         port: optional_number_of(matches, "port"),
@@ -249,6 +283,9 @@ fn options_of<'a>(matches: &ArgMatches<'a>) -> Option<ServeOptions<'a>> {
         keys: number_of(matches, "keys"),
         on_fault,
         log: optional_text_of(matches, "log"),
+        data: optional_text_of(matches, "data"),
+        sync,
+        keep: number_of(matches, "keep"),
     })
 }
 

@@ -3,6 +3,8 @@
 #![tactic(auto)]
 
 #[cfg(test)]
+mod folder_tests;
+#[cfg(test)]
 mod hostile_tests;
 #[cfg(test)]
 mod operators_tests;

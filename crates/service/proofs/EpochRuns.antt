@@ -1,13 +1,13 @@
 -- Epochs that had a legal order are one life of services.
-use Rattle.std.proofs.Common.{◌≡◌, ℕ, zero, suc, ◌<◌, length, List, [], ◌∷◌, ◌++◌, Option, Some, refl, sym, ap, ◌∙◌, subst, All, arith}
-use Rattle.std.specs.Prelude.{slice_get, ⊤}
+use Rattle.std.proofs.Common.{◌≡◌, ℕ, ◌<◌, length, List, [], ◌∷◌, ◌++◌, Some, refl, sym, ap, ◌∙◌, subst, All, arith}
+use Rattle.std.specs.Prelude.{slice_get}
 use Rattle.std.proofs.lemmas.List.Elements.{All-head, All-tail}
 use Rattle.std.specs.declared.alloc.Global.{Global}
 use Rattle.apop.specs.Stamp.{Stamp}
 use Rattle.maildrop.specs.Kept.{KeptTable, with_others_of}
 use Rattle.node.specs.declared.log.NodeLog.{NodeLog}
 use Rattle.session.specs.declared.transcript.Transcript.{Transcript}
-use Rattle.runs.specs.Lives.{Epoch, IsLife, IsNext, first_of, handed_on}
+use Rattle.runs.specs.Lives.{Epoch, IsLife, IsNext, first_of}
 use Rattle.runs.specs.Services.{Happening, run_of}
 use Rattle.runs.specs.declared.config.Config.{Config}
 use Rattle.audit.specs.Order.{IsLegalOrder}
@@ -69,13 +69,13 @@ ran law epoch next was handed =
       };
     }
 
-pub life_of : RunLaw → (before : List EpochValue) (last : Config Global) → LeadTo before last.kept → All WasLegalEpoch before
-    → (runs : List (Epoch Global)) × AreRunsOf before runs × IsLife runs last × ((first_of runs last).kept ≡ [])
-life_of law [] last opens all = ([], refl, tt, opens)
-life_of law (epoch ∷ before) last opens all =
+pub life_of : RunLaw → (first : KeptTable Global) (before : List EpochValue) (last : Config Global) → LeadTo first before last.kept → All WasLegalEpoch before
+    → (runs : List (Epoch Global)) × AreRunsOf before runs × IsLife runs last × ((first_of runs last).kept ≡ first)
+life_of law first [] last opens all = ([], refl, tt, opens)
+life_of law first (epoch ∷ before) last opens all =
     let its = ran law epoch last.kept (All-head WasLegalEpoch epoch before all) opens.0 in
     let config = config_of epoch.accounts epoch.setup in
-    let earlier = life_of law before its.run.config (subst (λ c. LeadTo before c.kept) (sym its.is_run.begins) opens.1) (All-tail WasLegalEpoch epoch before all) in
+    let earlier = life_of law first before its.run.config (subst (λ c. LeadTo first before c.kept) (sym its.is_run.begins) opens.1) (All-tail WasLegalEpoch epoch before all) in
     let runs = earlier.0 in (
       runs ++ its.run ∷ [],
       (runs, its.run, refl, its.is_run, earlier.1),

@@ -1,11 +1,10 @@
 -- What a verdict on an epoch says.
-use Rattle.std.proofs.Common.{◌≡◌, ◌⊎◌, ℕ, List, Bool, true, false, refl, sym, ◌∙◌, subst, inl, inr, ⊎_elim}
-use Rattle.std.specs.List.{filter}
+use Rattle.std.proofs.Common.{◌≡◌, ◌⊎◌, List, false, sym, ◌∙◌, subst, inl, inr}
 use Rattle.std.specs.declared.alloc.Global.{Global}
 use Rattle.node.specs.declared.log.NodeLog.{NodeLog}
 use Rattle.session.specs.declared.transcript.Transcript.{Transcript}
 use Rattle.service.specs.Epochs.{EpochValue, HasEnded, WasLegalEpoch}
-use Rattle.service.specs.Transcripts.{TranscriptsValue, AreEnded, WereServed, has_asked}
+use Rattle.service.specs.Transcripts.{TranscriptsValue, AreEnded, WereServed}
 use Rattle.service.specs.Verdicts.{IsFound, IsJudged, IsLegal, IsVerdict, config_of}
 use Rattle.service.specs.declared.verdict.Verdict.{Verdict}
 use Rattle.service.specs.declared.verdict.Verdict.TheVariants.{Legal, Memory}

@@ -1,5 +1,5 @@
 -- An audit that finds all in order has found a legal order of a whole service.
-use Rattle.std.proofs.Common.{◌≡◌, ◌⊎◌, ℕ, zero, suc, ◌+◌, ◌<◌, ◌≤◌, length, List, [], ◌∷◌, ◌++◌, Bool, true, false, Option, Some, None, refl, sym, ap, ◌∙◌, subst, inl, inr, ⊎_elim, map, All, arith}
+use Rattle.std.proofs.Common.{◌≡◌, ◌⊎◌, ℕ, zero, suc, ◌<◌, length, List, [], ◌∷◌, ◌++◌, Bool, true, false, Option, Some, None, refl, sym, ap, ◌∙◌, subst, inl, inr, ⊎_elim, map, All, arith}
 use Rattle.std.specs.Prelude.{slice_get, ◌&&◌}
 use Rattle.std.specs.List.{filter}
 use Rattle.std.specs.Option.{option_map}
@@ -7,17 +7,16 @@ use Rattle.std.specs.declared.alloc.Global.{Global}
 use Rattle.std.proofs.lemmas.Bool.{true≢false}
 use Rattle.std.proofs.lemmas.List.{length_push, length-map}
 use Rattle.std.proofs.lemmas.Option.{slice_get-map, slice_get_within, get_or_from_slice_get}
-use Rattle.apop.specs.Accounts.{Account, name_of}
+use Rattle.apop.specs.Accounts.{Account}
 use Rattle.apop.specs.Stamp.{Stamp}
 use Rattle.maildrop.specs.Name.{are_different}
 use Rattle.node.specs.declared.log.NodeLog.{NodeLog}
-use Rattle.node.specs.declared.log.Opening.{Opening}
 use Rattle.session.specs.Serve.{IsTranscript, IsWritten}
 use Rattle.session.specs.declared.transcript.Transcript.{Transcript}
 use Rattle.runs.specs.Services as runs
 use Rattle.runs.specs.declared.config.Config.{Config}
 use Rattle.audit.specs.Records.{is_fit, AreFit}
-use Rattle.audit.specs.Runs.{opening_at, AreInOrder, AreOfService, AreCounted}
+use Rattle.audit.specs.Runs.{AreInOrder, AreOfService}
 use Rattle.audit.proofs.RunFit.{service_fit}
 use Rattle.cluster.specs.Members.{opening_of, IsLogOf}
 use Rattle.cluster.specs.Starts.{all_nodes}

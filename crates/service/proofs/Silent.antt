@@ -15,7 +15,7 @@ use Rattle.session.specs.declared.transcript.Transcript.{Transcript}
 use Rattle.audit.specs.Audits.{IsWhole}
 use Rattle.audit.specs.Case.{Plain, Asks, next, after_next, sends_next, state_at, sent_at, asked, put_before, earlier_in, turns_of, or_else, earlier_among}
 use Rattle.audit.specs.Order.{IsLegalOrder}
-use Rattle.audit.specs.Placing.{all_answered, message_there, turn_there, is_met, can_place, IsPlacing}
+use Rattle.audit.specs.Placing.{all_answered, message_there, turn_there, is_met, IsPlacing}
 use Rattle.audit.specs.Records.{RealCase, AreFit, place_of, places_from, case_of}
 use Rattle.audit.specs.Replays.{Replay, after, sends, runs, brought, key_of, answer, same_submit}
 use Rattle.audit.specs.Same.{same_envelope}

@@ -47,6 +47,9 @@ are_of_epochs o = nat_le o.epoch_sessions most_in_epoch && nat_le o.epoch_bytes 
 abbrev pub roll_limits_of : ServeOptions → RollLimits
 roll_limits_of o = record { sessions = o.epoch_sessions; bytes = o.epoch_bytes }
 
+abbrev pub most_segments : ℕ
+most_segments = 1000000
+
 -- the numbers that are no limits of a maildrop
 abbrev pub are_in_range : ServeOptions → Bool
 are_in_range o =
@@ -57,6 +60,7 @@ are_in_range o =
     && nat_le o.no_majority_seconds longest_pause
     && is_between 1 most_delivery_bytes o.delivery_bytes
     && are_of_epochs o
+    && is_between 1 most_segments o.keep
     && are_ports o
     && have_ways_in o
 
@@ -77,9 +81,9 @@ abbrev pub runs : ℕ → Option ℕ → Bool
 runs node None = true
 runs node (Some only) = nat_eq only node
 
--- a node can run in a process of its own if it is in the cluster, and the nodes have ports
+-- a node can run in a process of its own if it is in the cluster, the nodes have ports, and no mail is kept beyond the process
 abbrev pub may_be_alone : NodeOptions → Bool
-may_be_alone o = is_some o.service.peer_port && is_between 1 o.service.nodes o.node
+may_be_alone o = is_some o.service.peer_port && is_between 1 o.service.nodes o.node && is_none o.service.data
 
 -- each value is in its range, and the node can run in a process of its own
 abbrev pub AreNodeGood : NodeOptions → Type 0

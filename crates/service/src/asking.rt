@@ -49,10 +49,23 @@ pub(crate) fn ask<R: Wait, N: ServedNode>(
     let Some(ticket) = node.submit(user, op) else {
         return Err(Unanswered::Stopped);
     };
+    let outcome = await_outcome(rt, node, stream, user, ticket)?;
+    Ok((ticket, outcome))
+}
+
+/// Waits for the outcome of an operation that was submitted, for as long as the node is up and the client of the connection is
+/// there.
+pub(crate) fn await_outcome<R: Wait, N: ServedNode>(
+    rt: &R,
+    node: &N,
+    stream: &OperatorStream,
+    user: Name,
+    ticket: Ticket,
+) -> Result<Outcome, Unanswered> {
     let mut absence = Absence::new();
     for _ in rt.forever() {
         match node.outcome_within(user, ticket, Duration::from_millis(LOOK_MS)) {
-            Ok(Some(outcome)) => return Ok((ticket, outcome)),
+            Ok(Some(outcome)) => return Ok(outcome),
             Ok(None) => {}
             Err(_) => return Err(Unanswered::Stopped),
         }

@@ -4,14 +4,15 @@ ghost use Rattle.std.specs.Str.Lines.{lines};
 ghost use Rattle.service.specs.Keys.{key_at};
 ghost use Rattle.service.specs.Deliveries as spec;
 
-use crate::asking::{Unanswered, ask};
+use crate::asking::{Unanswered, await_outcome};
 use crate::served_node::{OperatorOp, ServedNode};
 use ballot::Memory;
-use maildrop::{Key, Name, Outcome, Text, TextBuilder, next_line};
+use maildrop::{Key, Name, Outcome, Text, TextBuilder, Ticket, next_line};
 use mboxrd::{MboxError, Reader};
 use ports::{Fault, OperatorStream, PIECE, say};
 use script::{KeyPrefix, LAST_MESSAGE, put_outcome};
 use std::alloc::Global;
+use std::collections::VecDeque;
 use std::io::Read;
 use std::sync::Wait;
 
@@ -178,36 +179,91 @@ pub(crate) struct Delivery<'a, R, N> {
     pub user: Name,
 }
 
+/// A message that was submitted and has no outcome yet, with how many octets it has.
+#[derive(Clone, Copy, Debug)]
+struct Submitted {
+    ticket: Ticket,
+    octets: u64,
+}
+
 impl<R: Wait + Drop, N: ServedNode + Drop> Delivery<'_, R, N> {
-    /// Has a text delivered, and reports the outcome as soon as it is there. Returns whether the node still runs: if it has
-    /// stopped, `down` is reported.
-    pub(crate) fn deliver(
+    /// Submits a text. Returns whether the node still runs: if it has stopped, `down` is reported.
+    fn submit(
         &self,
         text: Text,
         key: Option<Key>,
+        submitted: &mut VecDeque<Submitted>,
+    ) -> Result<bool, Fault> {
+        submitted.reserve(1)?;
+        let octets = u64::try_from(text.octets()).unwrap_or(u64::MAX);
+        match self.node.submit(self.user, OperatorOp::Mail { text, key }) {
+            Some(ticket) => {
+                submitted.push_back(Submitted { ticket, octets })?;
+                Ok(true)
+            }
+            None => self.report_down(),
+        }
+    }
+
+    fn report_down(&self) -> Result<bool, Fault> {
+        let mut writer = self.stream;
+        say(&mut writer, b"down\n")?;
+        Ok(false)
+    }
+
+    /// Waits for the outcome of the text that was submitted first, if there is one, and reports it. Returns whether the node
+    /// still runs: if it has stopped, `down` is reported.
+    fn conclude(
+        &self,
+        submitted: &mut VecDeque<Submitted>,
         delivered: &mut Delivered,
     ) -> Result<bool, Fault> {
-        let mut writer = self.stream;
-        let octets = u64::try_from(text.octets()).unwrap_or(u64::MAX);
-        match ask(
-            &self.rt,
-            self.node,
-            self.stream,
-            self.user,
-            OperatorOp::Mail { text, key },
-        ) {
-            Ok((ticket, outcome)) => {
+        let Some(Submitted { ticket, octets }) = submitted.pop_front() else {
+            return Ok(true);
+        };
+        match await_outcome(&self.rt, self.node, self.stream, self.user, ticket) {
+            Ok(outcome) => {
                 delivered.note(&outcome, octets);
+                let mut writer = self.stream;
                 let mut line = Vec::new(self.alloc);
                 put_outcome(&mut line, &self.user, ticket, &outcome)?;
                 say(&mut writer, line.as_slice())?;
                 Ok(true)
             }
-            Err(Unanswered::Stopped) => {
-                say(&mut writer, b"down\n")?;
-                Ok(false)
-            }
+            Err(Unanswered::Stopped) => self.report_down(),
             Err(Unanswered::Gone) => Err(Fault::Write),
+        }
+    }
+
+    /// Submits texts in order, as many at a time as the node takes, and reports each outcome as soon as it is there.
+    /// Returns whether the node still runs.
+    fn deliver_each(
+        &self,
+        texts: Vec<Text>,
+        prefix: &Option<KeyPrefix>,
+        submitted: &mut VecDeque<Submitted>,
+        delivered: &mut Delivered,
+    ) -> Result<bool, Fault> {
+        for (place, text) in texts.into_iter().enumerate() {
+            if submitted.len() >= self.node.under_way() && !self.conclude(submitted, delivered)? {
+                return Ok(false);
+            }
+            if !self.submit(text, key_of(prefix, place), submitted)? {
+                return Ok(false);
+            }
+        }
+        for _ in 0..submitted.len() {
+            if !self.conclude(submitted, delivered)? {
+                return Ok(false);
+            }
+        }
+        Ok(true)
+    }
+
+    /// Nobody awaits the outcomes of these texts any more.
+    fn forget_all(&self, submitted: VecDeque<Submitted>) {
+        for Submitted { ticket, octets: _ } in submitted {
+            self.node.forget(self.user, ticket);
         }
     }
 
@@ -219,13 +275,14 @@ impl<R: Wait + Drop, N: ServedNode + Drop> Delivery<'_, R, N> {
         prefix: &Option<KeyPrefix>,
         delivered: &mut Delivered,
     ) -> Result<(), Fault> {
-        for (place, text) in texts.into_iter().enumerate() {
-            if !self.deliver(text, key_of(prefix, place), delivered)? {
-                return Ok(());
-            }
+        let mut submitted = VecDeque::new(self.alloc);
+        let told = self.deliver_each(texts, prefix, &mut submitted, delivered);
+        self.forget_all(submitted);
+        if told? {
+            let mut writer = self.stream;
+            return say(&mut writer, b"end\n");
         }
-        let mut writer = self.stream;
-        say(&mut writer, b"end\n")
+        Ok(())
     }
 
     /// Has one text delivered.
@@ -235,7 +292,8 @@ impl<R: Wait + Drop, N: ServedNode + Drop> Delivery<'_, R, N> {
         key: Option<Key>,
         delivered: &mut Delivered,
     ) -> Result<(), Fault> {
-        if self.deliver(text, key, delivered)? {
+        let mut submitted = VecDeque::new(self.alloc);
+        if self.submit(text, key, &mut submitted)? && self.conclude(&mut submitted, delivered)? {
             let mut writer = self.stream;
             return say(&mut writer, b"end\n");
         }

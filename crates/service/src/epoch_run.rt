@@ -13,7 +13,9 @@ ghost use Rattle.service.specs.declared.epoch_run.Ending.TheVariants.{Rolled};
 use crate::brand::Service;
 use crate::draining::wait_for_deliveries;
 use crate::epoch::EndedEpoch;
+use crate::epoch_journal::EpochJournal;
 use crate::life::ServiceLife;
+use crate::majority::crash_all;
 use crate::options::{OnFault, Settings};
 use crate::past::Past;
 use crate::rolls::Wake;
@@ -69,6 +71,8 @@ pub(crate) struct EpochEnd {
     pub operators: Vec<JoinHandle<()>>,
     /// The fault after which nobody was served.
     pub served: Result<(), Fault>,
+    /// Whether no write has failed that mail was to outlive the process by.
+    pub is_written: bool,
 }
 
 /// Writes the line about an epoch of this number.
@@ -185,6 +189,12 @@ fn watch<R: System, W: Write, N: ServedNode>(
     for _ in rt.forever() {
         note_leader(rt, life, nodes);
         let wake = life.rolls().wait(rt);
+        if state.journal().has_failed(rt) {
+            crash_all(nodes);
+            life.stop(rt);
+            let _is_over = tell_verdict(rt, alloc, on_fault, life, past, writer);
+            return Ending::Rolled;
+        }
         if matches!(wake, Wake::Stop) {
             return Ending::Stopped;
         }
@@ -256,11 +266,13 @@ pub(crate) fn state_of<R: System>(
     alloc: Global,
     life: &Arc<ServiceLife>,
     accounts: &Arc<Accounts>,
+    journal: &EpochJournal,
 ) -> Result<Arc<ServiceState>, Fault> {
     let shared = Arc::try_clone(life)?;
     let accounts = Arc::try_clone(accounts)?;
+    let journal = journal.share()?;
     let epoch = life.rolls().begin(rt);
-    let state = ServiceState::new(alloc, shared, epoch, accounts);
+    let state = ServiceState::new(alloc, shared, epoch, accounts, journal);
     match Arc::new(alloc, state) {
         Ok(state) => Ok(state),
         Err(error) => {
@@ -351,6 +363,7 @@ fn serve_nodes<
     life: &Arc<ServiceLife>,
     accounts: &Arc<Accounts>,
     sessions: &Arc<ServedSessions<D>>,
+    journal: &EpochJournal,
     service_nodes: ServiceNodes<D, R, L>,
     past: &mut Past,
     writer: &mut W,
@@ -361,7 +374,7 @@ fn serve_nodes<
     ensures kept { IfOk result (λ end. IfSome end.stopped (λ stopped. IfOk stopped.kept (λ kept. IsLeftBy D.setup stopped.logs kept))) }
 {
     let desks = Arc::new(alloc, service_nodes.desks(alloc, settings.cluster)?)?;
-    let state = state_of(&rt, alloc, life, accounts)?;
+    let state = state_of(&rt, alloc, life, accounts, journal)?;
     if let Some(leader) = NodeId::new(FIRST_LEADER) {
         service_nodes.campaign(leader);
     }
@@ -386,6 +399,7 @@ fn run_nodes<D: Service + Send + Sync + 'static, R: System, W: Write>(
     setup: &Setup,
     accounts: &Arc<Accounts>,
     sessions: &Arc<ServedSessions<D>>,
+    journal: &EpochJournal,
     part: Share<D>,
     past: &mut Past,
     writer: &mut W,
@@ -400,15 +414,16 @@ fn run_nodes<D: Service + Send + Sync + 'static, R: System, W: Write>(
 {
     match settings.peer_port {
         None => {
-            let nodes = ServiceNodes::start(rt, alloc, setup, part)?;
+            let nodes = ServiceNodes::start(rt, alloc, setup, part, journal.share()?)?;
             serve_nodes(
-                rt, alloc, settings, ports, life, accounts, sessions, nodes, past, writer,
+                rt, alloc, settings, ports, life, accounts, sessions, journal, nodes, past, writer,
             )
         }
         Some(base) => {
-            let nodes = ServiceNodes::start_over(rt, alloc, setup, part, base, None)?;
+            let shared = journal.share()?;
+            let nodes = ServiceNodes::start_over(rt, alloc, setup, part, base, None, shared)?;
             serve_nodes(
-                rt, alloc, settings, ports, life, accounts, sessions, nodes, past, writer,
+                rt, alloc, settings, ports, life, accounts, sessions, journal, nodes, past, writer,
             )
         }
     }
@@ -465,6 +480,7 @@ pub(crate) fn run_epoch<D: Service + Send + Sync + 'static, R: System, W: Write>
     setup: Setup,
     accounts: Arc<Accounts>,
     book: Blank,
+    journal: &EpochJournal,
     past: &mut Past,
     writer: &mut W,
 ) -> Result<EpochEnd, Fault>
@@ -487,7 +503,7 @@ pub(crate) fn run_epoch<D: Service + Send + Sync + 'static, R: System, W: Write>
         operators,
         served,
     } = run_nodes(
-        rt, alloc, settings, ports, life, &setup, &accounts, &sessions, part, past, writer,
+        rt, alloc, settings, ports, life, &setup, &accounts, &sessions, journal, part, past, writer,
     )?;
     let left = match stopped {
         Some(stopped) => left_by_nodes(&rt, stopped, &sessions, accounts, setup),
@@ -497,5 +513,6 @@ pub(crate) fn run_epoch<D: Service + Send + Sync + 'static, R: System, W: Write>
         left,
         operators,
         served,
+        is_written: !journal.has_failed(&rt),
     })
 }

@@ -11,6 +11,7 @@ use crate::life::ServiceLife;
 use crate::options::{ServeOptions, Settings};
 use crate::past::Past;
 use crate::serve::{accounts_of, note_fault, setup_of};
+use crate::storage::Storage;
 use crate::threads::{Ports, join_all};
 use apop::Accounts;
 use ports::{Fault, System};
@@ -90,14 +91,15 @@ fn next_accounts<R: System + Files<File = File>>(
     }
 }
 
-/// Runs the next epoch with these accounts.
-fn run_next<R: System, W: Write>(
+/// Runs the next epoch with these accounts, once the maildrops with which it opens are written.
+fn run_next<R: System + Files<File = File>, W: Write>(
     rt: R,
     alloc: Global,
     settings: &Settings,
     ports: &Ports,
     life: &Arc<ServiceLife>,
     accounts: &Arc<Accounts>,
+    storage: &mut Storage<R>,
     past: &mut Past,
     writer: &mut W,
 ) -> Result<EpochEnd, Fault>
@@ -108,15 +110,16 @@ fn run_next<R: System, W: Write>(
     let setup = setup_of(alloc, settings, accounts, past.kept()?)?;
     let accounts = Arc::try_clone(accounts)?;
     let book = Blank::new(1);
+    let journal = storage.begin_epoch(&rt, alloc, &setup)?;
     run_epoch::<Brand, R, W>(
-        rt, alloc, settings, ports, life, setup, accounts, book, past, writer,
+        rt, alloc, settings, ports, life, setup, accounts, book, &journal, past, writer,
     )
 }
 
 /// Runs an epoch, and adds it to those that have ended. Returns it instead if it is the last one. If there was no memory or
 /// no thread to open it, nobody was served, and the caller may try again once the audit of the one before it has ended.
 #[tactic(auto, using(crate::proofs::Lasts::last_of))]
-fn run_one<R: System, W: Write>(
+fn run_one<R: System + Files<File = File>, W: Write>(
     rt: R,
     alloc: Global,
     settings: &Settings,
@@ -124,6 +127,7 @@ fn run_one<R: System, W: Write>(
     life: &Arc<ServiceLife>,
     accounts: &Arc<Accounts>,
     operators: &mut PastOperators,
+    storage: &mut Storage<R>,
     past: &mut Past,
     writer: &mut W,
 ) -> Result<Option<LastEpoch>, Fault>
@@ -134,7 +138,10 @@ fn run_one<R: System, W: Write>(
         left,
         operators: theirs,
         served,
-    } = run_next(rt, alloc, settings, ports, life, accounts, past, writer)?;
+        is_written,
+    } = run_next(
+        rt, alloc, settings, ports, life, accounts, storage, past, writer,
+    )?;
     let is_over = tell_verdict(&rt, alloc, settings.on_fault, life, past, writer);
     if is_over {
         life.stop(&rt);
@@ -145,34 +152,40 @@ fn run_one<R: System, W: Write>(
         // The ports stayed closed to them, so they answer nobody, and the next try has the number of this epoch.
         join_all(&rt, theirs);
     }
-    add_or_end(rt, alloc, life, is_over, served, left, past)
+    add_or_end(rt, alloc, life, is_over, is_written, served, left, past)
 }
 
-/// Adds an epoch to those that have ended, or returns it if the service is over. An epoch in which nobody was served is
+/// Adds an epoch to those that have ended, or returns it if the service is over, as it is after a write that failed. An epoch in which nobody was served is
 /// dropped, and its fault is returned.
 fn add_or_end<R: System>(
     rt: R,
     alloc: Global,
     life: &Arc<ServiceLife>,
     is_over: bool,
+    is_written: bool,
     served: Result<(), Fault>,
     left: Option<EpochLeft>,
     past: &mut Past,
 ) -> Result<Option<LastEpoch>, Fault>
     requires left { IfSome left (λ left. (left.epoch.setup.kept ≡ past.old.kept) × IfOk left.kept (IsLeftBy left.epoch.setup left.epoch.logs)) }
     requires known { past.old.pending ≡ None }
+    ensures first { past.new.first ≡ past.old.first }
     ensures told { past.new.told ≡ past.old.told }
     ensures good { past.new.is_good ≡ past.old.is_good }
     ensures added { result ≡ Ok None → option_map (λ left. left.epoch) left ≡ past.new.pending }
     ensures last { IfOk result (λ found. IfSome found (λ last. (past.new ≡ past.old) × (last.ended ≡ option_map (λ left. left.epoch) left))) }
 {
     served?;
+    let fault = if is_written { None } else { Some(Fault::Write) };
     let Some(EpochLeft { epoch, kept }) = left else {
-        return Ok(Some(LastEpoch {
-            ended: None,
-            fault: None,
-        }));
+        return Ok(Some(LastEpoch { ended: None, fault }));
     };
+    if !is_written {
+        return Ok(Some(LastEpoch {
+            ended: Some(epoch),
+            fault,
+        }));
+    }
     if is_over || life.rolls().is_stopping(&rt) {
         return Ok(Some(LastEpoch {
             ended: Some(epoch),
@@ -201,6 +214,7 @@ pub(crate) fn run_epochs<R: System + Files<File = File>, W: Write>(
     life: &Arc<ServiceLife>,
     accounts: Arc<Accounts>,
     operators: &mut PastOperators,
+    storage: &mut Storage<R>,
     past: &mut Past,
     writer: &mut W,
 ) -> Result<LastEpoch, Fault>
@@ -210,12 +224,17 @@ pub(crate) fn run_epochs<R: System + Files<File = File>, W: Write>(
     let mut accounts = accounts;
     for _ in rt.forever() {
         let was_auditing = past.is_auditing();
-        match run_one(
-            rt, alloc, settings, ports, life, &accounts, operators, past, writer,
-        ) {
+        let epoch = life.rolls().epoch(&rt);
+        let ran = run_one(
+            rt, alloc, settings, ports, life, &accounts, operators, storage, past, writer,
+        );
+        // If clients were served, the folder has what they were told, and what the epoch opened with may not replace it.
+        let was_served = life.rolls().epoch(&rt) != epoch;
+        let may_try_again = was_auditing && !(was_served && storage.is_kept());
+        match ran {
             Ok(Some(last)) => return Ok(last),
             Ok(None) => accounts = next_accounts(&rt, alloc, options, life, accounts),
-            Err(Fault::Memory) if was_auditing => {
+            Err(Fault::Memory) if may_try_again => {
                 // There is more memory once the audit has ended.
                 if tell_verdict(&rt, alloc, settings.on_fault, life, past, writer) {
                     life.stop(&rt);

@@ -11,6 +11,7 @@ use node::WIDEST_WINDOW;
 use ports::Fault;
 use std::alloc::Global;
 use std::net::IpAddr;
+use store::SyncMode;
 
 /// The highest number of milliseconds that may be asked for between two ticks.
 const LONGEST_TICK_MS: u64 = 1_000_000;
@@ -23,6 +24,9 @@ const MOST_DELIVERY_BYTES: u64 = 1 << 40;
 
 /// The most sessions and bytes after which an epoch may end, and the most keys that a maildrop may keep.
 const MOST_IN_EPOCH: u64 = 1 << 40;
+
+/// The most segments of a data folder that stay.
+const MOST_SEGMENTS: u64 = 1_000_000;
 
 /// The highest port.
 const LAST_PORT: u64 = 65_535;
@@ -88,6 +92,12 @@ pub struct ServeOptions<'a> {
     pub on_fault: OnFault,
     /// The path of the file that gets a line for each event, or `-` for standard error, if there is one.
     pub log: Option<&'a str>,
+    /// The path of the folder that keeps mail beyond the process, if it is kept.
+    pub data: Option<&'a str>,
+    /// What a change that is kept there waits for before it is answered.
+    pub sync: SyncMode,
+    /// How many segments of the folder stay, the last ones: 1 to 1,000,000.
+    pub keep: u64,
 }
 
 /// The options of a process that runs one node of a service.
@@ -208,6 +218,7 @@ fn are_in_range(options: &ServeOptions<'_>) -> bool
         && options.no_majority_seconds <= LONGEST_PAUSE
         && is_between(1, MOST_DELIVERY_BYTES, options.delivery_bytes)
         && are_of_epochs(options)
+        && is_between(1, MOST_SEGMENTS, options.keep)
         && are_ports(options)
         && have_ways_in(options)
 }
@@ -279,11 +290,14 @@ pub(crate) fn settings_of(alloc: Global, options: &ServeOptions<'_>) -> Result<S
     })
 }
 
-/// Whether a node can run in a process of its own: it is in the cluster, and the nodes have ports.
+/// Whether a node can run in a process of its own: it is in the cluster, the nodes have ports, and no mail is kept beyond the
+/// process.
 fn may_be_alone(options: &NodeOptions<'_>) -> bool
     ensures { result ≡ spec.may_be_alone options.now }
 {
-    options.service.peer_port.is_some() && is_between(1, options.service.nodes, options.node)
+    options.service.peer_port.is_some()
+        && is_between(1, options.service.nodes, options.node)
+        && options.service.data.is_none()
 }
 
 /// The settings of a process with one node, or `Value` if an option is out of its range.

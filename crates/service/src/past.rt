@@ -34,6 +34,8 @@ impl Promise<Verdict> for AuditOf {
 /// of its own.
 #[derive(Drop)]
 pub(crate) struct Past {
+    /// What the first epoch opened with.
+    first: Shared<Kept>,
     kept: Shared<Kept>,
     /// How many verdicts are known.
     told: u64,
@@ -50,9 +52,9 @@ impl Model for Past {
 
     ghost Value = { PastValue };
 
-    ghost view = { λ p. record { kept = p.kept; told = p.told; is_good = p.is_good; pending = option_map (λ audit. audit.promise.0.value) p.audit } };
+    ghost view = { λ p. record { first = p.first; kept = p.kept; told = p.told; is_good = p.is_good; pending = option_map (λ audit. audit.promise.0.value) p.audit } };
 
-    ghost invariant = { λ p. HasLedIfGood (record { kept = p.kept; told = p.told; is_good = p.is_good; pending = option_map (λ audit. audit.promise.0.value) p.audit }) };
+    ghost invariant = { λ p. HasLedIfGood (record { first = p.first; kept = p.kept; told = p.told; is_good = p.is_good; pending = option_map (λ audit. audit.promise.0.value) p.audit }) };
 }
 
 /// Whether a verdict is that all is in order.
@@ -125,12 +127,13 @@ fn start_audit<R: Threads + Wait + Copy + Send + 'static>(
 }
 
 impl Past {
-    /// Of a service without an epoch that has ended.
-    pub(crate) fn new(alloc: Global) -> Result<Self, Memory>
-        ensures { IfOk result (λ past. past ≡ spec.no_past) }
+    /// Of a service without an epoch that has ended. The first one opens with these maildrops.
+    pub(crate) fn new(first: Shared<Kept>) -> Result<Self, Memory>
+        ensures { IfOk result (λ past. past ≡ spec.no_past first) }
     {
-        let kept = Shared::new(alloc, Kept::new(alloc))?;
+        let kept = first.copy()?;
         Ok(Past {
+            first,
             kept,
             told: 0,
             is_good: true,
@@ -174,6 +177,7 @@ impl Past {
 
     /// A verdict couldn't be reported.
     pub(crate) fn fail(&mut self)
+        ensures first { self.new.first ≡ self.old.first }
         ensures kept { self.new.kept ≡ self.old.kept }
         ensures pending { self.new.pending ≡ self.old.pending }
         ensures bad { self.new.is_good ≡ false }
@@ -183,6 +187,7 @@ impl Past {
 
     /// Waits for the verdict on the last epoch, unless it is known.
     pub(crate) fn collect<R: Threads + Wait>(&mut self, rt: &R) -> Option<Verdict>
+        ensures first { self.new.first ≡ self.old.first }
         ensures kept { self.new.kept ≡ self.old.kept }
         ensures pending { self.new.pending ≡ None }
         ensures known { result ≡ None → self.new ≡ self.old }
@@ -211,6 +216,7 @@ impl Past {
         requires known { self.old.pending ≡ None }
         ensures kept { OnOk result (self.new.kept ≡ with_others_of left self.old.kept) }
         ensures pending { OnOk result (self.new.pending ≡ Some epoch) }
+        ensures first { self.new.first ≡ self.old.first }
         ensures told { self.new.told ≡ self.old.told }
         ensures good { self.new.is_good ≡ self.old.is_good }
         ensures err { OnErr result (self.new ≡ self.old) }

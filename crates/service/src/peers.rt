@@ -15,20 +15,21 @@ use std::sync::{Arc, Wait};
 /// The most bytes of a frame's content. What a node has accepted is one frame, so this is the format's own bound.
 const LONGEST_CONTENT: usize = 1 << 30;
 
-/// The most bytes of a file that is delivered. A line end is one byte there, and the length of a line takes four in a frame.
-/// So a message of such a file has a frame.
+/// The most bytes of a file that is delivered. A line end is one byte there, and the length of a line takes four in a frame, and
+/// in a record of a data folder. So a message of such a file has a frame, and a record.
 const MOST_SENT: u64 = 240 << 20;
 
-/// The same if nodes send nothing by frames: as many as an operator may announce.
+/// The same if there are neither frames nor records: as many as an operator may announce.
 const MOST_ANNOUNCED: u64 = 1 << 30;
 
-/// The most bytes of a file that is delivered, in a service whose nodes send to ports above this one, or have none.
-pub(crate) fn most_file(peer_port: Option<u16>) -> u64
-    ensures { result ≡ spec.most_file peer_port }
+/// The most bytes of a file that is delivered, in a service whose nodes send to ports above this one, or have none, and which
+/// keeps mail beyond the process, or doesn't.
+pub(crate) fn most_file(peer_port: Option<u16>, is_kept: bool) -> u64
+    ensures { result ≡ spec.most_file peer_port is_kept }
 {
     match peer_port {
-        None => MOST_ANNOUNCED,
-        Some(_) => MOST_SENT,
+        None if !is_kept => MOST_ANNOUNCED,
+        _ => MOST_SENT,
     }
 }
 

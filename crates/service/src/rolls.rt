@@ -274,6 +274,11 @@ impl Rolls {
         progress.epoch = progress.epoch.saturating_sub(1);
     }
 
+    /// The number of this epoch. One in which nobody was served doesn't count.
+    pub(crate) fn epoch<R: Wait>(&self, rt: &R) -> u64 {
+        self.progress.lock(rt).epoch
+    }
+
     /// A node of this epoch leads.
     pub(crate) fn lead<R: Wait>(&self, rt: &R) {
         let mut guard = self.progress.lock(rt);

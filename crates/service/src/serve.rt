@@ -1,5 +1,5 @@
 //! `maildropd serve`: nodes, sessions and an operator's port in one process.
-ghost use Rattle.std.specs.Prelude.{◌≡◌, ◌≤◌, ◌++◌, ◌∷◌, [], ◌⊎◌, Ok, Some, true, is_some, IsTrue, IsErrOf, IfOk, IfErr, IfSome, OnOk, map, if◌then◌else◌};
+ghost use Rattle.std.specs.Prelude.{◌≡◌, ◌≤◌, ◌++◌, ◌∷◌, [], ◌⊎◌, Ok, Some, true, false, is_some, IsTrue, IsErrOf, IfOk, IfErr, IfSome, OnOk, map, if◌then◌else◌};
 ghost use Rattle.std.specs.Io.KnownBytes.{Appends};
 ghost use Rattle.service.specs.Options as spec;
 ghost use Rattle.service.specs.Faults as faults;
@@ -19,6 +19,7 @@ use crate::epochs::{LastEpoch, PastOperators, run_epochs};
 use crate::life::ServiceLife;
 use crate::options::{ServeOptions, Settings, settings_of};
 use crate::past::Past;
+use crate::storage::{OpenedStorage, Storage};
 use crate::threads::{Ports, join_all};
 use crate::verdict::Verdict;
 use apop::{Accounts, AccountsError};
@@ -164,10 +165,9 @@ fn judge<R: System>(
     let left = left_by(alloc, ended);
     let announcement = Announcement::audited(past.first_bad(), &left);
     life.announcements().announce(rt, announcement);
-    let fault = if life.stages().lacks_majority(rt) {
-        Some(Fault::NoMajority)
-    } else {
-        fault
+    let fault = match fault {
+        None if life.stages().lacks_majority(rt) => Some(Fault::NoMajority),
+        fault => fault,
     };
     RunEnd {
         left,
@@ -186,18 +186,31 @@ fn run_life<R: System + Files<File = File>, W: Write>(
     ports: &Ports,
     life: &Arc<ServiceLife>,
     accounts: Arc<Accounts>,
+    opened: OpenedStorage<R>,
     takers: &mut Vec<JoinHandle<()>>,
     operators: &mut PastOperators,
     writer: &mut W,
 ) -> Result<RunEnd, Fault>
+    requires opened { is_some options.now.data ≡ false → opened.kept ≡ [] }
     ensures told { IfOk result (λ end. end.is_good ≡ true → Appends (W.contents writer.old) (W.contents writer.new) (epoch_lines end.epochs)) }
-    ensures legal { IfOk result (λ end. end.left.verdict ≡ Legal → end.is_good ≡ true → FoundLegal settings.now.cluster settings.now.window settings.now.limits settings.now.keys
+    ensures legal { IfOk result (λ end. end.left.verdict ≡ Legal → end.is_good ≡ true → FoundLegal settings.now.cluster settings.now.window settings.now.limits settings.now.keys (is_some options.now.data)
         end.epochs end.left.logs.items end.left.transcripts.items end.left.greeted) }
 {
-    let mut past = Past::new(alloc)?;
+    let OpenedStorage { mut storage, kept } = opened;
+    let mut past = Past::new(kept)?;
     ports.start_taking(rt, life, takers)?;
     let ran = run_epochs(
-        rt, alloc, options, settings, ports, life, accounts, operators, &mut past, writer,
+        rt,
+        alloc,
+        options,
+        settings,
+        ports,
+        life,
+        accounts,
+        operators,
+        &mut storage,
+        &mut past,
+        writer,
     );
     ports.close(&rt);
     match ran {
@@ -217,10 +230,12 @@ fn run_service<R: System + Files<File = File>, W: Write>(
     settings: &Settings,
     life: &Arc<ServiceLife>,
     accounts: Arc<Accounts>,
+    opened: OpenedStorage<R>,
     writer: &mut W,
 ) -> Result<RunEnd, Fault>
+    requires opened { is_some options.now.data ≡ false → opened.kept ≡ [] }
     ensures told { IfOk result (λ end. end.is_good ≡ true → Appends (W.contents writer.old) (W.contents writer.new) (epoch_lines end.epochs)) }
-    ensures legal { IfOk result (λ end. end.left.verdict ≡ Legal → end.is_good ≡ true → FoundLegal settings.now.cluster settings.now.window settings.now.limits settings.now.keys
+    ensures legal { IfOk result (λ end. end.left.verdict ≡ Legal → end.is_good ≡ true → FoundLegal settings.now.cluster settings.now.window settings.now.limits settings.now.keys (is_some options.now.data)
         end.epochs end.left.logs.items end.left.transcripts.items end.left.greeted) }
 {
     let ports = Ports::open(&rt, alloc, settings, options.ctl_socket)?;
@@ -234,6 +249,7 @@ fn run_service<R: System + Files<File = File>, W: Write>(
         &ports,
         life,
         accounts,
+        opened,
         &mut takers,
         &mut operators,
         writer,
@@ -257,13 +273,16 @@ fn run_with<R: System + Files<File = File>, W: Write>(
     writer: &mut W,
 ) -> Result<RunEnd, Fault>
     ensures told { IfOk result (λ end. end.is_good ≡ true → Appends (W.contents writer.old) (W.contents writer.new) (epoch_lines end.epochs)) }
-    ensures legal { IfOk result (λ end. end.left.verdict ≡ Legal → end.is_good ≡ true → FoundLegal settings.now.cluster settings.now.window settings.now.limits settings.now.keys
+    ensures legal { IfOk result (λ end. end.left.verdict ≡ Legal → end.is_good ≡ true → FoundLegal settings.now.cluster settings.now.window settings.now.limits settings.now.keys (is_some options.now.data)
         end.epochs end.left.logs.items end.left.transcripts.items end.left.greeted) }
 {
     let accounts = accounts_of(&rt, alloc, options.accounts)?;
     let life = life_of(&rt, alloc, options, settings, &accounts)?;
     let accounts = Arc::new(alloc, accounts)?;
-    let end = run_service(rt, alloc, options, settings, &life, accounts, writer);
+    let opened = Storage::open(rt, alloc, options)?;
+    let end = run_service(
+        rt, alloc, options, settings, &life, accounts, opened, writer,
+    );
     if let Err(fault) = &end {
         note_fault(&rt, alloc, life.log(), *fault);
     }
@@ -278,7 +297,7 @@ fn run<R: System + Files<File = File>, W: Write>(
 ) -> Result<RunEnd, Fault>
     ensures values { (¬ spec.AreGood options.now) → IsErrOf result Fault.Value }
     ensures told { IfOk result (λ end. end.is_good ≡ true → Appends (W.contents writer.old) (W.contents writer.new) (epoch_lines end.epochs)) }
-    ensures legal { IfOk result (λ end. end.left.verdict ≡ Legal → end.is_good ≡ true → FoundLegal options.now.nodes options.now.window (spec.limits_of options.now) options.now.keys
+    ensures legal { IfOk result (λ end. end.left.verdict ≡ Legal → end.is_good ≡ true → FoundLegal options.now.nodes options.now.window (spec.limits_of options.now) options.now.keys (is_some options.now.data)
         end.epochs end.left.logs.items end.left.transcripts.items end.left.greeted) }
 {
     match settings_of(alloc, options) {
@@ -360,15 +379,27 @@ fn tell_end<R: Eprint, W: Write>(rt: &R, alloc: Global, writer: &mut W, end: Run
             transcripts: end.left.transcripts,
             greeted: end.left.greeted,
         },
-        Err(fault) => fail(rt, alloc, fault),
+        Err(fault) => fail(rt, alloc, None, fault),
+    }
+}
+
+/// Reports a fault on standard error. Those of a data folder are reported after its path.
+pub(crate) fn report_fault<R: Eprint>(rt: &R, folder: Option<&str>, fault: Fault) {
+    match folder {
+        Some(path) if fault.is_of_folder() => {
+            let _untold = eprintln!(rt; "maildropd: {path}{fault}");
+        }
+        _ => {
+            let _untold = eprintln!(rt; "maildropd: {fault}");
+        }
     }
 }
 
 /// Reports a fault on standard error.
-fn fail<R: Eprint>(rt: &R, alloc: Global, fault: Fault) -> ServiceEnd
+fn fail<R: Eprint>(rt: &R, alloc: Global, folder: Option<&str>, fault: Fault) -> ServiceEnd
     ensures { result.status ≡ status_at fault }
 {
-    let _untold = eprintln!(rt; "maildropd: {fault}");
+    report_fault(rt, folder, fault);
     ServiceEnd {
         status: fault.status(),
         epochs: 0,
@@ -400,11 +431,11 @@ pub fn serve_run<R: System + Files<File = File> + Eprint, W: Write>(
 
     // The logs, one of each node, and the transcripts, with those of sessions that asked nothing, have a legal order. So had
     // those of each epoch before, and each epoch opened with what the one before it had left.
-    ensures legal { result.status ≡ 0 → FoundLegal options.now.nodes options.now.window (spec.limits_of options.now) options.now.keys
+    ensures legal { result.status ≡ 0 → FoundLegal options.now.nodes options.now.window (spec.limits_of options.now) options.now.keys (is_some options.now.data)
         result.epochs result.logs.items result.transcripts.items result.greeted }
 {
     match run(rt, alloc, options, writer) {
         Ok(end) => tell_end(&rt, alloc, writer, end),
-        Err(fault) => fail(&rt, alloc, fault),
+        Err(fault) => fail(&rt, alloc, options.data, fault),
     }
 }

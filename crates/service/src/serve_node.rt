@@ -8,6 +8,7 @@ ghost use Rattle.maildrop.specs.Name.{are_different};
 
 use crate::announcement::Announcement;
 use crate::brand::Service;
+use crate::epoch_journal::EpochJournal;
 use crate::epoch_run::{Ending, end_threads, state_of};
 use crate::life::ServiceLife;
 use crate::mark::mark_start;
@@ -55,8 +56,9 @@ fn serve_one<D: Service + Send + Sync + 'static, R: System>(
     requires part { 0 < part.parts }
 {
     let Place { node, base } = place;
-    let state = state_of(&rt, alloc, life, accounts)?;
-    let nodes = ServiceNodes::start_over(rt, alloc, setup, part, base, Some(node))?;
+    let journal = EpochJournal::none();
+    let state = state_of(&rt, alloc, life, accounts, &journal)?;
+    let nodes = ServiceNodes::start_over(rt, alloc, setup, part, base, Some(node), journal)?;
     let desks = Arc::new(alloc, nodes.desks(alloc, settings.cluster)?)?;
     if let Some(leader) = NodeId::new(FIRST_LEADER) {
         nodes.campaign(leader);

@@ -67,8 +67,9 @@ pub trait ServedNode {
     /// `outcome_within` takes it or `forget` lets it go.
     fn submit(&self, user: Name, op: OperatorOp) -> Option<Ticket>;
 
-    /// The outcome of an operation that was submitted here, which may be awaited at most this long. Nothing if it isn't there
-    /// yet, and an error if the node has stopped.
+    /// The outcome of an operation that was submitted here, which may be awaited at most this long, and once it is there for as
+    /// long as it takes to write what outlives the process. Nothing if it isn't there yet, and an error if the node has stopped
+    /// or a write has failed.
     fn outcome_within(
         &self,
         user: Name,
@@ -78,4 +79,7 @@ pub trait ServedNode {
 
     /// Nobody awaits the outcome of an operation any more.
     fn forget(&self, user: Name, ticket: Ticket);
+
+    /// How many messages of one file may be under way at a time.
+    fn under_way(&self) -> usize;
 }

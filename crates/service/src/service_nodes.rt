@@ -10,6 +10,8 @@ ghost use Rattle.service.specs.Faults as faults;
 ghost use Rattle.service.specs.Options.{nodes_here};
 
 use crate::brand::Service;
+use crate::epoch_journal::EpochJournal;
+use crate::journaled_desk::JournaledDesk;
 use crate::served_node::{OperatorOp, ServedNode};
 use crate::transcripts::{Greeted, Served};
 use apop::{Accounts, Stamp};
@@ -32,8 +34,10 @@ use std::time::{Clock, Duration};
 /// logs are those of the service, and only they have its desks. Contracts see the nodes' numbers.
 #[derive(Drop)]
 pub(crate) struct ServiceNodes<D: Service + Send + Sync + 'static, R: System, L: Link> {
+    rt: R,
     cluster: Cluster<D, R, L>,
     part: Share<D>,
+    journal: EpochJournal,
 }
 
 impl<D: Service + Send + Sync + 'static, R: System, L: Link> Model for ServiceNodes<D, R, L> {
@@ -48,7 +52,13 @@ impl<D: Service + Send + Sync + 'static, R: System, L: Link> Model for ServiceNo
 
 impl<D: Service + Send + Sync + 'static, R: System> ServiceNodes<D, R, InboxLink<R>> {
     /// Starts all nodes, which send to one another's inboxes. `Value` if they can't begin so.
-    pub(crate) fn start(rt: R, alloc: Global, setup: &Setup, part: Share<D>) -> Result<Self, Fault>
+    pub(crate) fn start(
+        rt: R,
+        alloc: Global,
+        setup: &Setup,
+        part: Share<D>,
+        journal: EpochJournal,
+    ) -> Result<Self, Fault>
         requires deployment { setup.now ≡ D.setup }
         requires different { IsTrue (are_different setup.now.names) }
         requires part { 0 < part.parts }
@@ -56,7 +66,12 @@ impl<D: Service + Send + Sync + 'static, R: System> ServiceNodes<D, R, InboxLink
         ensures window { OnOk result (has_window setup.now ≡ true) }
     {
         match Cluster::<D, R, InboxLink<R>>::start(rt, alloc, setup) {
-            Ok(cluster) => Ok(ServiceNodes { cluster, part }),
+            Ok(cluster) => Ok(ServiceNodes {
+                rt,
+                cluster,
+                part,
+                journal,
+            }),
             Err(error) => Err(fault_of(error)),
         }
     }
@@ -82,6 +97,7 @@ impl<D: Service + Send + Sync + 'static, R: System> ServiceNodes<D, R, TcpLink<R
         part: Share<D>,
         base: u16,
         node: Option<NodeId>,
+        journal: EpochJournal,
     ) -> Result<Self, Fault>
         requires deployment { setup.now ≡ D.setup }
         requires different { IsTrue (are_different setup.now.names) }
@@ -94,7 +110,12 @@ impl<D: Service + Send + Sync + 'static, R: System> ServiceNodes<D, R, TcpLink<R
         }
         let links = links_of(rt, alloc, setup.cluster, base, node)?;
         match Cluster::<D, R, TcpLink<R>>::start_over(rt, alloc, setup, links) {
-            Ok(cluster) => Ok(ServiceNodes { cluster, part }),
+            Ok(cluster) => Ok(ServiceNodes {
+                rt,
+                cluster,
+                part,
+                journal,
+            }),
             Err(error) => Err(fault_of(error)),
         }
     }
@@ -154,7 +175,12 @@ impl<
         for number in 1..=size.get() {
             if let Some(node) = NodeId::new(number) {
                 if let Some(desk) = self.cluster.desk(node)? {
-                    desks.push(ServiceDesk { desk })?;
+                    let journal = self.journal.share()?;
+                    desks.push(ServiceDesk {
+                        rt: self.rt,
+                        desk,
+                        journal,
+                    })?;
                 }
             }
         }
@@ -172,7 +198,12 @@ impl<
         requires { self ≡ all_nodes D.setup.cluster }
         ensures { IfSome result (λ stopped. IfOk stopped.kept (λ kept. IsLeftBy D.setup stopped.logs kept)) }
     {
-        let ServiceNodes { cluster, part } = self;
+        let ServiceNodes {
+            rt: _,
+            cluster,
+            part,
+            journal: _,
+        } = self;
         let Ended { logs, kept } = cluster.stop()?;
         Some(StoppedNodes {
             logs: ServiceLogs { logs, part },
@@ -182,7 +213,12 @@ impl<
 
     /// Stops a node whose service isn't audited here.
     pub(crate) fn stop_unaudited(self) -> Unaudited<D> {
-        let ServiceNodes { cluster, part } = self;
+        let ServiceNodes {
+            rt: _,
+            cluster,
+            part,
+            journal: _,
+        } = self;
         drop(cluster);
         Unaudited { part }
     }
@@ -239,7 +275,9 @@ impl<D: Service> ServiceLogs<D> {
 /// nodes whose logs are audited, if they are.
 #[derive(Drop)]
 pub(crate) struct ServiceDesk<D: Service, R: Wait, L: Link> {
+    rt: R,
     desk: NodeDesk<D, R, L>,
+    journal: EpochJournal,
 }
 
 impl<D: Service, R: Wait + Clock + Copy, L: Link + Drop> ServiceDesk<D, R, L> {
@@ -261,12 +299,17 @@ impl<D: Service, R: Wait + Clock + Copy, L: Link + Drop> ServiceDesk<D, R, L> {
         ensures { IsReadAndWritten D.accounts stamp result
             (I.remaining reader.old) (I.remaining reader.new) (O.contents writer.old) (O.contents writer.new) }
     {
-        let ServiceDesk { desk } = self;
-        let mut desk = SessionDesk {
+        let ServiceDesk {
+            rt: _,
+            desk,
+            journal,
+        } = self;
+        let node = JournaledDesk {
             rt,
             node: desk,
-            facts,
+            journal,
         };
+        let mut desk = SessionDesk { rt, node, facts };
         greeted.serve(alloc, reader, writer, accounts, stamp, &mut desk, gate)
     }
 }
@@ -277,8 +320,13 @@ impl<D: Service, R: Wait + Clock + Copy, L: Link> ServedNode for ServiceDesk<D, 
     }
 
     fn share(&self) -> Result<Self, Memory> {
+        let journal = self.journal.share()?;
         let desk = NodeDesk::share(&self.desk)?;
-        Ok(ServiceDesk { desk })
+        Ok(ServiceDesk {
+            rt: self.rt,
+            desk,
+            journal,
+        })
     }
 
     fn crash(&self) -> bool {
@@ -310,7 +358,13 @@ impl<D: Service, R: Wait + Clock + Copy, L: Link> ServedNode for ServiceDesk<D, 
     }
 
     fn usage(&self) -> Result<Vec<(Name, Usage)>, Memory> {
-        self.desk.usage()
+        let usages = self.desk.usage()?;
+        // Nobody is shown what could be gone after a restart.
+        if self.journal.settle(&self.rt, &self.desk) {
+            Ok(usages)
+        } else {
+            Err(Memory)
+        }
     }
 
     fn submit(&self, user: Name, op: OperatorOp) -> Option<Ticket> {
@@ -323,10 +377,21 @@ impl<D: Service, R: Wait + Clock + Copy, L: Link> ServedNode for ServiceDesk<D, 
         ticket: Ticket,
         time: Duration,
     ) -> Result<Option<Outcome>, DeskStopped> {
-        self.desk.outcome_within(user, ticket, time)
+        let answer = self.desk.outcome_within(user, ticket, time);
+        if !matches!(&answer, Ok(Some(_))) || self.journal.settle(&self.rt, &self.desk) {
+            return answer;
+        }
+        let _was_up = self.desk.crash();
+        Err(DeskStopped {
+            ticket: Some(ticket),
+        })
     }
 
     fn forget(&self, user: Name, ticket: Ticket) {
         self.desk.forget(user, ticket);
+    }
+
+    fn under_way(&self) -> usize {
+        self.journal.under_way()
     }
 }

@@ -1,6 +1,7 @@
 //! What all threads of an epoch share.
 
 use crate::draining::Draining;
+use crate::epoch_journal::EpochJournal;
 use crate::hearing::HeardNodes;
 use crate::life::ServiceLife;
 use crate::lock_breaker::LockBreaker;
@@ -23,6 +24,7 @@ pub(crate) struct ServiceState {
     heard_nodes: HeardNodes,
     /// How many deliveries are under way.
     deliveries: Mutex<u64>,
+    journal: EpochJournal,
 }
 
 impl ServiceState {
@@ -32,6 +34,7 @@ impl ServiceState {
         life: Arc<ServiceLife>,
         epoch: u64,
         accounts: Arc<Accounts>,
+        journal: EpochJournal,
     ) -> Self {
         ServiceState {
             life,
@@ -42,6 +45,7 @@ impl ServiceState {
             lock_breaker: LockBreaker::new(alloc),
             heard_nodes: HeardNodes::new(),
             deliveries: Mutex::new(0),
+            journal,
         }
     }
 
@@ -78,6 +82,11 @@ impl ServiceState {
     /// Which nodes of other processes were heard.
     pub(crate) fn heard_nodes(&self) -> &HeardNodes {
         &self.heard_nodes
+    }
+
+    /// Where what its commands change is written.
+    pub(crate) fn journal(&self) -> &EpochJournal {
+        &self.journal
     }
 
     /// A delivery begins.

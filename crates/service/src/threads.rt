@@ -419,7 +419,7 @@ fn start_operators<R: System, N: ServedNode + Send + Sync + Drop + 'static>(
         Arc::try_clone(nodes)?,
         Arc::try_clone(state)?,
         settings.delivery_bytes,
-        most_file(settings.peer_port),
+        most_file(settings.peer_port, state.journal().is_kept()),
     )?;
     start_reserve(rt, port, handler.share()?, threads)?;
     start_serving(rt, alloc, port, handler, threads)

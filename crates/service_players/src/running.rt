@@ -15,6 +15,7 @@ use std::test::Fail;
 use std::thread::{JoinHandle, Threads};
 use std::time::{Clock, Duration};
 use std::{io, thread};
+use store::SyncMode;
 
 /// How often a test looks whether a service has begun, once a millisecond.
 const TURNS: u32 = 20_000;
@@ -92,6 +93,9 @@ pub fn options<'a>(accounts: &'a str, pop_port: u16, ctl_port: u16) -> ServeOpti
         keys: 10_000,
         on_fault: OnFault::Stop,
         log: None,
+        data: None,
+        sync: SyncMode::Disk,
+        keep: 2,
     }
 }
 
@@ -160,6 +164,16 @@ pub fn file<R: RandomSource + Files>(
     Ok(path)
 }
 
+/// A folder without files in the system's folder for such things, under a name with random digits. Returns its path.
+pub fn folder<R: RandomSource + Files>(rt: &R, alloc: Global) -> Result<String, Fail> {
+    let mut random = [0u8; 8];
+    rt.fill_bytes(&mut random)?;
+    let digits = u64::from_be_bytes(random);
+    let path = format!(in alloc; "/tmp/maildropd-folder-{digits:016x}")?;
+    std::fs::create_dir(rt, path.as_str())?;
+    Ok(path)
+}
+
 /// Removes a file.
 pub fn remove<R: Files>(rt: &R, path: &str) {
     let _none = std::fs::remove_file(rt, path);
@@ -183,6 +197,8 @@ pub struct Plan {
     has_one_port: bool,
     /// The port above which its nodes send to one another, if they have ports for that.
     peer_port: Option<u16>,
+    /// The path of the folder in which it keeps mail, if it has one.
+    folder: Option<String>,
     has_ended: Arc<AtomicBool>,
 }
 
@@ -212,6 +228,7 @@ pub fn planned<R: Net<Listener = TcpListener, Stream = TcpStream> + RandomSource
         delivery_bytes: 1 << 30,
         has_one_port: false,
         peer_port: None,
+        folder: None,
         has_ended: Arc::try_clone(&has_ended)?,
     };
     let site = Site {
@@ -219,6 +236,19 @@ pub fn planned<R: Net<Listener = TcpListener, Stream = TcpStream> + RandomSource
         peers: None,
         has_ended,
     };
+    Ok((plan, site))
+}
+
+/// The same service, which keeps mail in the folder of this path.
+pub fn in_folder<R: Net<Listener = TcpListener, Stream = TcpStream> + RandomSource + Files>(
+    rt: &R,
+    alloc: Global,
+    accounts: &str,
+    folder: &str,
+) -> Result<(Plan, Site), Fail> {
+    let folder = String::from_str(alloc, folder)?;
+    let (mut plan, site) = planned(rt, alloc, accounts)?;
+    plan.folder = Some(folder);
     Ok((plan, site))
 }
 
@@ -303,6 +333,7 @@ fn options_of(plan: &Plan) -> ServeOptions<'_> {
         Some(port) => Some(u64::from(port)),
         None => None,
     };
+    options.data = text_of(&plan.folder);
     options.ctl_socket = text_of(&plan.socket);
     if options.ctl_socket.is_some() {
         options.ctl_port = None;

@@ -1,3 +1,4 @@
+use Rattle.std.specs.Prelude.{is_some}
 use Rattle.std.proofs.Common.{◌≡◌, true, Err, IfOk, ap, subst}
 use Rattle.ports.specs.declared.fault.Fault.TheVariants as fault
 use Rattle.service.specs.Options.{limits_of}
@@ -19,14 +20,14 @@ returns-in-Ok-clause-legal g c =
     let options = c.args.options.now in
     let result = c.run_with.result in
     subst
-    (λ nodes. IfOk result (λ end. end.left.verdict ≡ Legal → end.is_good ≡ true → FoundLegal nodes options.window (limits_of options) options.keys end.epochs end.left.logs.items end.left.transcripts.items end.left.greeted))
+    (λ nodes. IfOk result (λ end. end.left.verdict ≡ Legal → end.is_good ≡ true → FoundLegal nodes options.window (limits_of options) options.keys (is_some options.data) end.epochs end.left.logs.items end.left.transcripts.items end.left.greeted))
     so.cluster
     (subst
-    (λ window. IfOk result (λ end. end.left.verdict ≡ Legal → end.is_good ≡ true → FoundLegal its.cluster window (limits_of options) options.keys end.epochs end.left.logs.items end.left.transcripts.items end.left.greeted))
+    (λ window. IfOk result (λ end. end.left.verdict ≡ Legal → end.is_good ≡ true → FoundLegal its.cluster window (limits_of options) options.keys (is_some options.data) end.epochs end.left.logs.items end.left.transcripts.items end.left.greeted))
     so.window
     (subst
-    (λ limits. IfOk result (λ end. end.left.verdict ≡ Legal → end.is_good ≡ true → FoundLegal its.cluster its.window limits options.keys end.epochs end.left.logs.items end.left.transcripts.items end.left.greeted))
+    (λ limits. IfOk result (λ end. end.left.verdict ≡ Legal → end.is_good ≡ true → FoundLegal its.cluster its.window limits options.keys (is_some options.data) end.epochs end.left.logs.items end.left.transcripts.items end.left.greeted))
     so.limits
     (subst
-    (λ keys. IfOk result (λ end. end.left.verdict ≡ Legal → end.is_good ≡ true → FoundLegal its.cluster its.window its.limits keys end.epochs end.left.logs.items end.left.transcripts.items end.left.greeted))
+    (λ keys. IfOk result (λ end. end.left.verdict ≡ Legal → end.is_good ≡ true → FoundLegal its.cluster its.window its.limits keys (is_some options.data) end.epochs end.left.logs.items end.left.transcripts.items end.left.greeted))
     so.keys c.run_with.ensures.legal)))

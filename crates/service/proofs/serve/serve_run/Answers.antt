@@ -25,4 +25,4 @@ returns-in-Ok-clause-told g c zero =
 pub returns-in-Ok-clause-legal : goal.returns-in-Ok-clause-legal
 returns-in-Ok-clause-legal g c zero =
     let so = c.tell_end.ensures in
-    carried _ _ _ _ _ _ _ _ _ _ _ _ (so.epochs zero) (so.logs zero) (so.transcripts zero) (so.greeted zero) (c.in-Ok.ensures.legal (so.legal zero) (so.good zero))
+    carried _ _ _ _ _ _ _ _ _ _ _ _ _ (so.epochs zero) (so.logs zero) (so.transcripts zero) (so.greeted zero) (c.in-Ok.ensures.legal (so.legal zero) (so.good zero))

@@ -1,0 +1,159 @@
+//! `maildropd begin`, `check` and `export`: what is done with a data folder beside `serve`.
+
+use crate::arguments::{Choice, Kind, Presence, text_of, with_options};
+use clap::{Arg, ArgAction, ArgMatches, Command, Error};
+use maildrop::{Message, Name};
+use mboxrd::write;
+use ports::{Fault, say};
+use records::Ending;
+use service::fault_of_store;
+use std::alloc::Global;
+use std::fs::File;
+use std::io;
+use std::random::RandomSource;
+use std::rt::Files;
+use store::{DataFolder, Found, Report, check, read_newest};
+
+/// The line that begins each exported message.
+const FROM_LINE: &[u8] = b"From maildropd Thu Jan  1 00:00:00 1970";
+
+/// The option of all three.
+const OPTIONS: &[Choice] = &[Choice {
+    name: "data",
+    value: "FOLDER",
+    kind: Kind::Text,
+    presence: Presence::Required,
+    help: "The data folder",
+}];
+
+/// The command `begin` of the command line.
+pub(crate) fn begin_command<'a>(alloc: Global) -> Result<Command<'a>, Error> {
+    let begin = Command::new(alloc, "begin").about(
+        "Makes a data folder without mail, for `serve --data`. Refuses a folder that is not empty",
+    );
+    with_options(alloc, begin, OPTIONS)
+}
+
+/// The command `check` of the command line.
+pub(crate) fn check_command<'a>(alloc: Global) -> Result<Command<'a>, Error> {
+    let check = Command::new(alloc, "check").about(
+        "Reads all segments of a data folder, and prints a line for each. The status is 1 if one is damaged",
+    );
+    with_options(alloc, check, OPTIONS)
+}
+
+/// The command `export` of the command line.
+pub(crate) fn export_command<'a>(alloc: Global) -> Result<Command<'a>, Error> {
+    let name = Arg::new(alloc, "name")
+        .value_name("NAME")
+        .help("The user")
+        .required(true)
+        .allow_hyphen_values(true)
+        .action(ArgAction::Set);
+    let export = Command::new(alloc, "export").about(
+        "Writes the mail that a data folder has of a user, as a mailbox file (mboxrd)",
+    );
+    Ok(with_options(alloc, export, OPTIONS)?.arg(name)?)
+}
+
+/// Reports a fault, after the path of the folder if it is one of the folder. Returns the status.
+fn refuse<R: Eprint>(rt: &R, path: &str, fault: Fault) -> u8 {
+    if fault.is_of_folder() {
+        let _untold = eprintln!(rt; "maildropd: {path}{fault}");
+    } else {
+        let _untold = eprintln!(rt; "maildropd: {fault}");
+    }
+    fault.status()
+}
+
+pub(crate) fn run_begin<R: AllocGlobal + Files<File = File> + RandomSource + Copy + Eprint>(
+    rt: &R,
+    matches: &ArgMatches<'_>,
+) -> u8 {
+    let path = text_of(matches, "data");
+    let mut salt = [0u8; 8];
+    if rt.fill_bytes(&mut salt).is_err() {
+        return refuse(rt, path, Fault::Read);
+    }
+    match DataFolder::begin(rt, rt.alloc(), path, u64::from_be_bytes(salt)) {
+        Ok(()) => 0,
+        Err(fault) => refuse(rt, path, fault_of_store(fault)),
+    }
+}
+
+/// Prints what was found in a segment that was read.
+fn print_segment<R: AllocGlobal + Print>(rt: &R, report: &Report) -> Result<(), Fault> {
+    let number = report.number;
+    let Found::Whole {
+        messages,
+        octets,
+        changes,
+        ending,
+    } = report.found
+    else {
+        return Ok(());
+    };
+    let end = match ending {
+        Ending::Clean(_) => "whole",
+        _ => "cut",
+    };
+    let line = format!(in rt.alloc();
+        "segment {number} messages {messages} octets {octets} changes {changes} {end}\n"
+    );
+    match line {
+        Ok(line) => say(&mut io::writer(rt), line.as_bytes()),
+        Err(_) => Err(Fault::Memory),
+    }
+}
+
+pub(crate) fn run_check<R: AllocGlobal + Files<File = File> + Copy + Print + Eprint>(
+    rt: &R,
+    matches: &ArgMatches<'_>,
+) -> u8 {
+    let path = text_of(matches, "data");
+    let reports = match check(rt, rt.alloc(), path) {
+        Ok(reports) if reports.is_empty() => return refuse(rt, path, Fault::NotBegun),
+        Ok(reports) => reports,
+        Err(fault) => return refuse(rt, path, fault_of_store(fault)),
+    };
+    let mut status = 0;
+    for report in &reports {
+        match report.found {
+            Found::Damaged(at) => status = refuse(rt, path, Fault::Damaged(report.number, at)),
+            _ => {
+                if let Err(fault) = print_segment(rt, report) {
+                    return refuse(rt, path, fault);
+                }
+            }
+        }
+    }
+    status
+}
+
+/// Writes messages as a mailbox file, one after another.
+fn write_mailbox<R: AllocGlobal + Print>(rt: &R, messages: &[Message]) -> Result<(), Fault> {
+    for message in messages {
+        let text = message.text.copy()?;
+        let bytes = write(rt.alloc(), FROM_LINE, &[text])?;
+        say(&mut io::writer(rt), bytes.as_slice())?;
+    }
+    Ok(())
+}
+
+pub(crate) fn run_export<R: AllocGlobal + Files<File = File> + Copy + Print + Eprint>(
+    rt: &R,
+    matches: &ArgMatches<'_>,
+) -> u8 {
+    let path = text_of(matches, "data");
+    let Some(name) = Name::new(text_of(matches, "name").as_bytes()) else {
+        return refuse(rt, path, Fault::Value);
+    };
+    let loaded = match read_newest(rt, rt.alloc(), path) {
+        Ok(loaded) => loaded,
+        Err(fault) => return refuse(rt, path, fault_of_store(fault)),
+    };
+    match write_mailbox(rt, loaded.kept.messages(&name)) {
+        Ok(()) => 0,
+        Err(fault) => refuse(rt, path, fault),
+    }
+}

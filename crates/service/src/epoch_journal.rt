@@ -1,0 +1,91 @@
+//! The journal of an epoch.
+
+use crate::brand::Service;
+use ballot::Memory;
+use cluster::{Link, NodeDesk, Performed};
+use std::alloc::Global;
+use std::sync::{Arc, Wait};
+use store::{FileDevice, Journal, Performer};
+
+/// How many messages of a file are under way at a time if each of them waits for the disk.
+const UNDER_WAY: usize = 10;
+
+/// What a node has performed, as its desk shows it.
+#[derive(Clone, Copy)]
+struct DeskPerformer<'a, D: Service, R: Wait, L: Link> {
+    desk: &'a NodeDesk<D, R, L>,
+}
+
+impl<D: Service, R: Wait, L: Link> Performer for DeskPerformer<'_, D, R, L> {
+    fn performed_after(&self, taken: u64) -> Result<Option<Performed>, Memory> {
+        self.desk.performed_after(taken)
+    }
+}
+
+/// Where what an epoch's commands change is written, if its service keeps mail beyond the process.
+#[derive(Drop)]
+pub(crate) struct EpochJournal {
+    journal: Option<Arc<Journal<FileDevice>>>,
+}
+
+impl EpochJournal {
+    /// Nothing is written.
+    pub(crate) fn none() -> Self {
+        EpochJournal { journal: None }
+    }
+
+    /// All is written to this journal.
+    pub(crate) fn of(alloc: Global, journal: Journal<FileDevice>) -> Result<Self, Memory> {
+        let journal = Arc::new(alloc, journal)?;
+        Ok(EpochJournal {
+            journal: Some(journal),
+        })
+    }
+
+    /// The same journal, for another thread.
+    pub(crate) fn share(&self) -> Result<Self, Memory> {
+        match &self.journal {
+            None => Ok(EpochJournal::none()),
+            Some(journal) => {
+                let journal = Arc::try_clone(journal)?;
+                Ok(EpochJournal {
+                    journal: Some(journal),
+                })
+            }
+        }
+    }
+
+    /// Waits until all that the node has performed so far is written, as durably as the service asks for. Returns whether it
+    /// is: not if the node has stopped without memory, or a write has failed. At once if nothing is written.
+    pub(crate) fn settle<D: Service, R: Wait, L: Link>(
+        &self,
+        rt: &R,
+        desk: &NodeDesk<D, R, L>,
+    ) -> bool {
+        match &self.journal {
+            None => true,
+            Some(journal) => journal.settle(rt, &DeskPerformer { desk }),
+        }
+    }
+
+    /// Whether a write has failed. Nothing is written any more then.
+    pub(crate) fn has_failed<R: Wait>(&self, rt: &R) -> bool {
+        match &self.journal {
+            None => false,
+            Some(journal) => journal.has_failed(rt),
+        }
+    }
+
+    /// Whether anything is written.
+    pub(crate) fn is_kept(&self) -> bool {
+        self.journal.is_some()
+    }
+
+    /// How many messages of a file are under way at a time: more than one if each waits for a write, so that they share it.
+    pub(crate) fn under_way(&self) -> usize {
+        match &self.journal {
+            None => 1,
+            Some(_) => UNDER_WAY,
+        }
+    }
+}
