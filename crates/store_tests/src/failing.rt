@@ -1,4 +1,4 @@
-//! Files and systems whose calls fail when they are told to.
+//! Files and systems of which a test picks the call that fails.
 ghost use Rattle.std.specs.Prelude.{◌≡◌};
 
 use std::alloc::Allocator;
