@@ -30,7 +30,10 @@ fn octets_ahead(bytes: &[u8], count: u32) -> usize {
     let mut cursor = Cursor::new(bytes);
     let mut octets = 0usize;
     for _ in 0..count {
-        let Ok(line) = cursor.read_line() else {
+        let Ok(len) = cursor.read_u32() else {
+            break;
+        };
+        let Ok(line) = cursor.read_bytes(len as usize) else {
             break;
         };
         octets = octets.saturating_add(line.len()).saturating_add(2);
