@@ -5,16 +5,16 @@ use Rattle.std.specs.Prelude.{is_some, option_map}
 use Rattle.std.specs.List.{flat_map}
 use Rattle.std.specs.declared.alloc.Global.{Global}
 use Rattle.maildrop.specs.Kept.{KeptTable, kept_for}
-use Rattle.maildrop.specs.declared.change.Change.{Change}
 use Rattle.records.specs.Spelling.{spell, spelled, size_of, file_of, head_of}
 use Rattle.records.proofs.Files.{spelled_more, length-spelled}
 use Rattle.ledger.specs.Changes.{snapshot_of}
-use Rattle.ledger.specs.Payloads.{payload, entry, begin_payload, opened_payload}
+use Rattle.ledger.specs.Payloads.{entry, begin_payload, opened_payload}
 use Rattle.ledger.specs.Taking.{entry_bytes}
 use Rattle.ledger.specs.declared.entry.Entry.{Entry}
 use Rattle.store.specs.declared.batch.TheConstants.{FRAME}
 use Rattle.store.specs.Loading.{entry_payload}
-use Rattle.store.specs.Running.{IsRunning, IsWhole, Addition, IsAddition, IsEntry, running_payloads}
+use Rattle.store.specs.Restarts.{user_entries, snapshot_entries}
+use Rattle.store.specs.Running.{IsRunning, Addition, IsAddition, IsEntry, running_payloads}
 use Rattle.store.specs.Segments.{grown, user_payloads, names_in, with_last_keys, snapshot_payloads}
 use Rattle.store.proofs.Spelled.{spell_length, grown-append, grown_is, file_is, map_twice}
 
@@ -79,15 +79,12 @@ pub entry_added : (o : Option (Entry Global)) (bytes : List ℕ) → bytes ≡ [
 entry_added None bytes is some = absurd (cc)
 entry_added (Some e) bytes is some = record { entry = e; is = is }
 
-abbrev user_entries : ℕ → KeptTable Global → List ℕ → List (Entry Global)
-user_entries keys table name = map (entry 0 name) (snapshot_of (with_last_keys keys (kept_for name table)))
-
-snapshot_entries : (keys : ℕ) (table : KeptTable Global) (names : List (List ℕ)) → flat_map (user_payloads keys table) names ≡ map entry_payload (flat_map (user_entries keys table) names)
-snapshot_entries keys table [] = refl
-snapshot_entries keys table (name ∷ names) =
+pub snapshot_said : (keys : ℕ) (table : KeptTable Global) (names : List (List ℕ)) → flat_map (user_payloads keys table) names ≡ map entry_payload (flat_map (user_entries keys table) names)
+snapshot_said keys table [] = refl
+snapshot_said keys table (name ∷ names) =
     let changes = snapshot_of (with_last_keys keys (kept_for name table)) in
     let rest = flat_map (user_entries keys table) names in
-    ap (λ (l : List (List ℕ)). user_payloads keys table name ++ l) (snapshot_entries keys table names)
+    ap (λ (l : List (List ℕ)). user_payloads keys table name ++ l) (snapshot_said keys table names)
     ∙ ap (λ (l : List (List ℕ)). l ++ map entry_payload rest) (sym (map_twice entry_payload (entry 0 name) changes))
     ∙ sym (map-append entry_payload (user_entries keys table name) rest)
 
@@ -96,8 +93,8 @@ pub opened_is_running : (salt size number keys : ℕ) (table : KeptTable Global)
     → size ≡ length (file_of salt (snapshot_payloads number keys table)) → IsRunning salt size bytes
 opened_is_running salt size number keys table bytes is size_is = record {
   number = number;
-  snapshot = flat_map (user_entries keys table) (names_in table);
+  snapshot = snapshot_entries keys table;
   epoch = [];
-  bytes_are = is ∙ ap (λ (l : List (List ℕ)). file_of salt (begin_payload number ∷ l ++ opened_payload ∷ [])) (snapshot_entries keys table (names_in table));
+  bytes_are = is ∙ ap (λ (l : List (List ℕ)). file_of salt (begin_payload number ∷ l ++ opened_payload ∷ [])) (snapshot_said keys table (names_in table));
   size_is = size_is ∙ ap length (sym is);
 }

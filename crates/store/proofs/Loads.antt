@@ -1,6 +1,7 @@
 -- What a loader has taken.
 use Rattle.std.proofs.Common.{◌≡◌, ℕ, ◌+◌, List, [], ◌∷◌, ◌++◌, Option, None, Some, map, refl, sym, ◌∙◌, ap, subst, append_assoc, length-append}
 use Rattle.std.proofs.lemmas.List.{append-nil, map-append}
+use Rattle.std.specs.List.{AllByRecursion}
 use Rattle.std.specs.Io.KnownBytes.{Consumes, IsAtEnd, Keeps}
 use Rattle.maildrop.specs.Kept.{KeptMaildrop, kept_for, nothing_kept}
 use Rattle.ledger.specs.Payloads.{begin_payload, opened_payload}
@@ -8,12 +9,16 @@ use Rattle.ledger.specs.declared.entry.Entry.{Entry}
 use Rattle.store.specs.declared.loading.Stage.TheVariants.{Begin, Snapshot, Running}
 use Rattle.records.specs.Readers.{HasRead}
 use Rattle.records.specs.Readers as readers
-use Rattle.store.specs.Loading.{Loading, entry_payload, kept_by, kept_step, AreSaid, HasLoaded, IsInStep, HasTaken}
+use Rattle.store.specs.Loading.{Loading, entry_payload, kept_by, kept_step, AreSaid, HasLoaded, IsInStep, HasTaken, IsReadBack}
 
 module _ {A : Type 0} where
   kept_by-push : (name : List ℕ) (kept : KeptMaildrop A) (entries : List (Entry A)) (entry : Entry A) → kept_by name kept (entries ++ entry ∷ []) ≡ kept_step name (kept_by name kept entries) entry
   kept_by-push name kept [] entry = refl
   kept_by-push name kept (e ∷ entries) entry = kept_by-push name (kept_step name kept e) entries entry
+
+  all_push : (P : Entry A → Type 0) (xs : List (Entry A)) (x : Entry A) → AllByRecursion P xs → P x → AllByRecursion P (xs ++ x ∷ [])
+  all_push P [] x all is = (is, tt)
+  all_push P (y ∷ ys) x all is = (all.0, all_push P ys x all.1 is)
 
   -- the number of the segment
   pub begins : (payloads : List (List ℕ)) (l new : Loading A) → HasLoaded payloads l → l.stage ≡ Begin → new ≡ record l { stage = Snapshot }
@@ -23,6 +28,7 @@ module _ {A : Type 0} where
       subst (λ x. HasLoaded (payloads ++ begin_payload l.number ∷ []) x) (sym is) (record {
         snapshot = h.snapshot;
         epoch = h.epoch;
+        read_back = h.read_back;
         said = (ap (λ (p : List (List ℕ)). p ++ begin_payload l.number ∷ []) said.0 ∙ ap (λ es. begin_payload l.number ∷ map entry_payload es) (sym said.1.0), said.1.1);
         kept = h.kept;
         count = h.count;
@@ -36,6 +42,7 @@ module _ {A : Type 0} where
       subst (λ x. HasLoaded (payloads ++ opened_payload ∷ []) x) (sym is) (record {
         snapshot = h.snapshot;
         epoch = h.epoch;
+        read_back = h.read_back;
         said = ap (λ (p : List (List ℕ)). p ++ opened_payload ∷ []) said.0 ∙ ap (λ es. begin_payload l.number ∷ map entry_payload h.snapshot ++ opened_payload ∷ map entry_payload es) (sym said.1);
         kept = h.kept;
         count = h.count;
@@ -44,9 +51,9 @@ module _ {A : Type 0} where
   -- an entry of the snapshot
   pub snapshot_grows : (payloads : List (List ℕ)) (l new : Loading A) (entry : Entry A) → HasLoaded payloads l → l.stage ≡ Snapshot
       → new.stage ≡ l.stage → new.number ≡ l.number → new.changes ≡ l.changes
-      → ((name : List ℕ) → kept_for name new.kept ≡ kept_step name (kept_for name l.kept) entry)
+      → ((name : List ℕ) → kept_for name new.kept ≡ kept_step name (kept_for name l.kept) entry) → IsReadBack entry
       → HasLoaded (payloads ++ entry_payload entry ∷ []) new
-  snapshot_grows payloads l new entry h at stage number changes kept =
+  snapshot_grows payloads l new entry h at stage number changes kept back =
       let said : AreSaid Snapshot l.number payloads h.snapshot h.epoch = subst (λ s. AreSaid s l.number payloads h.snapshot h.epoch) at h.said in
       let snapshot = h.snapshot ++ entry ∷ [] in
       let next : AreSaid Snapshot l.number (payloads ++ entry_payload entry ∷ []) snapshot h.epoch = (
@@ -57,6 +64,7 @@ module _ {A : Type 0} where
       record {
         snapshot = snapshot;
         epoch = h.epoch;
+        read_back = subst (λ es. AllByRecursion IsReadBack es) (sym all) (all_push IsReadBack (h.snapshot ++ h.epoch) entry h.read_back back);
         said = subst (λ n. AreSaid new.stage n (payloads ++ entry_payload entry ∷ []) snapshot h.epoch) (sym number) (subst (λ s. AreSaid s l.number (payloads ++ entry_payload entry ∷ []) snapshot h.epoch) (sym (stage ∙ at)) next);
         kept = λ name. kept name ∙ ap (λ k. kept_step name k entry) (h.kept name) ∙ sym (kept_by-push name nothing_kept (h.snapshot ++ h.epoch) entry) ∙ ap (kept_by name nothing_kept) (sym all);
         count = changes ∙ h.count;
@@ -65,9 +73,9 @@ module _ {A : Type 0} where
   -- an entry of the epoch
   pub epoch_grows : (payloads : List (List ℕ)) (l new : Loading A) (entry : Entry A) → HasLoaded payloads l → l.stage ≡ Running
       → new.stage ≡ l.stage → new.number ≡ l.number → new.changes ≡ l.changes + 1
-      → ((name : List ℕ) → kept_for name new.kept ≡ kept_step name (kept_for name l.kept) entry)
+      → ((name : List ℕ) → kept_for name new.kept ≡ kept_step name (kept_for name l.kept) entry) → IsReadBack entry
       → HasLoaded (payloads ++ entry_payload entry ∷ []) new
-  epoch_grows payloads l new entry h at stage number changes kept =
+  epoch_grows payloads l new entry h at stage number changes kept back =
       let said : AreSaid Running l.number payloads h.snapshot h.epoch = subst (λ s. AreSaid s l.number payloads h.snapshot h.epoch) at h.said in
       let epoch = h.epoch ++ entry ∷ [] in
       let front = begin_payload l.number ∷ map entry_payload h.snapshot in
@@ -78,6 +86,7 @@ module _ {A : Type 0} where
       record {
         snapshot = h.snapshot;
         epoch = epoch;
+        read_back = subst (λ es. AllByRecursion IsReadBack es) (append_assoc h.snapshot h.epoch (entry ∷ [])) (all_push IsReadBack (h.snapshot ++ h.epoch) entry h.read_back back);
         said = subst (λ n. AreSaid new.stage n (payloads ++ entry_payload entry ∷ []) h.snapshot epoch) (sym number) (subst (λ s. AreSaid s l.number (payloads ++ entry_payload entry ∷ []) h.snapshot epoch) (sym (stage ∙ at)) next);
         kept = λ name. kept name ∙ ap (λ k. kept_step name k entry) (h.kept name) ∙ sym (kept_by-push name nothing_kept (h.snapshot ++ h.epoch) entry) ∙ ap (kept_by name nothing_kept) (append_assoc h.snapshot h.epoch (entry ∷ []));
         count = changes ∙ ap (λ n. n + 1) h.count ∙ sym (length-append h.epoch (entry ∷ []));

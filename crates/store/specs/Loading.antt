@@ -1,12 +1,15 @@
 -- What is read of a segment.
-use Rattle.std.specs.Prelude.{◌≡◌, ℕ, List, [], ◌∷◌, ◌++◌, length, map, Option, Some, if◌then◌else◌}
+use Rattle.std.specs.Prelude.{◌≡◌, ℕ, List, [], ◌∷◌, ◌++◌, length, map, Option, Some, Ok, if◌then◌else◌}
+use Rattle.std.specs.List.{AllByRecursion}
 use Rattle.std.specs.Str.{bytes_eq}
 use Rattle.std.specs.declared.alloc.Global.{Global}
 use Rattle.maildrop.specs.Kept.{KeptMaildrop, KeptTable, kept_for, nothing_kept}
 use Rattle.maildrop.specs.Changes.{changed}
 use Rattle.ledger.specs.Payloads.{payload, begin_payload, opened_payload}
+use Rattle.ledger.specs.Reading.{record_in}
 use Rattle.ledger.specs.declared.entry.Entry.{Entry}
-use Rattle.records.specs.Files.{IsReadAs}
+use Rattle.ledger.specs.declared.entry.Record.TheVariants as said
+use Rattle.records.specs.Files.{IsReadAs, IsUndamaged}
 use Rattle.records.specs.Readers.{HasRead}
 use Rattle.records.specs.Readers as readers
 use Rattle.store.specs.declared.loading.Loaded.{Loaded}
@@ -23,6 +26,10 @@ pub record Loading (A : Type 0) : Type 0 where
 module _ {A : Type 0} where
   abbrev pub entry_payload : Entry A → List ℕ
   entry_payload entry = payload entry.slot entry.name entry.change
+
+  -- an entry is what its payload says
+  abbrev pub IsReadBack : Entry A → Type 0
+  IsReadBack entry = record_in (entry_payload entry) ≡ Ok (said.Entry entry)
 
   -- what is kept under a name after an entry, and after entries, one after another
   abbrev pub kept_step : List ℕ → KeptMaildrop A → Entry A → KeptMaildrop A
@@ -44,6 +51,7 @@ module _ {A : Type 0} where
     pub snapshot : List (Entry A)
     pub epoch : List (Entry A)
     pub said : AreSaid l.stage l.number payloads snapshot epoch
+    pub read_back : AllByRecursion IsReadBack (snapshot ++ epoch)
     pub kept : (name : List ℕ) → kept_for name l.kept ≡ kept_by name nothing_kept (snapshot ++ epoch)
     pub count : l.changes ≡ length epoch
 
@@ -66,9 +74,10 @@ abbrev pub loading_of : Loaded → Loading Global
 loading_of loaded = record { number = loaded.number; stage = Running; kept = loaded.kept; changes = loaded.changes }
 
 -- A file with these bytes is the segment with this number, and this was loaded of it: what is kept under each name comes of
--- nothing by the changes in the file's records, one after another.
+-- nothing by the changes in the file's records, one after another. If a record is bad, none that is whole follows it.
 pub record IsSegment (number : ℕ) (bytes : List ℕ) (loaded : Loaded) : Type 0 where
   pub payloads : List (List ℕ)
   pub read : IsReadAs bytes payloads loaded.ending
+  pub undamaged : IsUndamaged loaded.ending
   pub taken : HasLoaded payloads (loading_of loaded)
   pub number_is : loaded.number ≡ number

@@ -1,10 +1,14 @@
 -- A segment whose epoch runs, and what is to be added to it.
-use Rattle.std.specs.Prelude.{◌≡◌, ℕ, ◌+◌, List, [], ◌∷◌, ◌++◌, length, map}
+use Rattle.std.specs.Prelude.{◌≡◌, ℕ, ◌+◌, List, ◌∷◌, ◌++◌, length, map}
 use Rattle.std.specs.declared.alloc.Global.{Global}
-use Rattle.records.specs.Spelling.{spelled, file_of}
+use Rattle.maildrop.specs.Office.{User}
+use Rattle.maildrop.specs.declared.command.Command.{Command}
+use Rattle.records.specs.Spelling.{size_of, spelled, file_of}
 use Rattle.ledger.specs.Payloads.{begin_payload, opened_payload}
+use Rattle.ledger.specs.Taking.{Decided, LedgerState, entries_of}
 use Rattle.ledger.specs.declared.entry.Entry.{Entry}
 use Rattle.store.specs.Loading.{entry_payload}
+use Rattle.store.specs.Restarts.{users_through}
 
 -- the payloads of a segment: its number, the entries of the snapshot, their end, and the entries of the epoch so far
 abbrev pub running_payloads : ℕ → List (Entry Global) → List (Entry Global) → List (List ℕ)
@@ -41,3 +45,30 @@ pub record IsAddition (addition : Addition) : Type 0 where
 pub record IsEntry (payload : List ℕ) : Type 0 where
   pub entry : Entry Global
   pub is : payload ≡ entry_payload entry
+
+-- records with these payloads come after those that are to be added
+abbrev pub with_payloads : Addition → List (List ℕ) → Addition
+with_payloads addition payloads = record addition {
+  place = addition.place + size_of payloads;
+  bytes = addition.bytes ++ spelled addition.salt addition.place payloads;
+}
+
+-- the payloads of what commands change, one after another
+abbrev pub payloads_of : List (User Global) → List (Decided Global) → List (List ℕ)
+payloads_of users decided = map entry_payload (entries_of users decided)
+
+-- commands, each with its slot
+abbrev pub decided_of : List (ℕ × Command Global) → List (Decided Global)
+decided_of commands = map (λ c. record { slot = c.0; command = c.1 }) commands
+
+-- A ledger and what is to be added, before and after these commands: the ledger has taken each of them once, in their order,
+-- and what they change is to be added.
+pub record HaveTaken (decided : List (Decided Global)) (ledger : LedgerState Global) (pending : Addition) (ledger_after : LedgerState Global) (pending_after : Addition) : Type 0 where
+  pub users_are : ledger_after.users ≡ users_through ledger.users decided
+  pub count : ledger_after.taken ≡ ledger.taken + length decided
+  pub added : pending_after ≡ with_payloads pending (payloads_of ledger.users decided)
+
+-- some commands were taken
+abbrev pub TakesSome : LedgerState Global → Addition → LedgerState Global → Addition → Type 0
+TakesSome ledger pending ledger_after pending_after =
+    (commands : List (ℕ × Command Global)) × HaveTaken (decided_of commands) ledger pending ledger_after pending_after

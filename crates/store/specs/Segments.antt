@@ -1,5 +1,5 @@
 -- What stands in a segment.
-use Rattle.std.specs.Prelude.{◌≡◌, ℕ, ◌+◌, Bool, List, [], ◌∷◌, ◌++◌, length, map, refl}
+use Rattle.std.specs.Prelude.{ℕ, Bool, List, [], ◌∷◌, ◌++◌, length, map}
 use Rattle.std.specs.List.{flat_map}
 use Rattle.maildrop.specs.Kept.{KeptMaildrop, KeptTable, kept_for}
 use Rattle.maildrop.specs.Key.{last_keys}

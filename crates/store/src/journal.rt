@@ -1,6 +1,6 @@
 //! The journal of an epoch: what its commands change is on the disk before anybody hears of it.
-ghost use Rattle.std.specs.Prelude.{◌≡◌};
-ghost use Rattle.store.specs.Running.{IsRunning, IsWhole};
+ghost use Rattle.std.specs.Prelude.{◌≡◌, ◌∷◌, [], true, false};
+ghost use Rattle.store.specs.Running.{HaveTaken, IsRunning, IsWhole, TakesSome, decided_of};
 
 use crate::device::Device;
 use crate::pending::Pending;
@@ -45,7 +45,9 @@ pub struct Journal<D: Device> {
 
 impl State {
     /// Takes the next command, and adds the record of what it changes to those that are pending.
-    fn take(&mut self, slot: u64, command: &SharedCommand) -> bool {
+    fn take(&mut self, slot: u64, command: &SharedCommand) -> bool
+        ensures { result ≡ true → HaveTaken (decided_of ((slot, command.now) ∷ [])) self.old.ledger self.old.pending self.new.ledger self.new.pending }
+    {
         let mut payload = Vec::new(self.alloc);
         match self.ledger.take(slot, command.get(), &mut payload) {
             Ok(true) => self.pending.add(&payload).is_ok(),
@@ -55,7 +57,9 @@ impl State {
     }
 
     /// Takes commands. Answers false if one can't be taken.
-    fn take_all(&mut self, commands: &[(Slot, SharedCommand)]) -> bool {
+    fn take_all(&mut self, commands: &[(Slot, SharedCommand)]) -> bool
+        ensures { result ≡ true → HaveTaken (decided_of commands.now) self.old.ledger self.old.pending self.new.ledger self.new.pending }
+    {
         for one in commands {
             if !self.take(one.0.get(), &one.1) {
                 return false;
@@ -66,7 +70,9 @@ impl State {
 
     /// Takes what was performed since. Answers whether all was taken: not if the performer doesn't know it. Fails for good if
     /// a command can't be taken.
-    fn take_performed<P: Performer>(&mut self, performer: &P) -> bool {
+    fn take_performed<P: Performer>(&mut self, performer: &P) -> bool
+        ensures { result ≡ true → TakesSome self.old.ledger self.old.pending self.new.ledger self.new.pending }
+    {
         if self.has_failed {
             return false;
         }
@@ -88,13 +94,22 @@ impl State {
 
 impl State {
     /// The records that are pending. The caller writes them, and nobody else does meanwhile.
-    fn begin_write(&mut self) -> Pending {
+    fn begin_write(&mut self) -> Pending
+        ensures taken { result ≡ self.old.pending }
+        ensures ledger { self.new.ledger ≡ self.old.ledger }
+        ensures left { self.new.pending ≡ record { salt = self.old.pending.salt; start = self.old.pending.place; place = self.old.pending.place; bytes = [] } }
+    {
         self.is_busy = true;
         self.pending.take(self.alloc)
     }
 
     /// All that was added up to this time is on the disk, or the write has failed.
-    fn end_write(&mut self, upto: u64, is_written: bool) {
+    fn end_write(&mut self, upto: u64, is_written: bool)
+        ensures written { is_written ≡ true → (self.new.synced ≡ upto) × (self.new.has_failed ≡ self.old.has_failed) }
+        ensures failed { is_written ≡ false → (self.new.synced ≡ self.old.synced) × (self.new.has_failed ≡ true) }
+        ensures free { self.new.is_busy ≡ false }
+        ensures pending { self.new.pending ≡ self.old.pending }
+    {
         self.is_busy = false;
         if is_written {
             self.synced = upto;

@@ -1,65 +1,25 @@
 //! Reads a segment.
-ghost use Rattle.std.specs.Prelude.{◌≡◌, ◌+◌, ◌<◌, ◌≤◌, ◌++◌, ◌∷◌, [], List, ℕ, length, take, true, Some, OnOk, OnErr, IfOk};
+ghost use Rattle.std.specs.Prelude.{◌≡◌, ◌+◌, ◌<◌, ◌≤◌, ◌++◌, ◌∷◌, [], List, ℕ, length, take, true, Some, Ok, OnOk, OnErr, IfOk};
 ghost use Rattle.std.specs.Io.KnownBytes.{Consumes, IsAtEnd};
 ghost use Rattle.maildrop.specs.Kept.{kept_for};
 ghost use Rattle.ledger.specs.Payloads.{record_payload};
+ghost use Rattle.ledger.specs.Reading.{record_in};
 ghost use Rattle.records.specs.Files.{IsUndamaged};
 ghost use Rattle.records.specs.Readers.{IsDrained};
 ghost use Rattle.store.specs.Loading.{HasLoaded, IsInStep, IsSegment, kept_step, loading_of};
 
 use crate::batch::{FRAME, HEAD};
+use crate::fault::StoreFault;
 use ballot::Memory;
 use ledger::{Entry, PayloadFault, Record, read_record};
 use maildrop::{Kept, Name};
 use records::{Ending, Reader};
-use std::alloc::{AllocError, AllocFailed, Global};
+use std::alloc::Global;
 use std::io::{ErrorKind, Read};
 use std::marker::Model;
 
 /// How many bytes are read at a time.
 const PIECE: usize = 1 << 18;
-
-/// Why a segment isn't loaded.
-#[derive(Clone, Copy, Debug, PartialEq, Eq)]
-pub enum LoadFault {
-    /// What stands at this place can't have been written so.
-    Damaged(u64),
-    Memory,
-    Read,
-}
-
-impl From<Memory> for LoadFault {
-    ghost use Rattle.std.specs.Prelude.{◌≡◌};
-    ghost use Rattle.store.specs.declared.loading.LoadFault.TheVariants as fault;
-
-    ghost from_gives = { λ _ f. f ≡ fault.Memory };
-
-    fn from(_error: Memory) -> LoadFault {
-        LoadFault::Memory
-    }
-}
-
-impl From<AllocError> for LoadFault {
-    ghost use Rattle.std.specs.Prelude.{◌≡◌};
-    ghost use Rattle.store.specs.declared.loading.LoadFault.TheVariants as fault;
-
-    ghost from_gives = { λ _ f. f ≡ fault.Memory };
-
-    fn from(_error: AllocError) -> LoadFault {
-        LoadFault::Memory
-    }
-}
-
-impl<T: Drop> From<AllocFailed<T>> for LoadFault {
-    ghost use Rattle.std.specs.Prelude.{◌≡◌};
-    ghost use Rattle.store.specs.declared.loading.LoadFault.TheVariants as fault;
-
-    ghost from_gives = { λ _ f. f ≡ fault.Memory };
-
-    fn from(_error: AllocFailed<T>) -> LoadFault {
-        LoadFault::Memory
-    }
-}
 
 /// Changes what is kept of the user of an entry. Returns whether it can change so.
 fn change_entry(kept: &mut Kept, entry: &Entry) -> Result<bool, Memory>
@@ -116,6 +76,14 @@ impl Loader {
         }
     }
 
+    /// What stands at this place was not written so.
+    fn damaged_at(&self, place: u64) -> StoreFault {
+        StoreFault::Damaged {
+            segment: self.number,
+            at: place,
+        }
+    }
+
     /// Changes what is kept. Returns whether it can change so.
     fn change(&mut self, entry: &Entry) -> Result<bool, Memory>
         ensures kept { IfOk result (λ can. can ≡ true → (name : List ℕ) → kept_for name self.new.kept ≡ kept_step name (kept_for name self.old.kept) entry.now) }
@@ -140,6 +108,7 @@ impl Loader {
 
     /// Takes what a payload says. Returns whether it can come there.
     fn take_said(&mut self, said: &Record) -> Result<bool, Memory>
+        requires { record_in (record_payload said.now) ≡ Ok said.now }
         ensures number { self.new.number ≡ self.old.number }
         ensures taken { (payloads : List (List ℕ)) → HasLoaded payloads self.old → IfOk result (λ can. can ≡ true → HasLoaded (payloads ++ record_payload said.now ∷ []) self.new) }
     {
@@ -162,17 +131,17 @@ impl Loader {
     }
 
     /// Takes the next payload.
-    pub(crate) fn take(&mut self, payload: &[u8]) -> Result<(), LoadFault>
+    pub(crate) fn take(&mut self, payload: &[u8]) -> Result<(), StoreFault>
         ensures number { OnOk result (self.new.number ≡ self.old.number) }
         ensures taken { (payloads : List (List ℕ)) → HasLoaded payloads self.old → OnOk result (HasLoaded (payloads ++ payload.now ∷ []) self.new) }
     {
         let said = match read_record(self.alloc, payload) {
             Ok(said) => said,
-            Err(PayloadFault::Memory) => return Err(LoadFault::Memory),
-            Err(_) => return Err(LoadFault::Damaged(self.place)),
+            Err(PayloadFault::Memory) => return Err(StoreFault::Memory),
+            Err(_) => return Err(self.damaged_at(self.place)),
         };
         if !self.take_said(&said)? {
-            return Err(LoadFault::Damaged(self.place));
+            return Err(self.damaged_at(self.place));
         }
         let size = FRAME.saturating_add(payload.len() as u64);
         self.place = self.place.saturating_add(size);
@@ -195,7 +164,7 @@ pub struct Loaded {
 
 impl Loader {
     /// Takes the records that have come whole.
-    fn take_records(&mut self, reader: &mut Reader) -> Result<(), LoadFault>
+    fn take_records(&mut self, reader: &mut Reader) -> Result<(), StoreFault>
         ensures taken { (bytes : List ℕ) → IsInStep bytes reader.old self.old → OnOk result (IsInStep bytes reader.new self.new) }
         ensures drained { OnOk result (IsDrained reader.new) }
         ensures number { OnOk result (self.new.number ≡ self.old.number) }
@@ -207,7 +176,7 @@ impl Loader {
     }
 
     /// Takes the next bytes of the file.
-    fn take_piece(&mut self, reader: &mut Reader, piece: &[u8]) -> Result<(), LoadFault>
+    fn take_piece(&mut self, reader: &mut Reader, piece: &[u8]) -> Result<(), StoreFault>
         ensures taken { (bytes : List ℕ) → IsInStep bytes reader.old self.old → OnOk result (IsInStep (bytes ++ piece.now) reader.new self.new) }
         ensures drained { OnOk result (IsDrained reader.new) }
         ensures number { OnOk result (self.new.number ≡ self.old.number) }
@@ -217,26 +186,26 @@ impl Loader {
     }
 
     /// What was read of the segment, of which all bytes have come.
-    fn end(self, reader: Reader) -> Result<Loaded, LoadFault>
+    fn end(self, reader: Reader) -> Result<Loaded, StoreFault>
         ensures { (bytes : List ℕ) → IsInStep bytes reader self → IsDrained reader → IfOk result (λ loaded. IsSegment self.number bytes loaded) }
     {
         self.finish(reader.finish())
     }
 
     /// What was read of the segment, which ends so.
-    fn finish(self, ending: Ending) -> Result<Loaded, LoadFault>
+    fn finish(self, ending: Ending) -> Result<Loaded, StoreFault>
         ensures loaded { (payloads : List (List ℕ)) → HasLoaded payloads self → IfOk result (λ loaded. HasLoaded payloads (loading_of loaded)) }
         ensures number { IfOk result (λ loaded. loaded.number ≡ self.number) }
         ensures ending { IfOk result (λ loaded. loaded.ending ≡ ending) }
         ensures undamaged { OnOk result (IsUndamaged ending) }
     {
         match ending {
-            Ending::Damaged(place) => return Err(LoadFault::Damaged(place)),
-            Ending::NotASegment => return Err(LoadFault::Damaged(0)),
+            Ending::Damaged(place) => return Err(self.damaged_at(place)),
+            Ending::NotASegment => return Err(self.damaged_at(0)),
             Ending::Clean(_) | Ending::Cut(_) | Ending::Torn(_) => {}
         }
         if self.stage != Stage::Running {
-            return Err(LoadFault::Damaged(self.place));
+            return Err(self.damaged_at(self.place));
         }
         Ok(Loaded {
             number: self.number,
@@ -248,22 +217,22 @@ impl Loader {
 }
 
 /// Reads the next bytes of a file into `piece`, which has room, and returns how many: none at its end.
-fn read_piece<R: Read>(source: &mut R, piece: &mut [u8]) -> Result<usize, LoadFault>
+fn read_piece<R: Read>(source: &mut R, piece: &mut [u8]) -> Result<usize, StoreFault>
     ensures count { IfOk result (λ n. n ≤ length piece.new) }
     ensures bytes { IfOk result (λ n. Consumes (R.remaining source.old) (R.remaining source.new) (take n piece.new)) }
     ensures end { IfOk result (λ n. n ≡ 0 → IsAtEnd (R.remaining source.new)) }
 {
     if piece.is_empty() {
-        return Err(LoadFault::Read);
+        return Err(StoreFault::Read);
     }
     for _ in 0..u64::MAX {
         match source.read(piece) {
             Ok(count) => return Ok(count),
             Err(error) if error.kind() == ErrorKind::Interrupted => {}
-            Err(_) => return Err(LoadFault::Read),
+            Err(_) => return Err(StoreFault::Read),
         }
     }
-    Err(LoadFault::Read)
+    Err(StoreFault::Read)
 }
 
 /// Reads the segment with this number. Takes memory for what is kept, for a piece of the file and for one record at a time.
@@ -271,7 +240,7 @@ fn read_piece<R: Read>(source: &mut R, piece: &mut [u8]) -> Result<usize, LoadFa
 /// `Damaged` is the place of the first record that can't have been written so: one that `records` finds damaged, that
 /// is no payload, that changes what can't change so, or that stands where it can't. A file with that name has its snapshot
 /// whole, so one that ends before is damaged where it ends.
-pub fn load<R: Read>(alloc: Global, number: u64, source: &mut R) -> Result<Loaded, LoadFault>
+pub fn load<R: Read>(alloc: Global, number: u64, source: &mut R) -> Result<Loaded, StoreFault>
     ensures { (bytes : List ℕ) → R.remaining source.old ≡ Some bytes → IfOk result (λ loaded. IsSegment number bytes loaded) }
 {
     let mut room = vec![in alloc; 0u8; PIECE]?;
@@ -286,5 +255,5 @@ pub fn load<R: Read>(alloc: Global, number: u64, source: &mut R) -> Result<Loade
         let (read, _) = piece.split_at(count);
         loader.take_piece(&mut reader, read)?;
     }
-    Err(LoadFault::Read)
+    Err(StoreFault::Read)
 }

@@ -1,6 +1,6 @@
 //! Records of an epoch that are to be added to its segment.
-ghost use Rattle.std.specs.Prelude.{◌≡◌, ◌++◌, [], OnOk, OnErr};
-ghost use Rattle.store.specs.Running.{Addition, IsAddition, IsEntry};
+ghost use Rattle.std.specs.Prelude.{◌≡◌, ◌∷◌, [], OnOk, OnErr};
+ghost use Rattle.store.specs.Running.{Addition, IsAddition, IsEntry, with_payloads};
 
 use crate::batch::Batch;
 use crate::fault::StoreFault;
@@ -54,7 +54,8 @@ impl Pending {
     /// Adds the record of an entry. After an error nothing has changed.
     pub(crate) fn add(&mut self, payload: &[u8]) -> Result<(), StoreFault>
         requires { IsEntry payload.now }
-        ensures { OnErr result (self.new ≡ self.old) }
+        ensures added { OnOk result (self.new ≡ with_payloads self.old (payload.now ∷ [])) }
+        ensures kept { OnErr result (self.new ≡ self.old) }
     {
         self.batch.add(payload)?;
         Ok(())

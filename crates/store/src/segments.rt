@@ -8,7 +8,7 @@ ghost use Rattle.store.specs.Segments.{snapshot_payloads};
 use crate::fault::StoreFault;
 use crate::folder::Folder;
 use crate::growing::Growing;
-use crate::loading::{LoadFault, Loaded, load};
+use crate::loading::{Loaded, load};
 use crate::snapshot::write_snapshot;
 use maildrop::Kept;
 use std::alloc::Global;
@@ -58,15 +58,7 @@ pub fn load_segment<F: Folder>(
     number: u64,
 ) -> Result<Loaded, StoreFault> {
     let mut source = folder.open(number)?;
-    match load(alloc, number, &mut source) {
-        Ok(loaded) => Ok(loaded),
-        Err(LoadFault::Damaged(at)) => Err(StoreFault::Damaged {
-            segment: number,
-            at,
-        }),
-        Err(LoadFault::Memory) => Err(StoreFault::Memory),
-        Err(LoadFault::Read) => Err(StoreFault::Read),
-    }
+    load(alloc, number, &mut source)
 }
 
 /// Reads the newest segment. `NotBegun` if there is none.

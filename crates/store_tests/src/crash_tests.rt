@@ -12,7 +12,7 @@ use std::rt::Files;
 use std::sync::Wait;
 use std::sync::atomic::{AtomicU64, Ordering};
 use std::test::*;
-use store::{DataFolder, FileDevice, Journal, LoadFault, StoreFault, SyncMode, load};
+use store::{DataFolder, FileDevice, Journal, StoreFault, SyncMode, load};
 
 /// How many steps are performed.
 const STEPS: usize = 4;
@@ -194,12 +194,12 @@ fn damage_is_refused_with_its_place(rt: HostRuntime) -> Result<(), Fail> {
     // A segment that ends before its snapshot does was never published.
     let mut front = bytes.get(..45).unwrap_or(&[]);
     check(
-        load(alloc, 2, &mut front).err() == Some(LoadFault::Damaged(45)),
+        load(alloc, 2, &mut front).err() == Some(StoreFault::Damaged { segment: 2, at: 45 }),
         "no snapshot",
     )?;
     let mut front = bytes.get(..45).unwrap_or(&[]);
     check(
-        load(alloc, 3, &mut front).err() == Some(LoadFault::Damaged(16)),
+        load(alloc, 3, &mut front).err() == Some(StoreFault::Damaged { segment: 3, at: 16 }),
         "another number",
     )
 }

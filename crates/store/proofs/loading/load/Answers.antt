@@ -1,4 +1,4 @@
-use Rattle.std.proofs.Common.{rules, ◌≡◌, ◌∙◌, ℕ, [], refl, sym, subst, take}
+use Rattle.std.proofs.Common.{rules, ◌≡◌, ◌∙◌, sym, subst, take}
 use Rattle.std.specs.Prelude.{IfOk}
 use Rattle.std.specs.Io.KnownBytes.{Consumes}
 use Rattle.store.specs.Loading.{IsSegment}
