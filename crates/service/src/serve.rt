@@ -169,6 +169,9 @@ fn judge<R: System>(
         None if life.stages().lacks_majority(rt) => Some(Fault::NoMajority),
         fault => fault,
     };
+    if let Some(fault) = fault {
+        note_fault(rt, alloc, life.log(), fault);
+    }
     RunEnd {
         left,
         epochs: past.told(),
