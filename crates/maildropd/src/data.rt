@@ -12,7 +12,7 @@ use std::fs::File;
 use std::io;
 use std::random::RandomSource;
 use std::rt::Files;
-use store::{DataFolder, Found, Report, check, read_newest};
+use store::{DataFolder, Found, Report, StoreFault, check, read_newest};
 
 /// The line that begins each exported message.
 const FROM_LINE: &[u8] = b"From maildropd Thu Jan  1 00:00:00 1970";
@@ -56,14 +56,16 @@ pub(crate) fn export_command<'a>(alloc: Global) -> Result<Command<'a>, Error> {
     Ok(with_options(alloc, export, OPTIONS)?.arg(name)?)
 }
 
-/// Reports a fault, after the path of the folder if it is one of the folder. Returns the status.
-fn refuse<R: Eprint>(rt: &R, path: &str, fault: Fault) -> u8 {
-    if fault.is_of_folder() {
-        let _untold = eprintln!(rt; "maildropd: {path}{fault}");
-    } else {
-        let _untold = eprintln!(rt; "maildropd: {fault}");
-    }
+/// Reports a fault. Returns the status.
+fn refuse<R: Eprint>(rt: &R, fault: Fault) -> u8 {
+    let _untold = eprintln!(rt; "maildropd: {fault}");
     fault.status()
+}
+
+/// Reports why a folder can't be used. Returns the status.
+fn refuse_folder<R: Eprint>(rt: &R, path: &str, fault: StoreFault) -> u8 {
+    let _untold = eprintln!(rt; "maildropd: {path}{fault}");
+    fault_of_store(fault).status()
 }
 
 pub(crate) fn run_begin<R: AllocGlobal + Files<File = File> + RandomSource + Copy + Eprint>(
@@ -73,11 +75,11 @@ pub(crate) fn run_begin<R: AllocGlobal + Files<File = File> + RandomSource + Cop
     let path = text_of(matches, "data");
     let mut salt = [0u8; 8];
     if rt.fill_bytes(&mut salt).is_err() {
-        return refuse(rt, path, Fault::Read);
+        return refuse(rt, Fault::Read);
     }
     match DataFolder::begin(rt, rt.alloc(), path, u64::from_be_bytes(salt)) {
         Ok(()) => 0,
-        Err(fault) => refuse(rt, path, fault_of_store(fault)),
+        Err(fault) => refuse_folder(rt, path, fault),
     }
 }
 
@@ -112,17 +114,20 @@ pub(crate) fn run_check<R: AllocGlobal + Files<File = File> + Copy + Print + Epr
 ) -> u8 {
     let path = text_of(matches, "data");
     let reports = match check(rt, rt.alloc(), path) {
-        Ok(reports) if reports.is_empty() => return refuse(rt, path, Fault::NotBegun),
+        Ok(reports) if reports.is_empty() => return refuse_folder(rt, path, StoreFault::NotBegun),
         Ok(reports) => reports,
-        Err(fault) => return refuse(rt, path, fault_of_store(fault)),
+        Err(fault) => return refuse_folder(rt, path, fault),
     };
     let mut status = 0;
     for report in &reports {
         match report.found {
-            Found::Damaged(at) => status = refuse(rt, path, Fault::Damaged(report.number, at)),
+            Found::Damaged(at) => {
+                let segment = report.number;
+                status = refuse_folder(rt, path, StoreFault::Damaged { segment, at });
+            }
             _ => {
                 if let Err(fault) = print_segment(rt, report) {
-                    return refuse(rt, path, fault);
+                    return refuse(rt, fault);
                 }
             }
         }
@@ -146,14 +151,14 @@ pub(crate) fn run_export<R: AllocGlobal + Files<File = File> + Copy + Print + Ep
 ) -> u8 {
     let path = text_of(matches, "data");
     let Some(name) = Name::new(text_of(matches, "name").as_bytes()) else {
-        return refuse(rt, path, Fault::Value);
+        return refuse(rt, Fault::Value);
     };
     let loaded = match read_newest(rt, rt.alloc(), path) {
         Ok(loaded) => loaded,
-        Err(fault) => return refuse(rt, path, fault_of_store(fault)),
+        Err(fault) => return refuse_folder(rt, path, fault),
     };
     match write_mailbox(rt, loaded.kept.messages(&name)) {
         Ok(()) => 0,
-        Err(fault) => refuse(rt, path, fault),
+        Err(fault) => refuse(rt, fault),
     }
 }

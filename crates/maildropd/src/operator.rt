@@ -14,7 +14,7 @@ const REQUESTS: &str = "Requests:
   put NODE USER [KEY]           Delivers one message, which is read from standard input as it is; NODE 0 is any node that is up. Under a key of any characters it is stored once
   break NODE USER               Takes the user's lock from the session that has it
   kick USER                     Cuts the user's sessions, and reports how many these were
-  crash NODE                    Stops a node, for good, and takes the locks from its sessions
+  crash NODE                    Stops a node until the epoch ends, and takes the locks from its sessions
   status                        Reports the state of each node
   sessions                      Lists the sessions that are open
   stats                         Reports what the service has done so far

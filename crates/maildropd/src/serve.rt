@@ -18,6 +18,9 @@ use std::thread::Threads;
 use std::time::Clock;
 use store::SyncMode;
 
+/// How many segments stay in a data folder by default.
+const KEPT_SEGMENTS: u64 = 2;
+
 /// What `--help` shows below the options.
 const EXAMPLES: &str = "Examples, with a line `alice pass secret` in the file accounts:
   maildropd serve --accounts accounts --port 11000 --ctl-port 11999
@@ -208,15 +211,15 @@ const OPTIONS: &[Choice] = &[
         name: "sync",
         value: "WHEN",
         kind: Kind::Text,
-        presence: Presence::Default("disk"),
-        help: "With --data: disk answers a change once it is on the disk, process once it is written, so that it outlives the process but no loss of power",
+        presence: Presence::Optional,
+        help: "With --data: disk answers a change once it is on the disk, process once it is written, so that it outlives the process but no loss of power [default: disk]",
     },
     Choice {
         name: "keep",
         value: "COUNT",
         kind: Kind::Number,
-        presence: Presence::Default("2"),
-        help: "With --data: how many segments stay in the folder, the last ones, 1 to 1000000",
+        presence: Presence::Optional,
+        help: "With --data: how many segments stay in the folder, the last ones, 1 to 1000000 [default: 2]",
     },
     Choice {
         name: "log",
@@ -255,11 +258,26 @@ fn sync_of(word: &str) -> Option<SyncMode> {
     }
 }
 
+/// How a data folder is used: when a change is answered, and how many segments stay. Nothing if a word is none, or is given
+/// without a folder: whoever forgets the folder would lose the mail.
+fn folder_use_of(matches: &ArgMatches<'_>) -> Option<(SyncMode, u64)> {
+    let sync = optional_text_of(matches, "sync");
+    let keep = optional_number_of(matches, "keep");
+    if optional_text_of(matches, "data").is_none() && (sync.is_some() || keep.is_some()) {
+        return None;
+    }
+    let sync = match sync {
+        Some(word) => sync_of(word)?,
+        None => SyncMode::Disk,
+    };
+    Some((sync, keep.unwrap_or(KEPT_SEGMENTS)))
+}
+
 /// What the options say, or nothing if the address or a word is none.
 fn options_of<'a>(matches: &ArgMatches<'a>) -> Option<ServeOptions<'a>> {
     let listen = text_of(matches, "listen").parse::<IpAddr>().ok()?;
     let on_fault = on_fault_of(text_of(matches, "on-fault"))?;
-    let sync = sync_of(text_of(matches, "sync"))?;
+    let (sync, keep) = folder_use_of(matches)?;
     Some(ServeOptions {
         accounts: text_of(matches, "accounts"),
         port: optional_number_of(matches, "port"),
@@ -285,7 +303,7 @@ fn options_of<'a>(matches: &ArgMatches<'a>) -> Option<ServeOptions<'a>> {
         log: optional_text_of(matches, "log"),
         data: optional_text_of(matches, "data"),
         sync,
-        keep: number_of(matches, "keep"),
+        keep,
     })
 }
 
