@@ -4,29 +4,10 @@ ghost use Rattle.std.specs.Prelude.{◌≡◌, ◌++◌, ◌≤◌, length, take
 ghost use Rattle.script.specs.Output as spec;
 
 use crate::refusal::Refusal;
+use crate::writing::{put, put_number};
 use ballot::{Memory, NodeId, Slot};
-use itoa::Buffer;
 use maildrop::{Command, Name, Op, Outcome, Ticket, next_line};
 use std::alloc::Allocator;
-
-/// Adds bytes. After `Memory` nothing is left of what was written after the first `start` bytes.
-fn put<A: Allocator>(out: &mut Vec<u8, A>, start: usize, bytes: &[u8]) -> Result<(), Memory>
-    ensures { out.new.items ≡ (if is_ok result then out.old.items ++ bytes.now else take start out.old.items) }
-{
-    if out.extend_from_slice(bytes).is_err() {
-        out.truncate(start);
-        return Err(Memory);
-    }
-    Ok(())
-}
-
-/// Adds a number in decimal, without leading zeros. After `Memory` as `put`.
-fn put_number<A: Allocator>(out: &mut Vec<u8, A>, start: usize, number: u64) -> Result<(), Memory>
-    ensures { out.new.items ≡ (if is_ok result then out.old.items ++ decimal number else take start out.old.items) }
-{
-    let mut buffer = Buffer::new();
-    put(out, start, buffer.format(number).as_bytes())
-}
 
 /// Adds `USER NODE/SEQ`. After `Memory` as `put`.
 fn put_command<A: Allocator>(

@@ -1,22 +1,33 @@
 //! Adds to what is written.
-ghost use Rattle.std.specs.Prelude.{◌≡◌, ◌++◌, OnOk, decimal};
+ghost use Rattle.std.specs.Prelude.{◌≡◌, ◌++◌, take, is_ok, if◌then◌else◌, decimal};
 
 use ballot::Memory;
 use itoa::Buffer;
 use std::alloc::Allocator;
 
-/// Adds bytes.
-pub(crate) fn put<A: Allocator>(out: &mut Vec<u8, A>, bytes: &[u8]) -> Result<(), Memory>
-    ensures { OnOk result (out.new.items ≡ out.old.items ++ bytes.now) }
+/// Adds bytes. After `Memory` nothing is left of what was written after the first `start` bytes.
+pub(crate) fn put<A: Allocator>(
+    out: &mut Vec<u8, A>,
+    start: usize,
+    bytes: &[u8],
+) -> Result<(), Memory>
+    ensures { out.new.items ≡ (if is_ok result then out.old.items ++ bytes.now else take start out.old.items) }
 {
-    out.extend_from_slice(bytes)?;
+    if out.extend_from_slice(bytes).is_err() {
+        out.truncate(start);
+        return Err(Memory);
+    }
     Ok(())
 }
 
-/// Adds a number in decimal, without leading zeros.
-pub(crate) fn put_number<A: Allocator>(out: &mut Vec<u8, A>, number: u64) -> Result<(), Memory>
-    ensures { OnOk result (out.new.items ≡ out.old.items ++ decimal number) }
+/// Adds a number in decimal, without leading zeros. After `Memory` as `put`.
+pub(crate) fn put_number<A: Allocator>(
+    out: &mut Vec<u8, A>,
+    start: usize,
+    number: u64,
+) -> Result<(), Memory>
+    ensures { out.new.items ≡ (if is_ok result then out.old.items ++ decimal number else take start out.old.items) }
 {
     let mut buffer = Buffer::new();
-    put(out, buffer.format(number).as_bytes())
+    put(out, start, buffer.format(number).as_bytes())
 }
