@@ -1,11 +1,11 @@
 -- The best of logs that are looked at one after another.
-use Rattle.std.proofs.Common.{◌≡◌, ◌∙◌, refl, sym, ap, subst, ℕ, ◌≤◌, ◌<◌, List, [], ◌∷◌, ◌++◌, true, filter, IsTrue, All, append_assoc, arith}
+use Rattle.std.proofs.Common.{◌≡◌, ◌∙◌, refl, sym, ap, subst, ℕ, ◌≤◌, ◌<◌, List, [], ◌∷◌, ◌++◌, Option, Some, None, true, false, filter, IsTrue, All, append_assoc, arith}
 use Rattle.std.specs.declared.alloc.Global.{Global}
 use Rattle.std.proofs.lemmas.List.Elements.{All-nil, All-push, All-weaker}
 use Rattle.maildrop.specs.Kept.{KeptTable, with_others_of}
 use Rattle.maildrop.specs.Name.{are_different}
 use Rattle.node.specs.declared.log.NodeLog.{NodeLog}
-use Rattle.cluster.specs.Bests.{IsEndOf, IsMostOf}
+use Rattle.cluster.specs.Bests.{IsBestOf, IsEndOf, IsMostOf, has_performed_more}
 use Rattle.cluster.specs.Ends.{performed_by, IsLeftBy}
 use Rattle.cluster.specs.Members.{IsLogOf}
 use Rattle.cluster.specs.declared.closed.Left.{Left}
@@ -40,16 +40,27 @@ newer_best logs log best left is end more = record {
       (omega (arith, end.performed));
 }
 
-pub older_best : (logs : List (NodeLog Global)) (log : NodeLog Global) (best left : Left)
-    → IsMostOf logs best → IsEndOf log left → left.performed ≤ best.performed → IsMostOf (logs ++ log ∷ []) best
-older_best logs log best left is end few = record {
+pub older_best : (logs : List (NodeLog Global)) (log : NodeLog Global) (best : Left)
+    → IsMostOf logs best → performed_by log ≤ best.performed → IsMostOf (logs ++ log ∷ []) best
+older_best logs log best is few = record {
   before = is.before;
   log = is.log;
   after = is.after ++ log ∷ [];
   order = ap (λ ls. ls ++ log ∷ []) is.order ∙ append_assoc is.before (is.log ∷ is.after) (log ∷ []);
   end = is.end;
-  most = All-push (λ other. performed_by other ≤ best.performed) logs log is.most (omega (arith, end.performed, few));
+  most = All-push (λ other. performed_by other ≤ best.performed) logs log is.most few;
 }
+
+-- a log that has performed more than the best so far, and one that hasn't
+pub more_best : (logs : List (NodeLog Global)) (log : NodeLog Global) (best : Option Left) (left : Left)
+    → IsBestOf logs best → IsEndOf log left → has_performed_more best left.performed ≡ true → IsMostOf (logs ++ log ∷ []) left
+more_best logs log None left none end more = first_best logs log left none end
+more_best logs log (Some best) left is end more = newer_best logs log best left is end (grind (arith, more))
+
+pub as_best : (logs : List (NodeLog Global)) (log : NodeLog Global) (best : Option Left)
+    → IsBestOf logs best → has_performed_more best (performed_by log) ≡ false → IsBestOf (logs ++ log ∷ []) best
+as_best logs log None none more = absurd (cc more)
+as_best logs log (Some best) is more = older_best logs log best is (grind (arith, more))
 
 -- what is kept by the best of all logs
 pub left_by_best : (setup : Setup) (logs : List (NodeLog Global)) (left : Left) → IsMostOf logs left → IsLeftBy setup logs left.kept

@@ -1,5 +1,5 @@
 -- The log that has performed the most, as the logs of a cluster are looked at one after another.
-use Rattle.std.specs.Prelude.{◌≡◌, ◌≤◌, List, [], ◌∷◌, ◌++◌, Option, Some, None}
+use Rattle.std.specs.Prelude.{◌≡◌, ◌≤◌, ℕ, nat_lt, Bool, true, List, [], ◌∷◌, ◌++◌, Option, Some, None}
 use Rattle.std.specs.List.{All}
 use Rattle.std.specs.declared.alloc.Global.{Global}
 use Rattle.node.specs.declared.log.NodeLog.{NodeLog}
@@ -24,3 +24,8 @@ pub record IsMostOf (logs : List (NodeLog Global)) (left : Left) : Type 0 where
 abbrev pub IsBestOf : List (NodeLog Global) → Option Left → Type 0
 IsBestOf logs None = logs ≡ []
 IsBestOf logs (Some left) = IsMostOf logs left
+
+-- so many commands are more than the best so far has performed
+abbrev pub has_performed_more : Option Left → ℕ → Bool
+has_performed_more None performed = true
+has_performed_more (Some left) performed = nat_lt left.performed performed

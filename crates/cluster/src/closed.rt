@@ -1,81 +1,24 @@
-//! Nodes that were taken away, and what they leave.
-ghost use Rattle.std.specs.Prelude.{◌≡◌, [], ◌∷◌, ◌++◌, true, false, List, Some, IsTrue, IfOk, IfSome};
+//! What nodes leave that were taken away.
+ghost use Rattle.std.specs.Prelude.{◌≡◌, [], ◌∷◌, ◌++◌, List, Some, true, false, IsTrue, IfOk};
 ghost use Rattle.std.specs.declared.alloc.Global.{Global};
 ghost use Rattle.maildrop.specs.Name.{are_different};
 ghost use Rattle.node.specs.Nodes.{IsKnown};
 ghost use Rattle.node.specs.declared.log.NodeLog.{NodeLog};
-ghost use Rattle.cluster.specs.Bests.{IsBestOf, IsEndOf};
-ghost use Rattle.cluster.specs.Ends.{IsLeftBy};
-ghost use Rattle.cluster.specs.Members.{IsLogOf};
+ghost use Rattle.cluster.specs.Bests.{IsBestOf, IsEndOf, has_performed_more};
+ghost use Rattle.cluster.specs.Ends.{IsLeftBy, log_of};
 ghost use Rattle.cluster.specs.declared.setup.Setup.{Setup};
 
-use crate::setup::Deployment;
+use crate::ended_node::EndedNode;
 use ballot::Memory;
 use maildrop::Kept;
 use node::{Node, NodeLog, Stopped, replay};
 use std::alloc::Global;
-use std::marker::{Model, PhantomData};
 
 /// What a log leads to: what is kept of the maildrops, and how many commands were performed.
 #[derive(Drop)]
 pub(crate) struct Left {
     kept: Kept,
     performed: usize,
-}
-
-/// A node of the deployment that was taken away: its log, and what it leaves, which is unknown if it stopped without
-/// memory. Contracts see it as its log.
-#[derive(Drop)]
-pub(crate) struct Closed<D: Deployment> {
-    log: NodeLog,
-    left: Option<Left>,
-    of: PhantomData<D>,
-}
-
-impl<D: Deployment> Model for Closed<D> {
-    ghost use Rattle.std.specs.Prelude.{IfSome};
-    ghost use Rattle.std.specs.declared.alloc.Global.{Global};
-    ghost use Rattle.node.specs.declared.log.NodeLog.{NodeLog};
-    ghost use Rattle.cluster.specs.Bests.{IsEndOf};
-    ghost use Rattle.cluster.specs.Members.{IsLogOf};
-
-    ghost Value = { NodeLog Global };
-
-    ghost view = { λ c. c.log };
-
-    ghost invariant = { λ c. IsLogOf D.setup c.log.opening.me c.log × IfSome c.left (IsEndOf c.log) };
-}
-
-impl<D: Deployment> Closed<D> {
-    /// Closes a node. Takes no memory.
-    pub(crate) fn new(node: Node) -> Self
-        requires { IsLogOf D.setup node.log.opening.me node.log }
-        ensures { result ≡ node.log }
-    {
-        if is_known(node.stopped()) {
-            let (log, left) = close(node);
-            Closed {
-                log,
-                left: Some(left),
-                of: PhantomData,
-            }
-        } else {
-            Closed {
-                log: node.into_log(),
-                left: None,
-                of: PhantomData,
-            }
-        }
-    }
-
-    /// Its log, and what it leaves, if that is known.
-    pub(crate) fn into_parts(self) -> (NodeLog, Option<Left>)
-        ensures log { result.0 ≡ self }
-        ensures own { IsLogOf D.setup result.0.opening.me result.0 }
-        ensures left { IfSome result.1 (IsEndOf result.0) }
-    {
-        (self.log, self.left)
-    }
 }
 
 /// Whether what a node is follows from its log, if it has stopped so: not if it ran out of memory.
@@ -114,15 +57,13 @@ fn replay_end(alloc: Global, log: &NodeLog) -> Result<Left, Memory>
     }
 }
 
-/// What a log leads to. It is known already, or takes memory.
-fn end_of(alloc: Global, log: &NodeLog, known: Option<Left>) -> Result<Left, Memory>
-    requires names { IsTrue (are_different log.now.opening.names) }
-    requires known { IfSome known (λ left. IsEndOf log.now left) }
-    ensures { IfOk result (λ left. IsEndOf log.now left) }
+/// Whether so many commands are more than the best so far has performed.
+fn has_more(best: &Option<Left>, performed: usize) -> bool
+    ensures { result ≡ has_performed_more best.now performed }
 {
-    match known {
-        Some(left) => Ok(left),
-        None => replay_end(alloc, log),
+    match best {
+        Some(best) => best.performed < performed,
+        None => true,
     }
 }
 
@@ -141,22 +82,58 @@ fn better(best: Option<Left>, left: Left) -> Left
     }
 }
 
-/// The best of the logs so far and one more, of which it may be known what it leads to. `Memory` if it wasn't found of one of
-/// them.
+/// The best of the logs so far and that of one more node, which has stopped without memory: its log is replayed, which takes
+/// memory.
+fn next_best_by_log(
+    alloc: Global,
+    best: Option<Left>,
+    node: Node,
+) -> (Result<Option<Left>, Memory>, EndedNode)
+    requires names { IsTrue (are_different node.log.opening.names) }
+    ensures log { log_of result.1 ≡ node.log }
+    ensures best { (logs : List (NodeLog Global)) → IsBestOf logs best → IfOk result.0 (IsBestOf (logs ++ node.log ∷ [])) }
+{
+    let log = node.into_log();
+    match replay_end(alloc, &log) {
+        Ok(left) => (Ok(Some(better(best, left))), EndedNode::Log(log)),
+        Err(Memory) => (Err(Memory), EndedNode::Log(log)),
+    }
+}
+
+/// The best of the logs so far and that of one more node, whose state follows from its log. Only a node that has performed
+/// more than the best is closed. So of nodes that have performed as much only one is. Takes no memory.
+fn next_best_known(best: Option<Left>, node: Node) -> (Option<Left>, EndedNode)
+    requires known { IsKnown node.stopped }
+    ensures log { log_of result.1 ≡ node.log }
+    ensures best { (logs : List (NodeLog Global)) → IsBestOf logs best → IsBestOf (logs ++ node.log ∷ []) result.0 }
+{
+    if has_more(&best, node.performed().len()) {
+        let (log, left) = close(node);
+        (Some(left), EndedNode::Log(log))
+    } else {
+        (best, EndedNode::Whole(node))
+    }
+}
+
+/// The best of the logs so far and that of one more node, which has ended. `Memory` if it wasn't found of one of them.
 pub(crate) fn next_best(
     alloc: Global,
     best: Result<Option<Left>, Memory>,
-    log: &NodeLog,
-    known: Option<Left>,
-) -> Result<Option<Left>, Memory>
-    requires names { IsTrue (are_different log.now.opening.names) }
-    requires known { IfSome known (λ left. IsEndOf log.now left) }
-    ensures { IfOk result (λ next. (logs : List (NodeLog Global)) →
-        IfOk best (λ before. IsBestOf logs before) → IsBestOf (logs ++ log.now ∷ []) next) }
+    node: Node,
+) -> (Result<Option<Left>, Memory>, EndedNode)
+    requires names { IsTrue (are_different node.log.opening.names) }
+    ensures log { log_of result.1 ≡ node.log }
+    ensures best { (logs : List (NodeLog Global)) → IfOk best (IsBestOf logs) → IfOk result.0 (IsBestOf (logs ++ node.log ∷ [])) }
 {
-    let best = best?;
-    let left = end_of(alloc, log, known)?;
-    Ok(Some(better(best, left)))
+    let Ok(best) = best else {
+        return (Err(Memory), EndedNode::Whole(node));
+    };
+    if is_known(node.stopped()) {
+        let (best, node) = next_best_known(best, node);
+        (Ok(best), node)
+    } else {
+        next_best_by_log(alloc, best, node)
+    }
 }
 
 /// What is kept by the best of logs, or what the nodes opened with if there is no log. Only a copy of the latter takes

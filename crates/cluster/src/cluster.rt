@@ -11,14 +11,15 @@ ghost use Rattle.cluster.specs.Starts as spec;
 ghost use Rattle.cluster.specs.Starts.{all_nodes};
 ghost use Rattle.cluster.specs.Users.{AreLocksOf, AreUsagesOf};
 
-use crate::closed::Closed;
 use crate::desk::NodeDesk;
 use crate::ended::{Ended, end_all};
+use crate::ended_node::EndedNode;
 use crate::handle::NodeHandle;
 use crate::hub::{Hub, Inbox};
 use crate::link::{InboxLink, Link};
 use crate::member::Member;
 use crate::outbox::Outbox;
+use crate::retired::Retired;
 use crate::setup::{Deployment, Setup};
 use crate::start_error::StartError;
 use crate::start_links::{can_run, has_window};
@@ -43,8 +44,10 @@ pub struct Cluster<D: Deployment, R: Threads + Wait, L: Link> {
     threads: Vec<JoinHandle<()>>,
     /// What the maildrops opened with.
     kept: Shared<Kept>,
-    /// Room for all nodes once they are closed.
-    closed: Vec<Closed<D>>,
+    /// Room for all nodes once they are taken away.
+    retired: Vec<Retired<D>>,
+    /// Room for all nodes once they have ended.
+    ended: Vec<EndedNode>,
     /// Room for the logs of all nodes.
     logs: Vec<NodeLog>,
 }
@@ -57,7 +60,8 @@ impl<D: Deployment, R: Threads + Wait, L: Link> Model for Cluster<D, R, L> {
 
     ghost view = { λ c. c.nodes.items };
 
-    ghost invariant = { λ c. (c.closed.items ≡ []) × (vec_len c.nodes ≤ vec_capacity c.closed)
+    ghost invariant = { λ c. (c.retired.items ≡ []) × (vec_len c.nodes ≤ vec_capacity c.retired)
+        × (c.ended.items ≡ []) × (vec_len c.nodes ≤ vec_capacity c.ended)
         × (c.logs.items ≡ []) × (vec_len c.nodes ≤ vec_capacity c.logs)
         × (c.kept ≡ D.setup.kept) × IsTrue (are_different D.setup.names) };
 }
@@ -226,7 +230,8 @@ impl<
             nodes: Vec::new(alloc),
             threads: Vec::new(alloc),
             kept,
-            closed: Vec::new(alloc),
+            retired: Vec::new(alloc),
+            ended: Vec::new(alloc),
             logs: Vec::new(alloc),
         };
         for (me, link) in links {
@@ -242,7 +247,8 @@ impl<
         ensures { OnOk result (self.new ≡ self.old ++ me ∷ []) }
     {
         let count = self.nodes.len() + 1;
-        self.closed.reserve(count)?;
+        self.retired.reserve(count)?;
+        self.ended.reserve(count)?;
         self.logs.reserve(count)?;
         self.threads.reserve(1)?;
         self.nodes.reserve(1)?;
@@ -356,9 +362,9 @@ impl<
     /// tickets, whose log is replayed, and for a cluster without a node: `kept` is `Memory` if there is none for that. `None`
     /// if the state of a node isn't under its lock: only this call and letting the cluster go take it away.
     pub fn stop(self) -> Option<Ended>
-        ensures nodes { IfSome result (λ ended. map (λ log. log.opening.me) ended.logs.items ≡ self) }
-        ensures logs { IfSome result (λ ended. All (λ log. IsLogOf D.setup log.opening.me log) ended.logs.items) }
-        ensures kept { IfSome result (λ ended. IfOk ended.kept (λ kept. IsLeftBy D.setup ended.logs.items kept)) }
+        ensures nodes { IfSome result (λ ended. map (λ log. log.opening.me) ended.logs ≡ self) }
+        ensures logs { IfSome result (λ ended. All (λ log. IsLogOf D.setup log.opening.me log) ended.logs) }
+        ensures kept { IfSome result (λ ended. IfOk ended.kept (λ kept. IsLeftBy D.setup ended.logs kept)) }
     {
         let Cluster {
             rt,
@@ -367,12 +373,13 @@ impl<
             nodes,
             threads,
             kept,
-            closed,
+            retired,
+            ended,
             logs,
         } = self;
         end_threads(&rt, alloc, &hub, threads);
-        let closed = retire_all(&rt, &nodes, closed)?;
-        Some(end_all(alloc, kept.get(), closed, logs))
+        let retired = retire_all(&rt, &nodes, retired)?;
+        Some(end_all(alloc, kept.get(), retired, ended, logs))
     }
 }
 
@@ -385,11 +392,12 @@ impl<D: Deployment, R: Threads + Wait + Drop, L: Link + Drop> Drop for Cluster<D
             nodes,
             threads,
             kept: _,
-            closed,
+            retired,
+            ended: _,
             logs: _,
         } = self;
         end_threads(&rt, alloc, &hub, threads);
-        drop(retire_all(&rt, &nodes, closed));
+        drop(retire_all(&rt, &nodes, retired));
     }
 }
 
@@ -419,23 +427,23 @@ fn end_threads<R: Threads + Wait>(rt: &R, alloc: Global, hub: &Hub, threads: Vec
     }
 }
 
-/// Takes all nodes away, and closes them, in their order. `None` if one isn't under its lock. Takes no memory.
+/// Takes all nodes away, in their order. `None` if one isn't under its lock. Takes no memory.
 fn retire_all<D: Deployment, R: Wait, L: Link>(
     rt: &R,
     nodes: &[NodeHandle<D, L>],
-    mut closed: Vec<Closed<D>>,
-) -> Option<Vec<Closed<D>>>
-    requires none { closed.items ≡ [] }
-    requires room { length nodes.now ≤ vec_capacity closed }
-    ensures few { IfSome result (λ closed. vec_len closed ≤ length nodes.now) }
-    ensures all { IfSome result (λ closed. map (λ log. log.opening.me) closed.items ≡ nodes.now) }
+    mut retired: Vec<Retired<D>>,
+) -> Option<Vec<Retired<D>>>
+    requires none { retired.items ≡ [] }
+    requires room { length nodes.now ≤ vec_capacity retired }
+    ensures few { IfSome result (λ retired. vec_len retired ≤ length nodes.now) }
+    ensures all { IfSome result (λ retired. map (λ log. log.opening.me) retired.items ≡ nodes.now) }
 {
     let mut is_whole = true;
     for node in nodes {
         match node.retire(rt) {
-            Some(node) => closed.push_reserved(node),
+            Some(node) => retired.push_reserved(node),
             None => is_whole = false,
         }
     }
-    if is_whole { Some(closed) } else { None }
+    if is_whole { Some(retired) } else { None }
 }

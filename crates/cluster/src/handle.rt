@@ -4,12 +4,12 @@ ghost use Rattle.cluster.specs.Members.{IsAnswered, IsLogOf, IsStatusOf, AreAll}
 ghost use Rattle.cluster.specs.Performed.{ArePerformedAfter};
 ghost use Rattle.cluster.specs.Users.{AreLocksOf, AreUsagesOf};
 
-use crate::closed::Closed;
 use crate::hub::Inbox;
 use crate::link::Link;
 use crate::member::Member;
 use crate::outbox::Outbox;
 use crate::performed::Performed;
+use crate::retired::Retired;
 use crate::setup::Deployment;
 use crate::status::Status;
 use crate::waiters::{Groups, Waiters};
@@ -278,22 +278,22 @@ impl<D: Deployment, L: Link> NodeHandle<D, L> {
         }
     }
 
-    /// Takes the node away, and closes it. From then on there is none. Takes no memory.
-    pub(crate) fn retire<R: Wait>(&self, rt: &R) -> Option<Closed<D>>
-        ensures { IfSome result (λ closed. IsLogOf D.setup self.now closed) }
+    /// Takes the node away. From then on there is none. Takes no memory.
+    pub(crate) fn retire<R: Wait>(&self, rt: &R) -> Option<Retired<D>>
+        ensures { IfSome result (λ retired. IsLogOf D.setup self.now retired) }
     {
         let member = self.shared.member.lock(rt).take();
         self.shared.waiters.wake(Groups::ALL);
-        close(member?, self.me)
+        retired(member?, self.me)
     }
 }
 
-/// A node, closed, if its number is this one.
-fn close<D: Deployment>(member: Member<D>, me: NodeId) -> Option<Closed<D>>
-    ensures { IfSome result (λ closed. IsLogOf D.setup me closed) }
+/// A node that was taken away, if its number is this one.
+fn retired<D: Deployment>(member: Member<D>, me: NodeId) -> Option<Retired<D>>
+    ensures { IfSome result (λ retired. IsLogOf D.setup me retired) }
 {
     if member.me() == me {
-        Some(member.close())
+        Some(member.retire())
     } else {
         None
     }

@@ -10,8 +10,9 @@ ghost use Rattle.cluster.specs.Performed.{ArePerformedAfter};
 ghost use Rattle.cluster.specs.Users as spec;
 ghost use Rattle.cluster.specs.Members.{member_of, HasCrashed, is_first, still_told, IsGone, IsLogOf, IsAnswered, IsStatusOf, status_of};
 
-use crate::closed::{Closed, is_known};
+use crate::closed::is_known;
 use crate::performed::{Performed, performed_after};
+use crate::retired::Retired;
 use crate::setup::Deployment;
 use crate::status::Status;
 use crate::users::{locks_in, usages_in};
@@ -254,11 +255,11 @@ impl<D: Deployment> Member<D> {
         }
     }
 
-    /// The node, closed. Takes no memory.
-    pub(crate) fn close(self) -> Closed<D>
+    /// The node, taken away.
+    pub(crate) fn retire(self) -> Retired<D>
         ensures log { result ≡ self.log }
         ensures opening { IsLogOf D.setup self.log.opening.me result }
     {
-        Closed::new(self.node)
+        Retired::new(self.node)
     }
 }

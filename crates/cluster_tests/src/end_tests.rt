@@ -74,9 +74,10 @@ fn check_logs(logs: &[NodeLog]) -> Result<(), Fail> {
     check(!second.inputs.is_empty(), "an input is missing")
 }
 
-fn check_ended(ended: &Ended) -> Result<(), Fail> {
-    check_logs(&ended.logs)?;
-    check(ended.kept.is_ok(), "nothing is kept")
+fn check_ended(ended: Ended) -> Result<(), Fail> {
+    let Ended { logs, kept } = ended;
+    check_logs(&logs.into_vec())?;
+    check(kept.is_ok(), "nothing is kept")
 }
 
 /// A cluster of which something is asked ends: it stops, or is let go.
@@ -92,7 +93,7 @@ fn end<
 ) -> Result<(), Fail> {
     if stops {
         desk.tick();
-        check_ended(&cluster.stop().ok_or("a node is missing")?)?;
+        check_ended(cluster.stop().ok_or("a node is missing")?)?;
     } else {
         check_served(rt, alloc, &cluster)?;
         check_crash(&cluster)?;

@@ -98,7 +98,8 @@ fn hears_all<
         &asked::<D, R>(rt, alloc, setup, sent.clone()?, &free)?
             .stop()
             .ok_or("a node is missing")?
-            .logs,
+            .logs
+            .into_vec(),
     )?;
     check_answers(&rt, &answers)?;
     drop(asked::<D, R>(rt, alloc, setup, sent, &free)?);

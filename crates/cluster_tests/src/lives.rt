@@ -183,7 +183,7 @@ pub fn lives<
     let ended = cluster.stop();
     let transcripts = outcome?;
     Ok(Remains {
-        logs: ended.ok_or("a node is missing")?.logs,
+        logs: ended.ok_or("a node is missing")?.logs.into_vec(),
         transcripts,
         pages,
     })

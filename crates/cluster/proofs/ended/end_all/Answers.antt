@@ -1,22 +1,24 @@
-use Rattle.std.proofs.Common.{◌∙◌, ◌+◌, [], ◌∷◌, ◌++◌, All, ap, subst, sym}
-use Rattle.std.proofs.lemmas.List.{length_push}
+use Rattle.std.proofs.Common.{◌∙◌, ◌+◌, [], ◌∷◌, ◌++◌, IfOk, All, ap, map, subst, sym}
+use Rattle.std.proofs.lemmas.List.{length_push, map_push}
 use Rattle.std.proofs.lemmas.List.Elements.{All-push}
-use Rattle.std.proofs.lemmas.Result.{IfOk-weaker}
 use Rattle.cluster.specs.Bests.{IsBestOf}
+use Rattle.cluster.specs.Ends.{log_of}
 use Rattle.cluster.specs.Members.{IsLogOf}
 use Rattle.cluster.proofs.ended.end_all.Goals as goal
 
 pub loop-node-preserved : goal.loop-node-preserved
 loop-node-preserved g c =
     let so = c.loop-node.invariant in
-    let logs = c.loop-node.logs.items in
+    let yielded = c.loop-node.yielded in
+    let node = c.next_best-next.result.1 in
     record {
       can_next = tt;
       finite = tt;
-      count = c.push_reserved.ensures.len ∙ ap (λ n. n + 1) so.count ∙ sym (length_push c.loop-node.yielded c.in-Some.node);
+      count = c.push_reserved.ensures.len ∙ ap (λ n. n + 1) so.count ∙ sym (length_push yielded c.in-Some.node);
       room = c.push_reserved.ensures.capacity ∙ so.room;
-      same = c.push_reserved.ensures.items ∙ ap (λ ls. ls ++ c.into_parts-log.result.0 ∷ []) so.same ∙ ap (λ log. c.loop-node.yielded ++ log ∷ []) c.into_parts-log.ensures.log;
-      own = subst (All (λ log. IsLogOf g.D.Deployment.setup log.opening.me log)) (sym c.push_reserved.ensures.items)
-          (All-push (λ log. IsLogOf g.D.Deployment.setup log.opening.me log) logs _ so.own c.into_parts-log.ensures.own);
-      best = IfOk-weaker c.next_best-best.result _ _ (λ next is. subst (λ ls. IsBestOf ls next) (sym c.push_reserved.ensures.items) (is logs so.best)) c.next_best-best.ensures;
+      same = ap (map log_of) c.push_reserved.ensures.items ∙ map_push log_of c.loop-node.nodes.items node ∙ ap (λ ls. ls ++ log_of node ∷ []) so.same
+          ∙ ap (λ log. yielded ++ log ∷ []) (c.next_best-next.ensures.log ∙ c.into_node.ensures.log);
+      own = All-push (λ log. IsLogOf g.D.Deployment.setup log.opening.me log) yielded c.in-Some.node so.own
+          (subst (λ log. IsLogOf g.D.Deployment.setup log.opening.me log) c.into_node.ensures.log c.into_node.ensures.own);
+      best = subst (λ log. IfOk c.next_best-next.result.0 (IsBestOf (yielded ++ log ∷ []))) c.into_node.ensures.log (c.next_best-next.ensures.best yielded so.best);
     }
