@@ -1,6 +1,7 @@
 -- Commands that a ledger takes, one after another.
-use Rattle.std.proofs.Common.{◌≡◌, ℕ, ◌+◌, ◌<◌, List, [], ◌∷◌, ◌++◌, map, length, take, get_or, refl, sym, ◌∙◌, ap, subst, arith, append_assoc}
-use Rattle.std.proofs.lemmas.List.{length-append, map-append, take_more}
+use Rattle.std.proofs.Common.{◌≡◌, ℕ, ◌+◌, ◌%◌, ◌^◌, ◌<◌, ◌≤◌, List, [], ◌∷◌, ◌++◌, map, length, take, get_or, refl, sym, ◌∙◌, ap, subst, arith, append_assoc}
+use Rattle.std.proofs.lemmas.Nat.{mod_below}
+use Rattle.std.proofs.lemmas.List.{append-nil, length-append, map-append, take_more}
 use Rattle.std.specs.declared.alloc.Global.{Global}
 use Rattle.maildrop.specs.Office.{User, users_after}
 use Rattle.maildrop.specs.declared.command.Command.{Command}
@@ -47,3 +48,15 @@ takes_next commands i c l m n p q r within here first next =
     ap decided_of (take_more commands i c within ∙ ap (λ (d : ℕ × Command Global). take i commands ++ d ∷ []) here)
     ∙ map-append (λ (d : ℕ × Command Global). record { slot = d.0; command = d.1 }) (take i commands) (c ∷ []) in
     subst (λ (ds : List (Decided Global)). HaveTaken ds l p n r) (sym decided) (takes_more (decided_of (take i commands)) (decided_of (c ∷ [])) l m n p q r first next)
+
+-- where records end no later than those before them, none was added
+pub none_added : (a b : Addition) (payloads : List (List ℕ)) → b ≡ with_payloads a payloads → b.place ≤ a.place → b ≡ a
+none_added a b [] is within =
+    is
+    ∙ ap (λ (n : ℕ). record { salt = a.salt; start = a.start; place = n; bytes = a.bytes ++ [] }) (omega arith)
+    ∙ ap (λ (l : List ℕ). record { salt = a.salt; start = a.start; place = a.place; bytes = l }) (append-nil a.bytes)
+none_added a b (p ∷ payloads) is within = absurd (omega (arith, within, ap (λ (x : Addition). x.place) is))
+
+-- a time more isn't the same one
+pub counts : (added : ℕ) → (added + 1) % 2 ^ 64 ≡ added → ⊥
+counts added is = omega (arith, is, mod_below (added + 1) (2 ^ 64) (omega arith))

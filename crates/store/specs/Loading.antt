@@ -12,6 +12,8 @@ use Rattle.ledger.specs.declared.entry.Record.TheVariants as said
 use Rattle.records.specs.Files.{IsReadAs, IsUndamaged}
 use Rattle.records.specs.Readers.{HasRead}
 use Rattle.records.specs.Readers as readers
+use Rattle.store.specs.declared.fault.StoreFault.{StoreFault}
+use Rattle.store.specs.declared.fault.StoreFault.TheVariants as fault
 use Rattle.store.specs.declared.loading.Loaded.{Loaded}
 use Rattle.store.specs.declared.loading.Stage.{Stage}
 use Rattle.store.specs.declared.loading.Stage.TheVariants.{Begin, Snapshot, Running}
@@ -81,3 +83,13 @@ pub record IsSegment (number : ℕ) (bytes : List ℕ) (loaded : Loaded) : Type 
   pub undamaged : IsUndamaged loaded.ending
   pub taken : HasLoaded payloads (loading_of loaded)
   pub number_is : loaded.number ≡ number
+
+-- a fault that says where a segment is damaged is one of the segment with this number
+abbrev pub NamesSegment : ℕ → StoreFault → Type 0
+NamesSegment number fault.InUse = Unit {0}
+NamesSegment number fault.NotBegun = Unit {0}
+NamesSegment number fault.NotEmpty = Unit {0}
+NamesSegment number (fault.Damaged segment at) = segment ≡ number
+NamesSegment number fault.Memory = Unit {0}
+NamesSegment number fault.Read = Unit {0}
+NamesSegment number fault.Write = Unit {0}

@@ -18,11 +18,11 @@ use Rattle.store.specs.Loading.{IsReadBack, entry_payload}
 use Rattle.store.specs.Segments.{names_in, snapshot_payloads, with_last_keys}
 use Rattle.store.specs.declared.loading.Loaded.{Loaded}
 
--- an epoch, and the file in which its segment is
+-- an epoch: the number and the salt of its segment, and what it opened with
 pub record WrittenEpoch : Type 0 where
   pub number : ℕ
   pub salt : ℕ
-  -- what it opened with: what was kept, without all but the last keys, and the names of the users
+  -- what was kept before it, how many of the last keys of each user it opened with, and the names of its users
   pub kept : KeptTable Global
   pub keys : ℕ
   pub names : List (List ℕ)
@@ -54,22 +54,23 @@ payloads_between e decided later = map entry_payload (entries_of (users_through 
 abbrev pub file_after : WrittenEpoch → List (Decided Global) → List ℕ
 file_after e decided = file_of e.salt (payloads_after e decided)
 
--- What a file needs for these commands: each payload is short enough for a record, and is read back as it was written. The
--- calls that write one ensure both.
+-- What the laws ask of an epoch and its commands: the salt has 64 bits, no name stands twice in what was kept, each payload is
+-- short enough for a record, and each entry is read back as it was written. `Batch::add` ensures that a payload is so short,
+-- `put_change` and `Ledger::take` of `ledger` that an entry is read back.
 pub record CanBeWritten (e : WrittenEpoch) (decided : List (Decided Global)) : Type 0 where
   pub salt_fits : e.salt < 2 ^ 64
   pub different : IsTrue (are_different (names_in e.kept))
   pub payloads_fit : ArePayloads (payloads_after e decided)
   pub read_back : AllByRecursion IsReadBack (snapshot_entries e.keys e.kept ++ entries_of (users_in e) decided)
 
--- What is kept under a name after commands: of a user what is kept of the maildrop after the user's own commands, and else
--- what the epoch opened with.
+-- What is kept under a name after commands. If it is the name of a user of the epoch: what is kept of the user's maildrop after
+-- those of the commands that are the user's. If not: what was kept under it before the epoch, with the last keys.
 abbrev pub kept_after : WrittenEpoch → List (Decided Global) → List ℕ → KeptMaildrop Global
 kept_after e decided name =
     option_map_or (λ maildrop. closed (after_steps maildrop (performing (commands_of name (commands_in decided)))))
     (maildrop_of name (users_in e)) (with_last_keys e.keys (kept_for name e.kept))
 
--- what was loaded is what is kept after a front of the decided commands, which has all that were synced
+-- what was loaded is what is kept after all synced commands and any number of the next ones (`front`)
 pub record IsRestart (e : WrittenEpoch) (synced later : List (Decided Global)) (loaded : Loaded) : Type 0 where
   pub front : List (Decided Global)
   pub rest : List (Decided Global)

@@ -15,7 +15,8 @@ abbrev pub running_payloads : ℕ → List (Entry Global) → List (Entry Global
 running_payloads number snapshot epoch =
     begin_payload number ∷ map entry_payload snapshot ++ opened_payload ∷ map entry_payload epoch
 
--- these bytes, which are so many, are a segment with this salt: its whole snapshot, and whole entries of its epoch
+-- These bytes, of this size, are a segment with this salt: its number, all entries of its snapshot, their end, and entries of
+-- its epoch. No part of a record follows.
 pub record IsRunning (salt size : ℕ) (bytes : List ℕ) : Type 0 where
   pub number : ℕ
   pub snapshot : List (Entry Global)
@@ -68,7 +69,7 @@ pub record HaveTaken (decided : List (Decided Global)) (ledger : LedgerState Glo
   pub count : ledger_after.taken ≡ ledger.taken + length decided
   pub added : pending_after ≡ with_payloads pending (payloads_of ledger.users decided)
 
--- some commands were taken
-abbrev pub TakesSome : LedgerState Global → Addition → LedgerState Global → Addition → Type 0
-TakesSome ledger pending ledger_after pending_after =
-    (commands : List (ℕ × Command Global)) × HaveTaken (decided_of commands) ledger pending ledger_after pending_after
+-- Commands were taken of which this is known.
+abbrev pub TakesSuch : (List (ℕ × Command Global) → Type 0) → LedgerState Global → Addition → LedgerState Global → Addition → Type 0
+TakesSuch are ledger pending ledger_after pending_after =
+    (commands : List (ℕ × Command Global)) × are commands × HaveTaken (decided_of commands) ledger pending ledger_after pending_after

@@ -1,6 +1,9 @@
 //! The data folder of a service.
-ghost use Rattle.std.specs.Prelude.{◌≡◌, IfOk};
+ghost use Rattle.std.specs.Prelude.{◌≡◌, ℕ, List, length, IfOk};
+ghost use Rattle.records.specs.Spelling.{file_of};
+ghost use Rattle.store.specs.Loading.{IsSegment};
 ghost use Rattle.store.specs.Running.{IsRunning};
+ghost use Rattle.store.specs.Segments.{snapshot_payloads};
 
 use crate::fault::StoreFault;
 use crate::file_device::{FileDevice, SyncMode};
@@ -122,7 +125,9 @@ impl<R: Files<File = File> + Copy> DataFolder<R> {
     }
 
     /// Reads the newest segment.
-    pub fn load_newest(&self) -> Result<Loaded, StoreFault> {
+    pub fn load_newest(&self) -> Result<Loaded, StoreFault>
+        ensures { IfOk result (λ loaded. (bytes : List ℕ) × IsSegment loaded.number bytes loaded) }
+    {
         let _held = &self.lock;
         segments::load_newest(self.alloc, &self.names)
     }
@@ -135,7 +140,9 @@ impl<R: Files<File = File> + Copy> DataFolder<R> {
         keys: usize,
         salt: u64,
     ) -> Result<(FileDevice, u64), StoreFault>
+        ensures file { IfOk result (λ r. (number : ℕ) × (r.0.history.calls.synced ≡ file_of salt (snapshot_payloads number keys kept.now))) }
         ensures all { IfOk result (λ r. r.0.history.calls.synced ≡ r.0.history.calls.seen) }
+        ensures size { IfOk result (λ r. r.1 ≡ length r.0.history.calls.synced) }
         ensures running { IfOk result (λ r. IsRunning salt r.1 r.0.history.calls.synced) }
     {
         let (file, size) = segments::make_next(self.alloc, &mut self.names, salt, kept, keys)?;
@@ -207,7 +214,9 @@ pub fn read_newest<R: Files<File = File> + Copy>(
     rt: &R,
     alloc: Global,
     path: &str,
-) -> Result<Loaded, StoreFault> {
+) -> Result<Loaded, StoreFault>
+    ensures { IfOk result (λ loaded. (bytes : List ℕ) × IsSegment loaded.number bytes loaded) }
+{
     let names = Names::new(rt, alloc, path)?;
     segments::load_newest(alloc, &names)
 }

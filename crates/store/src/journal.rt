@@ -1,6 +1,8 @@
-//! The journal of an epoch: what its commands change is on the disk before anybody hears of it.
-ghost use Rattle.std.specs.Prelude.{◌≡◌, ◌∷◌, [], true, false};
-ghost use Rattle.store.specs.Running.{HaveTaken, IsRunning, IsWhole, TakesSome, decided_of};
+//! The journal of an epoch: writes what the epoch's commands change into its segment, and answers once it is on the disk.
+ghost use Rattle.std.specs.Prelude.{◌≡◌, ◌<◌, ◌+◌, ◌%◌, ◌^◌, ◌⊎◌, ◌∷◌, [], true, false, List, ℕ, IfOk, IfSome};
+ghost use Rattle.std.specs.declared.alloc.Global.{Global};
+ghost use Rattle.maildrop.specs.declared.command.Command.{Command};
+ghost use Rattle.store.specs.Running.{HaveTaken, IsRunning, IsWhole, TakesSuch, decided_of};
 
 use crate::device::Device;
 use crate::pending::Pending;
@@ -13,9 +15,13 @@ use std::sync::{Condvar, Mutex, Wait};
 
 /// What performs the commands of an epoch in their decided order.
 pub trait Performer {
+    /// These commands, each with its slot, are those that it has performed after the first so many, in their order.
+    ghost performed: { Self → ℕ → List (ℕ × Command Global) → Type 0 };
+
     /// The commands that it has performed after the first `taken`, in their order, each with its slot. `None` if they aren't
     /// known any more.
-    fn performed_after(&self, taken: u64) -> Result<Option<Vec<(Slot, SharedCommand)>>, Memory>;
+    fn performed_after(&self, taken: u64) -> Result<Option<Vec<(Slot, SharedCommand)>>, Memory>
+        ensures { IfOk result (λ known. IfSome known (λ commands. performed self.now taken commands.items)) };
 }
 
 /// What is to be written, and what was.
@@ -46,7 +52,8 @@ pub struct Journal<D: Device> {
 impl State {
     /// Takes the next command, and adds the record of what it changes to those that are pending.
     fn take(&mut self, slot: u64, command: &SharedCommand) -> bool
-        ensures { result ≡ true → HaveTaken (decided_of ((slot, command.now) ∷ [])) self.old.ledger self.old.pending self.new.ledger self.new.pending }
+        ensures taken { result ≡ true → HaveTaken (decided_of ((slot, command.now) ∷ [])) self.old.ledger self.old.pending self.new.ledger self.new.pending }
+        ensures rest { self.new ≡ record self.old { ledger = self.new.ledger; pending = self.new.pending } }
     {
         let mut payload = Vec::new(self.alloc);
         match self.ledger.take(slot, command.get(), &mut payload) {
@@ -58,7 +65,8 @@ impl State {
 
     /// Takes commands. Answers false if one can't be taken.
     fn take_all(&mut self, commands: &[(Slot, SharedCommand)]) -> bool
-        ensures { result ≡ true → HaveTaken (decided_of commands.now) self.old.ledger self.old.pending self.new.ledger self.new.pending }
+        ensures taken { result ≡ true → HaveTaken (decided_of commands.now) self.old.ledger self.old.pending self.new.ledger self.new.pending }
+        ensures rest { self.new ≡ record self.old { ledger = self.new.ledger; pending = self.new.pending } }
     {
         for one in commands {
             if !self.take(one.0.get(), &one.1) {
@@ -68,10 +76,26 @@ impl State {
         true
     }
 
-    /// Takes what was performed since. Answers whether all was taken: not if the performer doesn't know it. Fails for good if
-    /// a command can't be taken.
+    /// Takes the commands that the performer returns, those after the ones that the ledger has taken. Answers whether all of
+    /// them were taken. If the performer answers `None` or `Memory` nothing changes. Fails for good if a command can't be
+    /// taken.
     fn take_performed<P: Performer>(&mut self, performer: &P) -> bool
-        ensures { result ≡ true → TakesSome self.old.ledger self.old.pending self.new.ledger self.new.pending }
+        ensures taken { result ≡ true → TakesSuch (P.performed performer.now self.old.ledger.taken) self.old.ledger self.old.pending self.new.ledger self.new.pending }
+
+        // The records that it adds are counted as one time, if there are any.
+        ensures counted { result ≡ true → self.old.pending.place < self.new.pending.place → self.new.added ≡ (self.old.added + 1) % 2 ^ 64 }
+        ensures uncounted { result ≡ true → self.new.pending ≡ self.old.pending → self.new.added ≡ self.old.added }
+        ensures all_counted { result ≡ true → self.new.added ≡ self.old.added → self.new.pending ≡ self.old.pending }
+        ensures none_counted { result ≡ false → self.new.added ≡ self.old.added }
+
+        // Once it has failed nothing changes any more.
+        ensures again { self.old.has_failed ≡ true → (result ≡ false) × (self.new ≡ self.old) }
+        ensures failed { result ≡ false → (self.new ≡ self.old) ⊎ (self.new.has_failed ≡ true) }
+        ensures goes_on { result ≡ true → self.new.has_failed ≡ false }
+
+        // What is written is left to others.
+        ensures synced { self.new.synced ≡ self.old.synced }
+        ensures busy { self.new.is_busy ≡ self.old.is_busy }
     {
         if self.has_failed {
             return false;
@@ -98,6 +122,8 @@ impl State {
         ensures taken { result ≡ self.old.pending }
         ensures ledger { self.new.ledger ≡ self.old.ledger }
         ensures left { self.new.pending ≡ record { salt = self.old.pending.salt; start = self.old.pending.place; place = self.old.pending.place; bytes = [] } }
+        ensures busy { self.new.is_busy ≡ true }
+        ensures rest { self.new ≡ record self.old { pending = self.new.pending; is_busy = self.new.is_busy } }
     {
         self.is_busy = true;
         self.pending.take(self.alloc)
@@ -109,6 +135,7 @@ impl State {
         ensures failed { is_written ≡ false → (self.new.synced ≡ self.old.synced) × (self.new.has_failed ≡ true) }
         ensures free { self.new.is_busy ≡ false }
         ensures pending { self.new.pending ≡ self.old.pending }
+        ensures rest { self.new ≡ record self.old { synced = self.new.synced; is_busy = self.new.is_busy; has_failed = self.new.has_failed } }
     {
         self.is_busy = false;
         if is_written {
@@ -141,11 +168,11 @@ impl<D: Device> Journal<D> {
         }
     }
 
-    /// Waits until all that was performed before the call is on the disk, as far as it changes what is kept. Whoever finds
-    /// nobody writing writes for all who wait. If nothing is to be written it doesn't wait.
+    /// Takes the commands that the performer returns, and waits until what they and those taken before them change is on the
+    /// disk. A thread that finds no other one writing writes for all that wait. If nothing is left to write it doesn't wait.
     ///
-    /// False if what was performed isn't known, or a command couldn't be taken or a write has failed, in this call or before.
-    /// After the last two it is false for good.
+    /// False if the performer answers `None` or `Memory`, or if a command couldn't be taken or a write has failed, in this call
+    /// or before. After the last two it is false for good.
     pub fn settle<R: Wait, P: Performer>(&self, rt: &R, performer: &P) -> bool {
         let mut state = self.state.lock(rt);
         if !state.take_performed(performer) {
@@ -174,8 +201,8 @@ impl<D: Device> Journal<D> {
         false
     }
 
-    /// The file, once no thread has the journal. Whatever has happened, what is on the disk is a whole snapshot and whole
-    /// entries.
+    /// The file, once no thread has the journal. The bytes that are on the disk for good are a segment: its whole snapshot, and
+    /// whole entries.
     pub fn into_device(self) -> D
         ensures { IsWhole (D.synced result) }
     {

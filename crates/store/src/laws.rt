@@ -10,18 +10,19 @@ ghost use Rattle.store.specs.declared.loading.Loaded.{Loaded};
 
 use crate::batch::HEAD;
 
-/// What `load` returns after a restart is, of each user, what is kept of the maildrop after the user's own commands among a
-/// front of those that were decided. The front has each command whose change was on the disk.
+/// What `load` returns of an epoch's segment after a restart. Under the name of each user of the epoch it is what is kept of
+/// the user's maildrop after some of the decided commands: all whose entries were synced, and then any number of the next
+/// ones, in their order. Under any other name it is what was kept before the epoch, with the last keys.
 pub fn a_restart_finds_what_was_synced()
-    // A crash leaves all that was synced, and of what was written since some records and then a front of a record, or bytes
-    // in which no record stands.
+    // It is assumed that a crash leaves a file that begins with all bytes that were synced. After them stand any number of
+    // the records that were written next, and then the first bytes of a record, or bytes in which no record stands.
     ensures crash { (e : WrittenEpoch) (synced later : List (Decided Global)) (left : List ℕ) (loaded : Loaded) →
         CanBeWritten e (synced ++ later) →
         IsLeft e.salt (HEAD + size_of (payloads_after e synced)) (payloads_between e synced later) left →
         IsSegment e.number (file_after e synced ++ left) loaded →
         IsRestart e synced later loaded }
 
-    // The file may be cut anywhere after what was synced, as in a copy that was made while it grew.
+    // The same holds of a file that ends anywhere after the bytes that were synced, as a copy that was made while it grew.
     ensures cut { (e : WrittenEpoch) (synced later : List (Decided Global)) (n : ℕ) (loaded : Loaded) →
         CanBeWritten e (synced ++ later) →
         length (file_after e synced) ≤ n →

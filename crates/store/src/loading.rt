@@ -1,12 +1,13 @@
 //! Reads a segment.
-ghost use Rattle.std.specs.Prelude.{◌≡◌, ◌+◌, ◌<◌, ◌≤◌, ◌++◌, ◌∷◌, [], List, ℕ, length, take, true, Some, Ok, OnOk, OnErr, IfOk};
+ghost use Rattle.std.specs.Prelude.{◌≡◌, ◌+◌, ◌<◌, ◌≤◌, ◌++◌, ◌∷◌, [], List, ℕ, length, take, true, Some, Ok, OnOk, OnErr, IfOk, IfErr};
 ghost use Rattle.std.specs.Io.KnownBytes.{Consumes, IsAtEnd};
 ghost use Rattle.maildrop.specs.Kept.{kept_for};
 ghost use Rattle.ledger.specs.Payloads.{record_payload};
 ghost use Rattle.ledger.specs.Reading.{record_in};
 ghost use Rattle.records.specs.Files.{IsUndamaged};
 ghost use Rattle.records.specs.Readers.{IsDrained};
-ghost use Rattle.store.specs.Loading.{HasLoaded, IsInStep, IsSegment, kept_step, loading_of};
+ghost use Rattle.store.specs.Loading.{HasLoaded, IsInStep, IsSegment, NamesSegment, kept_step, loading_of};
+ghost use Rattle.store.specs.declared.fault.StoreFault.TheVariants as fault;
 
 use crate::batch::{FRAME, HEAD};
 use crate::fault::StoreFault;
@@ -77,7 +78,9 @@ impl Loader {
     }
 
     /// What stands at this place was not written so.
-    fn damaged_at(&self, place: u64) -> StoreFault {
+    fn damaged_at(&self, place: u64) -> StoreFault
+        ensures { result ≡ fault.Damaged self.now.number place }
+    {
         StoreFault::Damaged {
             segment: self.number,
             at: place,
@@ -134,6 +137,7 @@ impl Loader {
     pub(crate) fn take(&mut self, payload: &[u8]) -> Result<(), StoreFault>
         ensures number { OnOk result (self.new.number ≡ self.old.number) }
         ensures taken { (payloads : List (List ℕ)) → HasLoaded payloads self.old → OnOk result (HasLoaded (payloads ++ payload.now ∷ []) self.new) }
+        ensures damaged { IfErr result (NamesSegment self.old.number) }
     {
         let said = match read_record(self.alloc, payload) {
             Ok(said) => said,
@@ -168,6 +172,7 @@ impl Loader {
         ensures taken { (bytes : List ℕ) → IsInStep bytes reader.old self.old → OnOk result (IsInStep bytes reader.new self.new) }
         ensures drained { OnOk result (IsDrained reader.new) }
         ensures number { OnOk result (self.new.number ≡ self.old.number) }
+        ensures damaged { IfErr result (NamesSegment self.old.number) }
     {
         while let Some(payload) = reader.next()? {
             self.take(&payload)?;
@@ -180,6 +185,7 @@ impl Loader {
         ensures taken { (bytes : List ℕ) → IsInStep bytes reader.old self.old → OnOk result (IsInStep (bytes ++ piece.now) reader.new self.new) }
         ensures drained { OnOk result (IsDrained reader.new) }
         ensures number { OnOk result (self.new.number ≡ self.old.number) }
+        ensures damaged { IfErr result (NamesSegment self.old.number) }
     {
         reader.add(piece)?;
         self.take_records(reader)
@@ -187,7 +193,8 @@ impl Loader {
 
     /// What was read of the segment, of which all bytes have come.
     fn end(self, reader: Reader) -> Result<Loaded, StoreFault>
-        ensures { (bytes : List ℕ) → IsInStep bytes reader self → IsDrained reader → IfOk result (λ loaded. IsSegment self.number bytes loaded) }
+        ensures segment { (bytes : List ℕ) → IsInStep bytes reader self → IsDrained reader → IfOk result (λ loaded. IsSegment self.number bytes loaded) }
+        ensures damaged { IfErr result (NamesSegment self.number) }
     {
         self.finish(reader.finish())
     }
@@ -198,6 +205,7 @@ impl Loader {
         ensures number { IfOk result (λ loaded. loaded.number ≡ self.number) }
         ensures ending { IfOk result (λ loaded. loaded.ending ≡ ending) }
         ensures undamaged { OnOk result (IsUndamaged ending) }
+        ensures damaged { IfErr result (NamesSegment self.number) }
     {
         match ending {
             Ending::Damaged(place) => return Err(self.damaged_at(place)),
@@ -221,6 +229,7 @@ fn read_piece<R: Read>(source: &mut R, piece: &mut [u8]) -> Result<usize, StoreF
     ensures count { IfOk result (λ n. n ≤ length piece.new) }
     ensures bytes { IfOk result (λ n. Consumes (R.remaining source.old) (R.remaining source.new) (take n piece.new)) }
     ensures end { IfOk result (λ n. n ≡ 0 → IsAtEnd (R.remaining source.new)) }
+    ensures fault { IfErr result (λ error. error ≡ fault.Read) }
 {
     if piece.is_empty() {
         return Err(StoreFault::Read);
@@ -237,11 +246,16 @@ fn read_piece<R: Read>(source: &mut R, piece: &mut [u8]) -> Result<usize, StoreF
 
 /// Reads the segment with this number. Takes memory for what is kept, for a piece of the file and for one record at a time.
 ///
-/// `Damaged` is the place of the first record that can't have been written so: one that `records` finds damaged, that
-/// is no payload, that changes what can't change so, or that stands where it can't. A file with that name has its snapshot
-/// whole, so one that ends before is damaged where it ends.
+/// `Damaged` has the number of this segment and a place in its file: 0 if it doesn't begin with the head of a segment; the
+/// place of a record whose payload can't be read, or which can't come where it stands, or whose change can't be made; the
+/// place of a bad record that a whole one follows; or, if the end of the snapshot doesn't come, the place after the last record
+/// that was taken.
 pub fn load<R: Read>(alloc: Global, number: u64, source: &mut R) -> Result<Loaded, StoreFault>
-    ensures { (bytes : List ℕ) → R.remaining source.old ≡ Some bytes → IfOk result (λ loaded. IsSegment number bytes loaded) }
+    ensures bytes { (bytes : List ℕ) → R.remaining source.old ≡ Some bytes → IfOk result (λ loaded. IsSegment number bytes loaded) }
+
+    // It is so of some bytes, also if no contract says which ones the source has.
+    ensures some { IfOk result (λ loaded. (bytes : List ℕ) × IsSegment number bytes loaded) }
+    ensures damaged { IfErr result (NamesSegment number) }
 {
     let mut room = vec![in alloc; 0u8; PIECE]?;
     let piece: &mut [u8] = &mut room;

@@ -1,6 +1,7 @@
 //! What a start does with the segments of a folder.
-ghost use Rattle.std.specs.Prelude.{◌≡◌, length, false, IfOk};
+ghost use Rattle.std.specs.Prelude.{◌≡◌, ℕ, List, length, false, IfOk};
 ghost use Rattle.records.specs.Spelling.{file_of};
+ghost use Rattle.store.specs.Loading.{IsSegment};
 ghost use Rattle.store.specs.Numbers as spec;
 ghost use Rattle.store.specs.Running.{IsRunning};
 ghost use Rattle.store.specs.Segments.{snapshot_payloads};
@@ -52,17 +53,17 @@ fn count_above(number: u64, numbers: &[u64]) -> usize
 }
 
 /// Reads the segment with this number.
-pub fn load_segment<F: Folder>(
-    alloc: Global,
-    folder: &F,
-    number: u64,
-) -> Result<Loaded, StoreFault> {
+pub fn load_segment<F: Folder>(alloc: Global, folder: &F, number: u64) -> Result<Loaded, StoreFault>
+    ensures { IfOk result (λ loaded. (bytes : List ℕ) × IsSegment number bytes loaded) }
+{
     let mut source = folder.open(number)?;
     load(alloc, number, &mut source)
 }
 
 /// Reads the newest segment. `NotBegun` if there is none.
-pub fn load_newest<F: Folder>(alloc: Global, folder: &F) -> Result<Loaded, StoreFault> {
+pub fn load_newest<F: Folder>(alloc: Global, folder: &F) -> Result<Loaded, StoreFault>
+    ensures { IfOk result (λ loaded. (bytes : List ℕ) × IsSegment loaded.number bytes loaded) }
+{
     let numbers = folder.segments()?;
     match newest(&numbers) {
         Some(number) => load_segment(alloc, folder, number),
@@ -111,7 +112,9 @@ pub fn make_next<F: Folder>(
     kept: &Kept,
     keys: usize,
 ) -> Result<(F::File, u64), StoreFault>
+    ensures file { IfOk result (λ r. (number : ℕ) × (F.File.Device.synced r.0 ≡ file_of salt (snapshot_payloads number keys kept.now))) }
     ensures all { IfOk result (λ r. F.File.Device.synced r.0 ≡ F.File.Device.seen r.0) }
+    ensures size { IfOk result (λ r. r.1 ≡ length (F.File.Device.synced r.0)) }
     ensures running { IfOk result (λ r. IsRunning salt r.1 (F.File.Device.synced r.0)) }
 {
     let number = next_number(folder)?;
