@@ -14,7 +14,7 @@ use crate::service_nodes::ServiceLogs;
 use crate::transcripts::{TranscriptList, Transcripts};
 use crate::verdict::{Verdict, verdict_of};
 use apop::Accounts;
-use cluster::Setup;
+use cluster::{EndedLogs, Setup};
 use node::NodeLog;
 use session::Transcript;
 use std::alloc::Global;
@@ -27,7 +27,7 @@ use std::sync::Arc;
 pub(crate) struct EndedEpoch {
     accounts: Arc<Accounts>,
     setup: Setup,
-    logs: Vec<NodeLog>,
+    logs: EndedLogs,
     transcripts: TranscriptList,
 }
 
@@ -37,9 +37,9 @@ impl Model for EndedEpoch {
 
     ghost Value = { EpochValue };
 
-    ghost view = { λ e. record { accounts = arc_value e.accounts; setup = e.setup; logs = e.logs.items; transcripts = e.transcripts } };
+    ghost view = { λ e. record { accounts = arc_value e.accounts; setup = e.setup; logs = e.logs; transcripts = e.transcripts } };
 
-    ghost invariant = { λ e. HasEnded (record { accounts = arc_value e.accounts; setup = e.setup; logs = e.logs.items; transcripts = e.transcripts }) };
+    ghost invariant = { λ e. HasEnded (record { accounts = arc_value e.accounts; setup = e.setup; logs = e.logs; transcripts = e.transcripts }) };
 }
 
 impl EndedEpoch {
@@ -61,26 +61,19 @@ impl EndedEpoch {
         EndedEpoch {
             accounts,
             setup,
-            logs: logs.into_vec(),
+            logs: logs.into_ended(),
             transcripts: transcripts.into_list(),
         }
     }
 
-    /// The verdict of an audit on all that the epoch's nodes and sessions did. `Memory` if the transcript of a session that
-    /// was greeted is missing.
-    pub(crate) fn verdict(&self, alloc: Global) -> Verdict
-        ensures judged { IsJudged self.now.logs self.now.transcripts result }
-        ensures whole { (result ≡ Memory) ⊎ ((self.now.transcripts.is_short ≡ false) × (self.now.transcripts.ended ≡ self.now.transcripts.greeted)) }
-        ensures legal { result ≡ Legal → (all : List (Transcript Global)) → AreEnded self.now.transcripts all → WereServed self.now.accounts all
-            → IsLegal (config_of self.now.accounts self.now.setup) self.now.logs all }
-        ensures found { result ≡ Legal → WasLegalEpoch self.now }
-    {
-        verdict_on(alloc, self.logs.as_slice(), &self.transcripts)
-    }
-
-    /// What the epoch leaves, with the verdict on it.
-    pub(crate) fn into_left(self, verdict: Verdict) -> Left
-        ensures verdict { result.verdict ≡ verdict }
+    /// What the epoch leaves, with the verdict of an audit on all that its nodes and sessions did. `Memory` if the transcript
+    /// of a session that was greeted is missing. What the nodes were beside their logs is let go first.
+    pub(crate) fn judge(self, alloc: Global) -> Left
+        ensures judged { IsJudged self.logs self.transcripts result.verdict }
+        ensures whole { (result.verdict ≡ Memory) ⊎ ((self.transcripts.is_short ≡ false) × (self.transcripts.ended ≡ self.transcripts.greeted)) }
+        ensures legal { result.verdict ≡ Legal → (all : List (Transcript Global)) → AreEnded self.transcripts all → WereServed self.accounts all
+            → IsLegal (config_of self.accounts self.setup) self.logs all }
+        ensures found { result.verdict ≡ Legal → WasLegalEpoch self }
         ensures logs { result.logs.items ≡ self.logs }
         ensures kept { result.transcripts.items ≡ self.transcripts.kept }
         ensures greeted { result.greeted ≡ self.transcripts.greeted }
@@ -91,6 +84,8 @@ impl EndedEpoch {
             logs,
             transcripts,
         } = self;
+        let logs = logs.into_vec();
+        let verdict = verdict_on(alloc, logs.as_slice(), &transcripts);
         let TranscriptList {
             kept,
             numbers: _,
@@ -128,10 +123,7 @@ pub(crate) fn left_by(alloc: Global, ended: Option<EndedEpoch>) -> Left
     ensures greeted { IfSome ended (λ epoch. result.greeted ≡ epoch.transcripts.greeted) }
 {
     match ended {
-        Some(epoch) => {
-            let verdict = epoch.verdict(alloc);
-            epoch.into_left(verdict)
-        }
+        Some(epoch) => epoch.judge(alloc),
         None => Left {
             verdict: Verdict::Memory,
             logs: Vec::new(alloc),

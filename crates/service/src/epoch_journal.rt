@@ -17,6 +17,10 @@ struct DeskPerformer<'a, D: Service, R: Wait, L: Link> {
 }
 
 impl<D: Service, R: Wait, L: Link> Performer for DeskPerformer<'_, D, R, L> {
+    ghost use Rattle.cluster.specs.Performed.{ArePerformedAfter};
+
+    ghost performed = { λ p taken commands. ArePerformedAfter taken D.setup p.desk.now commands };
+
     fn performed_after(&self, taken: u64) -> Result<Option<Performed>, Memory> {
         self.desk.performed_after(taken)
     }

@@ -228,9 +228,9 @@ pub(crate) fn run_epochs<R: System + Files<File = File>, W: Write>(
         let ran = run_one(
             rt, alloc, settings, ports, life, &accounts, operators, storage, past, writer,
         );
-        // If clients were served, the folder has what they were told, and what the epoch opened with may not replace it.
+        // If clients were served, what they were told is lost with their epoch, and no other one may take its place.
         let was_served = life.rolls().epoch(&rt) != epoch;
-        let may_try_again = was_auditing && !(was_served && storage.is_kept());
+        let may_try_again = was_auditing && !was_served;
         match ran {
             Ok(Some(last)) => return Ok(last),
             Ok(None) => accounts = next_accounts(&rt, alloc, options, life, accounts),

@@ -92,8 +92,9 @@ fn count_one(count: &mut u64) -> bool
 fn audit_epoch<R: Wait>(rt: &R, alloc: Global, life: &ServiceLife, epoch: EndedEpoch) -> Verdict
     ensures { result ≡ Legal → WasLegalEpoch epoch }
 {
-    let verdict = epoch.verdict(alloc);
-    drop(epoch);
+    let left = epoch.judge(alloc);
+    let verdict = left.verdict;
+    drop(left);
     life.rolls().end_audit(rt);
     verdict
 }
@@ -116,13 +117,16 @@ fn start_audit<R: Threads + Wait + Copy + Send + 'static>(
 ) -> Result<PromisedHandle<Verdict, AuditOf>, Memory>
     ensures { IfOk result (λ audit. audit.promise.0.value ≡ epoch) }
 {
-    let life = Arc::try_clone(life)?;
+    let theirs = Arc::try_clone(life)?;
     life.rolls().begin_audit(&rt);
     let promise = AuditOf(Snapshot::of(&epoch));
-    let audit = move || audit_epoch(&rt, alloc, &life, epoch);
+    let audit = move || audit_epoch(&rt, alloc, &theirs, epoch);
     match thread::spawn_with(&rt, promise, audit) {
         Ok(handle) => Ok(handle),
-        Err(_) => Err(Memory),
+        Err(_) => {
+            life.rolls().end_audit(&rt);
+            Err(Memory)
+        }
     }
 }
 
@@ -191,6 +195,7 @@ impl Past {
         ensures kept { self.new.kept ≡ self.old.kept }
         ensures pending { self.new.pending ≡ None }
         ensures known { result ≡ None → self.new ≡ self.old }
+        ensures legal { IfSome result (λ verdict. verdict ≡ Legal → IfSome self.old.pending WasLegalEpoch) }
         ensures good { IfSome result (λ verdict. self.new.is_good ≡ true → (self.old.is_good ≡ true) × (verdict ≡ Legal) × (self.new.told ≡ self.old.told + 1)) }
     {
         let audit = self.audit.take()?;

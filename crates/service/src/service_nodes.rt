@@ -16,9 +16,9 @@ use crate::served_node::{OperatorOp, ServedNode};
 use crate::transcripts::{Greeted, Served};
 use apop::{Accounts, Stamp};
 use ballot::{Cluster as Size, Envelope, Memory, NodeId};
-use cluster::{Cluster, Ended, InboxLink, Link, NodeDesk, Setup, StartError, Status};
+use cluster::{Cluster, Ended, EndedLogs, InboxLink, Link, NodeDesk, Setup, StartError, Status};
 use maildrop::{Kept, Name, Outcome, SharedCommand, Ticket, Usage};
-use node::{NodeLog, WIDEST_WINDOW};
+use node::WIDEST_WINDOW;
 use peer_link::TcpLink;
 use ports::{Fault, System};
 use session::{DeskStopped, Gate};
@@ -240,7 +240,7 @@ pub(crate) struct Unaudited<D: Service> {
 /// The logs of all nodes of a service, in the order of their numbers.
 #[derive(Drop)]
 pub(crate) struct ServiceLogs<D: Service> {
-    logs: Vec<NodeLog>,
+    logs: EndedLogs,
     part: Share<D>,
 }
 
@@ -254,17 +254,18 @@ impl<D: Service> Model for ServiceLogs<D> {
 
     ghost Value = { List (NodeLog Global) };
 
-    ghost view = { λ l. l.logs.items };
+    ghost view = { λ l. l.logs };
 
-    ghost invariant = { λ l. (map (λ log. log.opening.me) l.logs.items ≡ all_nodes D.setup.cluster)
-        × All (λ log. IsLogOf D.setup log.opening.me log) l.logs.items × (0 < l.part.parts) };
+    ghost invariant = { λ l. (map (λ log. log.opening.me) l.logs ≡ all_nodes D.setup.cluster)
+        × All (λ log. IsLogOf D.setup log.opening.me log) l.logs × (0 < l.part.parts) };
 }
 
 impl<D: Service> ServiceLogs<D> {
-    pub(crate) fn into_vec(self) -> Vec<NodeLog>
-        ensures value { result.items ≡ self }
-        ensures nodes { map (λ log. log.opening.me) result.items ≡ all_nodes D.setup.cluster }
-        ensures began { All (λ log. IsLogOf D.setup log.opening.me log) result.items }
+    /// The logs, which are no longer known to be those of this service.
+    pub(crate) fn into_ended(self) -> EndedLogs
+        ensures value { result ≡ self }
+        ensures nodes { map (λ log. log.opening.me) result ≡ all_nodes D.setup.cluster }
+        ensures began { All (λ log. IsLogOf D.setup log.opening.me log) result }
     {
         let ServiceLogs { logs, part: _ } = self;
         logs

@@ -75,11 +75,6 @@ impl<R: System + Files<File = File> + Drop> Storage<R> {
         })
     }
 
-    /// Whether mail is kept beyond the process.
-    pub(crate) fn is_kept(&self) -> bool {
-        self.folder.is_some()
-    }
-
     /// An epoch opens with this setup: all its maildrops are written to a new segment, and then old ones are removed. Returns
     /// the journal of what follows.
     pub(crate) fn begin_epoch(
