@@ -182,3 +182,45 @@ fn a_mailbox_is_refused_or_whole(rt: HostRuntime) -> Result<(), Fail> {
     }
     Ok(())
 }
+
+/// How many bytes a long line has.
+const LONG: usize = 1_048_576;
+
+/// A mailbox file of one text, whose only line has so many of this byte.
+fn long_mailbox(alloc: Global, byte: u8) -> Result<Vec<u8>, Fail> {
+    let mut mailbox = Vec::from_slice(alloc, b"From x\n")?;
+    let size = mailbox.len().saturating_add(LONG);
+    mailbox.resize(size, byte)?;
+    mailbox.push(b'\n')?;
+    Ok(mailbox)
+}
+
+/// Whether there is one text, with one line, which has all bytes.
+fn is_long(texts: &[Text], byte: u8) -> bool {
+    let [text] = texts else {
+        return false;
+    };
+    let mut lines = 0usize;
+    for line in text.get() {
+        if line.len() != LONG || line.iter().any(|other| *other != byte) {
+            return false;
+        }
+        lines = lines.saturating_add(1);
+    }
+    lines == 1 && text.octets() == 1_048_578
+}
+
+/// A line of 1,048,576 bytes stays as it is, whole and in pieces of one byte and of 4,096.
+#[test]
+fn a_long_line_stays(rt: HostRuntime) -> Result<(), Fail> {
+    let alloc = rt.alloc();
+    for byte in [b'a', 0x00, b'.', 0xff] {
+        let mailbox = long_mailbox(alloc, byte)?;
+        assert!(rt; is_long(&read(alloc, &mailbox)?, byte), "{byte} whole");
+        for size in [1usize, 4_096] {
+            let texts = read_in_pieces(alloc, &mailbox, size)?;
+            assert!(rt; is_long(&texts, byte), "{byte} by {size}");
+        }
+    }
+    Ok(())
+}

@@ -27,6 +27,7 @@ const REQUESTS: &[&[u8]] = &[
     b"stats",
     b"locks",
     b"users",
+    b"roll",
     b"crash 1",
     b"kick alice",
     b"break 1 alice",

@@ -88,6 +88,7 @@ const DELIVERIES: Scene = Scene {
         Asks("deliver 1 alice 05\nFrom ", "bad request\n"),
         Asks("deliver 1 alice -5\nFrom ", "bad request\n"),
         Asks("deliver 1 alice 1073741825\n", "bad request\n"),
+        AsksAtEnd("deliver 1 alice 1073741824\n", "bad request\n"),
         AsksAtEnd("deliver 1 alice 1073741824\nFrom ", "bad request\n"),
         Asks("deliver 1 alice 5\nhello", "bad mbox\n"),
         Asks("deliver 4 alice 5\nhello", "down\n"),

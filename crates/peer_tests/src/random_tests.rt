@@ -80,3 +80,45 @@ fn changed_frames_are_read_as_what_they_are(rt: HostRuntime) -> Result<(), Fail>
     }
     Ok(())
 }
+
+/// How many frames of random bytes there are for each kind.
+const RANDOM: u64 = 20_000;
+
+/// A frame with a length that fits, a version and nodes that are there, and else of random bytes, with more bytes behind it.
+/// Returns whether it is read. Then it is used whole.
+fn check_random(alloc: Global, random: &mut Random, kind: u8) -> Result<bool, Fail> {
+    let len = 8 + some_byte(random) % 60;
+    let version = 1 + some_byte(random) % 2;
+    let mut bytes = Vec::from_slice(alloc, &[0, 0, 0, len, version, kind, 1, 2])?;
+    for _ in 4..len {
+        bytes.push(some_byte(random))?;
+    }
+    let size = bytes.len();
+    add_some(random, &mut bytes)?;
+    let Ok(found) = decode(alloc, &bytes) else {
+        return Ok(false);
+    };
+    let (_, used) = found.ok_or("a whole frame is awaited")?;
+    check(used == size, "another length")?;
+    check_read(alloc, &bytes)
+}
+
+/// Random bytes are a fault, or a message that takes all bytes of its frame. A kind that is none is never read.
+#[test]
+fn random_bytes_are_read_in_whole_frames(rt: HostRuntime) -> Result<(), Fail> {
+    let mut random = Random(3);
+    for kind in 0..=8 {
+        let mut read = 0u64;
+        for _ in 0..RANDOM {
+            if check_random(rt.alloc(), &mut random, kind)? {
+                read = read.saturating_add(1);
+            }
+        }
+        check(
+            1 <= kind && kind <= 7 || read == 0,
+            "a kind that is none is read",
+        )?;
+        println!(rt; "kind {kind}: {read} of {RANDOM} are read")?;
+    }
+    Ok(())
+}

@@ -7,7 +7,7 @@ use crate::refused_tests::{GREETING, LOCKING, LOGGED_IN, NAMED, QUITTING};
 use apop::{Accounts, stamp};
 use maildrop::{Name, Op, Ticket};
 use mboxrd::Reader;
-use pop3_wire::{Keyword, Line, LineBytes, LineFault, LineReader, Verb, parse};
+use pop3_wire::{Keyword, Line, LineBytes, LineFault, LineReader, Verb, parse, unstuffed};
 use refusing::Refusal;
 use samples::{Heap, Scenario, alice, check, name, requests, ticket};
 use session::{Session, SessionError};
@@ -18,6 +18,7 @@ use std::test::Fail;
 enum Calls {
     NewSession,
     EmptyMailbox,
+    NoWireForm,
     Lines,
     Commands,
     Stamps,
@@ -42,6 +43,27 @@ fn check_mailbox<'h>(heap: Heap<'h>, refusal: Refusal) -> Result<(), Fail> {
     let texts = reader.finish()?;
     heap.grant_all();
     check(texts.is_empty(), "a text of no bytes")
+}
+
+/// Bytes of which no front is a wire form: without an end, with a line that begins with one dot, with an LF in a line, and with
+/// an end without its CR.
+const NO_FORMS: [&[u8]; 7] = [
+    b"",
+    b".",
+    b".\r",
+    b"hi\r\n",
+    b".hi\r\n.\r\n",
+    b"hi\n.\r\n",
+    b"hi\r\n.\n",
+];
+
+fn check_no_form<'h>(heap: Heap<'h>, refusal: Refusal) -> Result<(), Fail> {
+    heap.refuse(refusal);
+    for bytes in NO_FORMS {
+        check(unstuffed(heap, bytes)?.is_none(), "a text of no wire form")?;
+    }
+    heap.grant_all();
+    Ok(())
 }
 
 /// Whether the line that waits has these bytes.
@@ -146,6 +168,7 @@ impl Scenario for Calls {
         match self {
             Calls::NewSession => check_session(heap, refusal),
             Calls::EmptyMailbox => check_mailbox(heap, refusal),
+            Calls::NoWireForm => check_no_form(heap, refusal),
             Calls::Lines => check_lines(),
             Calls::Commands => check_commands(),
             Calls::Stamps => check_stamps(),
@@ -225,6 +248,7 @@ fn some_calls_of_a_session_take_no_memory(rt: HostRuntime) -> Result<(), Fail> {
     for calls in [
         Calls::NewSession,
         Calls::EmptyMailbox,
+        Calls::NoWireForm,
         Calls::Lines,
         Calls::Commands,
         Calls::Stamps,

@@ -2,14 +2,15 @@
 
 use crate::desks::{accounts, check_free, desk_of_two, lone_stamp};
 use refusing::Refusal;
-use samples::{Heap, Scenario, check, requests};
+use samples::{Heap, Scenario, alice, check, limits, requests};
 use server::LoneDesk;
 use session::{End, OpenGate, Transcript, serve};
 use std::test::Fail;
 
-/// A session over two messages, from its greeting to its end.
+/// A session over two messages, or over none, from its greeting to its end.
 #[derive(Clone, Copy)]
 struct Served {
+    has_mail: bool,
     lines: &'static str,
     replies: &'static str,
 }
@@ -68,7 +69,11 @@ impl Served {
 impl Scenario for Served {
     fn run(&self, heap: Heap, refusal: Refusal) -> Result<(), Fail> {
         let mut room = [0u8; 300];
-        let mut desk = desk_of_two(heap)?;
+        let mut desk = if self.has_mail {
+            desk_of_two(heap)?
+        } else {
+            LoneDesk::new(heap, alice()?, limits()?)?
+        };
         let transcript = self.serve(heap, refusal, &mut desk, &mut room)?;
         self.check_written(heap, &transcript, &room)?;
         check_free(&mut desk)
@@ -77,20 +82,33 @@ impl Scenario for Served {
 
 #[test]
 fn a_refused_session_ends_and_gives_its_lock_back(rt: HostRuntime) -> Result<(), Fail> {
-    for (lines, replies, most) in [
+    for (has_mail, lines, replies, most) in [
         (
+            false,
+            "USER alice\r\nPASS s\r\nSTAT\r\nQUIT\r\n",
+            "+OK POP3 server ready <1.1@localhost>\r\n+OK send PASS\r\n+OK maildrop has 0 messages (0 octets)\r\n+OK 0 0\r\n+OK signing off\r\n",
+            13,
+        ),
+        (
+            true,
             "USER alice\r\nPASS s\r\nSTAT\r\nQUIT\r\n",
             "+OK POP3 server ready <1.1@localhost>\r\n+OK send PASS\r\n+OK maildrop has 2 messages (41 octets)\r\n+OK 2 41\r\n+OK signing off\r\n",
             13,
         ),
         (
+            true,
             "USER alice\r\nPASS s\r\nRETR 2\r\nDELE 2\r\nQUIT\r\n",
             "+OK POP3 server ready <1.1@localhost>\r\n+OK send PASS\r\n+OK maildrop has 2 messages (41 octets)\r\n+OK 21 octets\r\nSubject: a2xx\r\n..six\r\n.\r\n+OK message 2 deleted\r\n+OK signing off\r\n",
             18,
         ),
     ] {
-        let count = requests(rt.alloc(), &Served { lines, replies }, most)?;
-        println!(rt; "serve, {lines:?}: {count}")?;
+        let served = Served {
+            has_mail,
+            lines,
+            replies,
+        };
+        let count = requests(rt.alloc(), &served, most)?;
+        println!(rt; "serve, {lines:?}, mail {has_mail}: {count}")?;
     }
     Ok(())
 }
