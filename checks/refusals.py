@@ -1,4 +1,4 @@
-"""Plays runs of the program some of whose requests for memory are refused. checks/refused and checks/refused_serve use it."""
+"""Plays runs of the program some of whose requests for memory or threads are refused. checks/refused and checks/refused_serve use it."""
 
 import argparse
 import collections
@@ -43,18 +43,22 @@ class Lane:
         os.mkdir(self.room)
         self.ports = FIRST_PORT + 10 * number
         with open(f"{self.room}/numbers", "w+b") as it:
-            it.write(bytes(32))
+            it.write(bytes(40))
             it.flush()
-            self.numbers = mmap.mmap(it.fileno(), 32)
+            self.numbers = mmap.mmap(it.fileno(), 40)
         self.environment = {**os.environ, "LD_PRELOAD": LIBRARY, "REFUSED": f"{self.room}/numbers"}
 
     def begin(self, first, last):
         """The next run's requests from the first to the last are refused. They are counted from 1."""
-        struct.pack_into("=4Q", self.numbers, 0, first, last, 0, 0)
+        struct.pack_into("=5Q", self.numbers, 0, first, last, 0, 0, 0)
 
     def refuse_all(self):
         """All are refused from now on."""
         struct.pack_into("=2Q", self.numbers, 0, 1, ALL)
+
+    def refuse_thread(self):
+        """The next thread is refused."""
+        struct.pack_into("=Q", self.numbers, 32, 1)
 
     def requests(self):
         """How many there were."""
@@ -131,7 +135,7 @@ def run_parts(doc, parts):
     if not parts.keys() >= set(said.parts):
         words.error(f"the parts are {', '.join(parts)}")
     os.makedirs(os.path.dirname(LIBRARY), exist_ok=True)
-    subprocess.run(["cc", "-O1", "-shared", "-fPIC", "-o", LIBRARY, f"{ROOT}/checks/refused.c"], check=True)
+    subprocess.run(["cc", "-O1", "-shared", "-fPIC", "-o", LIBRARY, f"{ROOT}/checks/refused.c", "-ldl"], check=True)
     with tempfile.TemporaryDirectory() as room:
         lanes = Lanes(room, os.path.abspath(said.program) if said.program else program(), said.most)
         are_right = [part(lanes) for name, part in parts.items() if not said.parts or name in said.parts]

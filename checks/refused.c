@@ -1,8 +1,12 @@
-/* Refuses requests for memory of the program that loads it first. The file that REFUSED names holds four numbers of 64 bits:
-   the first and the last request that are refused, counted from 1, how many there were, and how many of these were refused.
-   The first two may be changed while the program runs. */
+/* Refuses requests for memory and threads of the program that loads it first. The file that REFUSED names holds five numbers of
+   64 bits: the first and the last request for memory that are refused, counted from 1, how many there were, how many of these
+   were refused, and how many of the next threads are refused. The first two and the last may be changed while the program
+   runs. */
+#define _GNU_SOURCE
+#include <dlfcn.h>
 #include <errno.h>
 #include <fcntl.h>
+#include <pthread.h>
 #include <stddef.h>
 #include <stdint.h>
 #include <stdlib.h>
@@ -13,7 +17,7 @@
 void *__libc_malloc(size_t size);
 void *__libc_realloc(void *block, size_t size);
 
-enum { FIRST, LAST, REQUESTS, REFUSED, NUMBERS };
+enum { FIRST, LAST, REQUESTS, REFUSED, THREADS, NUMBERS };
 
 static volatile uint64_t *numbers;
 
@@ -47,4 +51,15 @@ void *malloc(size_t size) {
 
 void *realloc(void *block, size_t size) {
     return is_refused() ? NULL : __libc_realloc(block, size);
+}
+
+int pthread_create(pthread_t *thread, const pthread_attr_t *attributes, void *(*run)(void *), void *given) {
+    static int (*create)(pthread_t *, const pthread_attr_t *, void *(*)(void *), void *);
+    if (!create)
+        create = dlsym(RTLD_NEXT, "pthread_create");
+    if (numbers && numbers[THREADS]) {
+        numbers[THREADS]--;
+        return EAGAIN;
+    }
+    return create(thread, attributes, run, given);
 }
