@@ -84,8 +84,8 @@ fn changed_frames_are_read_as_what_they_are(rt: HostRuntime) -> Result<(), Fail>
 /// How many frames of random bytes there are for each kind.
 const RANDOM: u64 = 20_000;
 
-/// A frame with a length that fits, a version and nodes that are there, and else of random bytes, with more bytes behind it.
-/// Returns whether it is read. Then it is used whole.
+/// Checks a frame of random bytes whose length, version and nodes are right, and which more bytes follow. Returns whether it
+/// was read: then all of its bytes must have been used.
 fn check_random(alloc: Global, random: &mut Random, kind: u8) -> Result<bool, Fail> {
     let len = 8 + some_byte(random) % 60;
     let version = 1 + some_byte(random) % 2;
@@ -103,7 +103,7 @@ fn check_random(alloc: Global, random: &mut Random, kind: u8) -> Result<bool, Fa
     check_read(alloc, &bytes)
 }
 
-/// Random bytes are a fault, or a message that takes all bytes of its frame. A kind that is none is never read.
+/// Random bytes are a fault, or a message that takes all bytes of its frame. A frame of an unknown kind is always a fault.
 #[test]
 fn random_bytes_are_read_in_whole_frames(rt: HostRuntime) -> Result<(), Fail> {
     let mut random = Random(3);
@@ -116,7 +116,7 @@ fn random_bytes_are_read_in_whole_frames(rt: HostRuntime) -> Result<(), Fail> {
         }
         check(
             1 <= kind && kind <= 7 || read == 0,
-            "a kind that is none is read",
+            "an unknown kind is read",
         )?;
         println!(rt; "kind {kind}: {read} of {RANDOM} are read")?;
     }
