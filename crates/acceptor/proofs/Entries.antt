@@ -68,6 +68,6 @@ module _ {C : Type 0} where
   kept_first es p none =
       rw (accepted_for-entries p.slot es, ← none) (placed-entries p.slot (record { ballot = p.ballot; command = p.command }) es)
 
-  -- where the map has nothing, nothing is kept
+  -- if the map has nothing, nothing is kept
   pub accepted_for_none : (es : List (ℕ × Accepted C)) (s : ℕ) → lookup (is_at (nat_cmp s)) es ≡ None → is_some (accepted_for s (pvalues_of es)) ≡ false
   accepted_for_none es s none = rw (accepted_for-entries s es, none) refl

@@ -25,7 +25,7 @@ raised_keeps (Some a) b c h =
     go true e = rw e (below_to_most c b (most_below c a b h (below-true a b e)))
     go false e = rw e h
 
--- a ballot is taken exactly where the answer is that ballot
+-- a ballot is taken exactly if the answer is that ballot
 pub taken_raises : (o : Option BallotNumber) (b : BallotNumber) → accepts o b ≡ true → raised o b ≡ b
 taken_raises None b e = refl
 taken_raises (Some a) b e =

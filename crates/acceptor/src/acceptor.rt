@@ -58,7 +58,7 @@ impl<C, A: Allocator + Copy> Acceptor<C, A> {
 
 impl<C: Payload, A: Allocator + Copy> Acceptor<C, A> {
     /// Hears `Message::P1a`: raises its ballot to this one, if this is higher, and tells what it
-    /// keeps, in slot order. After `Memory` the acceptor is as it was. Takes no memory where nothing is
+    /// keeps, in slot order. After `Memory` the acceptor is as it was. Takes no memory if nothing is
     /// kept. In proportion to what it keeps.
     pub fn p1a(&mut self, ballot: Ballot) -> Result<Promise<C, A>, Memory>
         ensures state { OnOk result (self.new ≡ after_p1a self.old ballot) }
@@ -158,7 +158,7 @@ fn keep<C: Payload, A: Allocator + Copy>(
     Ok(())
 }
 
-/// The higher of both, where none is below all.
+/// The higher of both, if none is below all.
 fn higher(own: Option<Ballot>, ballot: Ballot) -> Ballot
     ensures { result ≡ raised own ballot }
 {

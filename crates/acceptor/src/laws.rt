@@ -13,7 +13,7 @@ pub fn acceptors_reach_what_they_keep<C>()
     ensures after_p2a { (a : AcceptorState C) (p : PValue C) → HasReached a → HasReached (after_p2a a p) }
 {}
 
-/// What is kept after a pvalue is an old one, or the new one where it isn't below the acceptor's
+/// What is kept after a pvalue is an old one, or the new one if it isn't below the acceptor's
 /// ballot. Such a one leaves something at least as high in its slot, and each slot for which
 /// something was kept has something at least as high.
 pub fn what_is_kept_stays_or_is_topped<C>()

@@ -1,5 +1,5 @@
 -- The accounts of a file: one a line, empty lines skipped. `lines` is std's word for the lines of a text: a line feed
--- ends a line, one carriage return directly before it is dropped, and what stands behind the last line feed is a line,
+-- ends a line, one carriage return directly before it is dropped, and what stands after the last line feed is a line,
 -- if it is not empty.
 use Rattle.std.specs.Prelude.{◌≢◌, ℕ, ◌+◌, ◌==◌, ◌&&◌, ◌||◌, ◌++◌, List, [], ◌∷◌, Bool, nat_le, length, take, drop, position, if◌then◌else◌, codes, Option, None, Some, option_and_then, Result, Ok, Err}
 use Rattle.std.specs.List.{list_all, list_any, filter_map, AllPairs}
@@ -48,7 +48,7 @@ method_of word =
 abbrev pub is_space : ℕ → Bool
 is_space b = b == 0x20
 
--- what stands before the first space, and what behind it
+-- what stands before the first space, and what after it
 abbrev pub cut_at_space : List ℕ → Option (List ℕ × List ℕ)
 cut_at_space bytes = option_map (λ place. (take place bytes, drop (place + 1) bytes)) (position is_space bytes)
 
@@ -78,12 +78,12 @@ abbrev pub row_fault : ℕ → List Account → Option Account → Option Accoun
 row_fault number accounts None = Some (Line number)
 row_fault number accounts (Some account) = if has_account accounts account.name then Some (Twice number) else None
 
--- what is wrong with the line of this number, behind lines with these accounts
+-- what is wrong with the line of this number, after lines with these accounts
 abbrev pub fault_of : ℕ → List Account → List ℕ → Option AccountsError
 fault_of number accounts [] = None
 fault_of number accounts (b ∷ bs) = row_fault number accounts (row_of (b ∷ bs))
 
--- the first fault of lines that stand behind other lines
+-- the first fault of lines that stand after other lines
 abbrev pub first_fault : List (List ℕ) → List (List ℕ) → Option AccountsError
 first_fault before [] = None
 first_fault before (line ∷ lines) =

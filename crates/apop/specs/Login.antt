@@ -9,7 +9,7 @@ use Rattle.apop.specs.Accounts.{Account}
 use Rattle.apop.specs.declared.method.Method.{Method}
 use Rattle.apop.specs.declared.method.Method.TheVariants.{Pass, Apop}
 
--- the MD5 of the timestamp and the secret behind it, as 32 lower-case hexadecimal digits
+-- the MD5 of the timestamp and the secret after it, as 32 lower-case hexadecimal digits
 abbrev pub digest_of : Stamp → List ℕ → List ℕ
 digest_of stamp secret = encode_lower (md5 (timestamp stamp ++ secret))
 

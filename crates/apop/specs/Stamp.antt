@@ -15,7 +15,7 @@ dot = 46
 abbrev pub hyphen : ℕ
 hyphen = 45
 
--- A letter or a digit may follow anything, a dot a letter or a digit, and a hyphen, where hyphens are allowed, a
+-- A letter or a digit may follow anything, a dot a letter or a digit, and a hyphen, if hyphens are allowed, a
 -- letter, a digit or a hyphen.
 abbrev pub may_follow : Bool → ℕ → ℕ → Bool
 may_follow hyphens before b =
@@ -23,13 +23,13 @@ may_follow hyphens before b =
     || (b == dot && is_letter_or_digit before)
     || (hyphens && b == hyphen && (is_letter_or_digit before || before == hyphen))
 
--- what stands behind a byte: each may follow the one before it, and the last is a letter or a digit
+-- what stands after a byte: each may follow the one before it, and the last is a letter or a digit
 abbrev pub goes_on : Bool → ℕ → List ℕ → Bool
 goes_on hyphens before [] = is_letter_or_digit before
 goes_on hyphens before (b ∷ bs) = may_follow hyphens before b && goes_on hyphens b bs
 
--- runs of letters and digits, with hyphens inside a run where these are allowed, joined by single dots: such a text
--- goes on behind a dot
+-- runs of letters and digits, with hyphens inside a run if these are allowed, joined by single dots: such a text
+-- goes on after a dot
 abbrev pub are_runs : Bool → List ℕ → Bool
 are_runs hyphens text = goes_on hyphens dot text
 

@@ -81,7 +81,7 @@ impl<A: Allocator + Copy> Accounts<A> {
         self.names.as_slice()
     }
 
-    /// Whether a user logs in by PASS with this secret (RFC 1939 section 7): not where no account has the name.
+    /// Whether a user logs in by PASS with this secret (RFC 1939 section 7): not if no account has the name.
     pub fn check_pass(&self, name: &Name, secret: &[u8]) -> bool
         ensures { result ≡ passes self.now name.now secret.now }
     {
@@ -92,7 +92,7 @@ impl<A: Allocator + Copy> Accounts<A> {
     }
 
     /// Whether a user logs in by APOP with this digest, in lower-case hexadecimal, after a greeting with this
-    /// timestamp (RFC 1939 section 7): not where no account has the name. Takes no memory.
+    /// timestamp (RFC 1939 section 7): not if no account has the name. Takes no memory.
     pub fn check_apop(&self, name: &Name, stamp: &Stamp, digest: &[u8]) -> bool
         ensures { result ≡ passes_apop self.now name.now stamp.now digest.now }
     {

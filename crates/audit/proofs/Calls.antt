@@ -200,7 +200,7 @@ module _ {A : Type 0} where
       go true = h
       go false = acts_stay log i id v h
 
-  -- a crash, and what stands behind one, answers nothing
+  -- a crash, and what stands after one, answers nothing
   pub nothing_last : (log : NodeLog A) (i : Input A) (id : CommandId) → list_any is_crash (log.inputs ++ i ∷ []) ≡ true → answered (logged log i) id ≡ answered log id
   nothing_last log i id h =
       answered-push log i id ∙ go (list_any is_crash log.inputs) (sym (list_any-append is_crash log.inputs (i ∷ [])) ∙ h)

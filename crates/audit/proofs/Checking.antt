@@ -18,7 +18,7 @@ use Rattle.std.proofs.Math.ListN.{drop_of_length-le}
 use Rattle.audit.proofs.Naming.{drop_got}
 use Rattle.audit.proofs.Numbering.{other_way}
 
--- an entry that names a command is the first where no earlier one did
+-- an entry that names a command is the first if no earlier one did
 pub first_is : (i j : ℕ) (named : List CommandId) (rest found : CommandId → Option (ℕ × ℕ)) → AreFound i j named rest found → (id : CommandId) → rest id ≡ Some (i, j) → is_place i j (found id) ≡ not (was_named named id)
 first_is i j named rest found h id is =
     go (was_named named id) refl
@@ -161,7 +161,7 @@ module _ {A : Type 0} where
     pub begins : (node : Option (NodeValue A)) → IsLeft state start node → AreFound session 0 start (λ id. named_in id session 0 entries (rest id)) found → Midway log state found rest session start entries 0 node
     begins its left others = record { named = start; left = left; others = others; right = refl; then = refl }
 
-    -- what an entry is, where the ones before it are checked
+    -- what an entry is, if the ones before it are checked
     abbrev Here : ℕ → Option (NodeValue A) → Asked A → Bool → Option (NodeValue A) → Type 0
     Here number node entry result after = (named : List CommandId) → IsLeft state named node → ((id : CommandId) → entry_key entry ≡ Some id → is_place session number (found id) ≡ not (was_named named id)) → (result ≡ is_right log state named entry (entry_key entry)) × IsLeft state (with_key (entry_key entry) named) after
 

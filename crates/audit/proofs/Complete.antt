@@ -95,7 +95,7 @@ module _ {S I E K O L : Type 0} (a : Case S I E K O L) where
       go true h = h
       go false h = absurd (cc)
 
-  -- where a session awaits nothing, and has a turn left, all that it asked is answered
+  -- if a session awaits nothing, and has a turn left, all that it asked is answered
   all_there : (p : ℕ → ℕ) (i : ℕ) (s : Session I K O L) → GoodSession p i s → s.awaits ≡ None → (t : Turn I K O L) (ts : List (Turn I K O L)) → s.left ≡ t ∷ ts → (k : K) → IsIn k (key_in a s.done) → is_answered a p k ≡ true
   all_there p i s g none t ts more k h =
       ⊎_elim

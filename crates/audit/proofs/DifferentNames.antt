@@ -28,7 +28,7 @@ new_here false true false seen = refl
 new_here false false true seen = refl
 new_here false false false seen = refl
 
--- the same, where the first name is new
+-- the same, if the first name is new
 first_is_new : (others different seen : Bool) → ((others && different) && (true && seen)) ≡ (different && (others && seen))
 first_is_new true different seen = refl
 first_is_new false true seen = refl
@@ -54,6 +54,6 @@ pub differ_from-more : (seen more : BTreeSet (List ℕ)) (name : List ℕ) (name
 differ_from-more seen more name names new updates =
     rw (new, more_names seen more name updates names) (first_is_new (list_all (λ other. not (bytes_eq name other)) names) (are_different names) (list_all (λ other. not (has seen other)) names))
 
--- the names from a place on are the one there and those behind it
+-- the names from a place on are the one there and those after it
 pub drop-name : (names : List (List ℕ)) (i : ℕ) (name : List ℕ) → i < length names → name ≡ get_or names i name → drop i names ≡ name ∷ drop (i + 1) names
 drop-name names i name inside is = rw (drop-cons names i name inside, ← is, add-one) refl

@@ -29,7 +29,7 @@ pub not_true : (t : Bool) → (t ≡ true → ⊥) → t ≡ false
 not_true true h = absurd (h refl)
 not_true false h = refl
 
--- what stands in a list where one is set
+-- what stands in a list if one is set
 pub set_got : {X : Type 0} (xs : List X) (place k : ℕ) (later x : X) → slice_get (set xs place later) k ≡ Some x → ((later ≡ x) × (k ≡ place)) ⊎ (slice_get xs k ≡ Some x)
 set_got [] place k later x e = absurd (cc)
 set_got (y ∷ xs) zero zero later x e = inl (cc, refl)
@@ -55,7 +55,7 @@ module _ {A : Type 0} where
       ∙ and_assoc (needs_no_more f (entry_key y)) (are_answered f j ys) (needs_no_more f (entry_key e))
       ∙ ap (λ t. t && needs_no_more f (entry_key e)) (sym (both_keys f (entry_key y) (entry_keys (take j ys))))
 
-  -- where so many are answered, fewer are
+  -- if so many are answered, fewer are
   pub fewer : (f : CommandId → Bool) (xs : List (Asked A)) (j k : ℕ) → j ≤ k → are_answered f k xs ≡ true → are_answered f j xs ≡ true
   fewer f [] zero k less h = refl
   fewer f [] (suc j) k less h = refl

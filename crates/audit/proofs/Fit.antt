@@ -20,7 +20,7 @@ use Rattle.audit.proofs.Written.{written}
 use Rattle.audit.specs.declared.placement.Placement.{Placement}
 use Rattle.audit.specs.Written.{ArePlaced, written_order}
 
--- a place of a list is behind its first, and something stands there
+-- a place of a list is after its first, and something stands there
 pub from_place : {X : Type 0} (from n : ℕ) (xs : List X) → IsIn n (places_from from xs) → (k : ℕ) × (x : X) × (n ≡ from + k) × (slice_get xs k ≡ Some x)
 from_place from n [] h = absurd h
 from_place from n (y ∷ ys) h =

@@ -67,7 +67,7 @@ module _ {A : Type 0} (logs : List (NodeLog A)) (transcripts : List (Transcript 
       (none_or_some logs n)
 
   module _ (none : IsLeast logs placing.replays.items (length logs) None) where
-    -- where none is left all is placed
+    -- if none is left all is placed
     pub all_placed : (n : ℕ) → counts_of placing.replays.items n ≡ length (real.logs n)
     all_placed n =
         ⊎_elim

@@ -39,7 +39,7 @@ module _ {A : Type 0} where
       go None e = e
       go (Some key) e = ap (λ ks. key ∷ ks) e
 
-  -- behind a number no entry has a ticket
+  -- after a number no entry has a ticket
   pub last_here : (n number : ℕ) (entries : List (Asked A)) (entry : Asked A) (ticket : Ticket) (id : CommandId) → suc number ≡ n → slice_get entries number ≡ Some entry → entry.ticket ≡ Some ticket → id ≡ record { user = entry.name; ticket = ticket } → entry_keys (drop n entries) ≡ [] → Some id ≡ last_of (entry_keys entries)
   last_here n number entries entry ticket id next at its is none =
       ap (λ i. Some i) is

@@ -55,7 +55,7 @@ module _ {A : Type 0} (logs : List (NodeLog A)) (replays : List (Replayed A)) wh
     here : (number : ℕ) → number ≡ log.opening.me → replay.placed < length log.inputs → IsLeftAt logs replays count number
     here number is left = record { log = log; replay = replay; its = its; of_it = of_it; me = sym is; left = left }
 
-    -- of one log more, whose number it is where it has an input left
+    -- of one log more, whose number it is if it has an input left
     lower_then : (least number : ℕ) → number ≡ log.opening.me → least ≤ number → ((n other : ℕ) → n < count → IsLeftAt logs replays n other → least ≤ other) → (n other : ℕ) → n < suc count → IsLeftAt logs replays n other → least ≤ other
     lower_then least number is less lower n other within h =
         ⊎_elim

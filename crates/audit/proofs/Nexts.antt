@@ -134,7 +134,7 @@ module _ {A : Type 0} (logs : List (NodeLog A)) (transcripts : List (Transcript 
             ∙ ap (λ (o : Option (NodeLog A)). is_some (answer (begun_at logs (place_of id.ticket.node logs) o) id)) (slice_get_past logs (place_of id.ticket.node logs) past)
             ∙ sym (ap (has_answer_at id) e)
 
-    -- it is a session's turn where what it asked before is answered
+    -- it is a session's turn if what it asked before is answered
     turn_same : (id : CommandId) → turn_there real (counts_of rs) (Some id) ≡ is_turn (is_answered_by logs rs) transcripts (named_from id 0 transcripts)
     turn_same id =
         go (first_session logs transcripts id 0 transcripts)

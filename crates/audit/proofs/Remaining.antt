@@ -72,7 +72,7 @@ module _ {A : Type 0} where
       record { quiet = λ e. absurd (true≢false e); busy = λ e. omega (arith, so_far, more); grown = omega (arith, so_far, more) }
 
 module _ {A : Type 0} (logs : List (NodeLog A)) (transcripts : List (Transcript A)) where
-  -- where nothing more comes of a log
+  -- if nothing more comes of a log
   pub has_gone : (before now new : Placing A) (moved : Bool) (n : ℕ) → HasMoved before now moved → IsMoved logs transcripts n now new false → HasGone logs transcripts n before new moved
   has_gone before now new true n h s = subst (λ p. length before.placements.items < length p.placements.items) (sym s.0) (h.busy refl)
   has_gone before now new false n h s = (s.0 ∙ h.quiet refl, s.1)

@@ -145,7 +145,7 @@ legal = (
   ),
 )
 
--- An event leads to one world at most, where each node has a number of its own: so what isn't a legal order is found by
+-- An event leads to one world at most, if each node has a number of its own: so what isn't a legal order is found by
 -- going from world to world.
 module _ {S I E K O L : Type 0} (a : Case S I E K O L) (apart : (m n : ℕ) → a.number m ≡ a.number n → m ≡ n) where
   submitted : (w v v' : World I E K O L) (i n n' : ℕ) (line line' : Option L) → n ≡ n' → Submits a w i n line v → Submits a w i n' line' v' → v ≡ v'
@@ -179,7 +179,7 @@ module _ {S I E K O L : Type 0} (a : Case S I E K O L) (apart : (m n : ℕ) → 
       let same : m ≡ m' = cc in
       cc
 
-  -- behind an event whose world is known
+  -- after an event whose world is known
   behind : (w v u : World I E K O L) (e : Event) (es : List Event) → Happens a w e v → Leads a w (e ∷ es) u → Leads a v es u
   behind w v u e es h (v', h', later) = subst (λ z. Leads a z es u) (one_world w v' v e h' h) later
 
@@ -384,15 +384,15 @@ no_order_without_it es (named, ticketed, (u, leads, (all, said))) =
 pub an_order_with : (number : ℕ) → HasNoOrder good (NoOrder number) → ⊥
 an_order_with number none = none events legal
 
--- the second node ticks behind its crash
+-- the second node ticks after its crash
 abbrev crashed : SmallCase
 crashed = case [] (Crashes ∷ Tick ∷ []) []
 
--- Nothing is placed behind a crash.
+-- Nothing is placed after a crash.
 pub stuck_at_the_crash : is_stuck crashed (placed 0 1) ≡ true
 stuck_at_the_crash = refl
 
--- And the node takes nothing behind it.
+-- And the node takes nothing after it.
 pub nothing_behind_a_crash : IsLegalOrder crashed (Given 2 ∷ Given 2 ∷ []) → ⊥
 nothing_behind_a_crash (named, ticketed, (u, leads, ends)) =
     go (behind crashed numbers_apart (opening crashed) (with_input (opening crashed) 1 []) u (Given 2) (Given 2 ∷ []) (1, Crashes, refl, refl, refl, (refl, refl, refl)) leads)

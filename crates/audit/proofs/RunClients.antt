@@ -159,7 +159,7 @@ module _ {A : Type 0} (accounts : List Account) (stamp : Stamp) (t : Transcript 
       go None d = more_later up later before left y.key c d
       go (Some outcome) d = ⊎_elim (λ g. inl (awaits_later up later before left y.key outcome c g)) (λ e. inr (more_later up later before left y.key c e)) d
 
-  -- however it stands where its node is down
+  -- however it stands if its node is down
   goes_down : (up later : Type 0) → (later → ⊥) → (left : Turns A) (c : Client A) (standing : Standing A) → Goes up left c → Goes later left (standing_as c standing)
   goes_down up later down left c standing g = record {
     number = g.number;
@@ -209,7 +209,7 @@ module _ {A : Type 0} (accounts : List Account) (stamp : Stamp) (t : Transcript 
       go None d = more_down up later down left y.key c standing d
       go (Some outcome) d = ⊎_elim (λ g. inl (awaits_down up later down left y.key outcome c standing g)) (λ e. inr (more_down up later down left y.key c standing e)) d
 
-  -- what is told behind what was told
+  -- what is told after what was told
   told_more : (replies bytes : List ℕ) (rest all : List (List ℕ)) → all ≡ bytes ∷ rest → replies ++ concat all ≡ all_told → (replies ++ bytes) ++ concat rest ≡ all_told
   told_more replies bytes rest all e h = append_assoc replies bytes (concat rest) ∙ ap (λ rs. replies ++ concat rs) (sym e) ∙ h
 

@@ -15,7 +15,7 @@ use Rattle.audit.specs.Records.{is_fit, place_of, AreFit}
 use Rattle.audit.specs.Runs.{opening_at, AreInOrder, AreOfService}
 use Rattle.audit.proofs.RunScripts.{served_script}
 
--- the place of a node, where the logs are in order
+-- the place of a node, if the logs are in order
 place_in_order : {A : Type 0} (xs : List (NodeLog A)) (from : ℕ) → ((n : ℕ) (log : NodeLog A) → slice_get xs n ≡ Some log → log.opening.me ≡ suc (from + n))
     → (n : ℕ) (log : NodeLog A) → slice_get xs n ≡ Some log → place_of (suc (from + n)) xs ≡ n
 place_in_order [] from order n log e = absurd (cc)

@@ -22,7 +22,7 @@ use Rattle.runs.specs.declared.config.Config.{Config}
 use Rattle.runs.specs.declared.event.Event.TheVariants as event
 
 module _ {A : Type 0} where
-  -- the client of each session, where that of one is put in
+  -- the client of each session, if that of one is put in
   at_inserted : (session s : ℕ) (d : Client A) (clients : List (ℕ × Client A)) → client_of s (with_client session d clients) ≡ cond (eqb s session) (Some d) (client_of s clients)
   at_inserted session s d [] = refl
   at_inserted session s d (e ∷ es) =

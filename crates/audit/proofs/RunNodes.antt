@@ -71,7 +71,7 @@ module _ {A : Type 0} where
       go later true e h = let same : l ≡ log = cc in ap (λ (x : NodeLog A). x.opening.me) (sym same) ∙ eqb-true l.opening.me number e
       go later false e h = later h
 
-  -- what runs behind an input ran before it
+  -- what runs after an input ran before it
   ran_before : (s : Replay A) (x : Input A) → runs (after s x) ≡ true → runs s ≡ true
   ran_before None x h = h
   ran_before (Some log) x h = not_either (list_any is_crash log.inputs) (list_any is_crash (x ∷ [])) (ap not (sym (list_any-append is_crash log.inputs (x ∷ []))) ∙ h)
@@ -182,7 +182,7 @@ module _ {A : Type 0} (cfg : Config A) (logs : List (NodeLog A)) (transcripts : 
                 let here : n ≡ length logs = sym (its_place n there.0 there.1) ∙ ap (λ k. place_of k logs) (sym q) ∙ none in
                 omega (arith, below, here)
 
-    -- what is up behind an input was up before it
+    -- what is up after an input was up before it
     pub up_before : (n : ℕ) (x : Input A) → next real n (placed n) ≡ Some x → (m : ℕ) → Up (one_more placed n) m → Up placed m
     up_before n x comes =
         put_apart (λ m k. runs (state_at real m k) ≡ true → Up placed m) placed n (suc (placed n))

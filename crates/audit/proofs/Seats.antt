@@ -171,7 +171,7 @@ module _ {A : Type 0} (logs : List (NodeLog A)) (transcripts : List (Transcript 
           ap (λ t. (t && (not (was_named seen (record { user = entry.name; ticket = ticket })) && ((place_of ticket.node logs == n) && is_outcome real entry.outcome (answer (end_state logs transcripts (place_of ticket.node logs)) (record { user = entry.name; ticket = ticket }))))) && entries_good logs transcripts n (record { user = entry.name; ticket = ticket } ∷ seen) entries)
           (ap (λ o. has_submit real (place_of ticket.node logs) (record { user = entry.name; ticket = ticket }) (submit_of entry) (length (inputs_in o))) none)
 
-  -- what is said of a session, whose commands come behind those that were named
+  -- what is said of a session, whose commands come after those that were named
   abbrev Verdict : List CommandId → Transcript A → Bool → List (Option (NodeValue A)) → Type 0
   Verdict named t result outcomes =
       (result ≡ are_good real (node_of real (turns_of real (script_of t))) named (turns_of real (script_of t)))

@@ -49,7 +49,7 @@ module _ {S I E K O L : Type 0} (a : Case S I E K O L) where
   placed_at p None = p
   placed_at p (Some n) = put p n (suc (p n))
 
-  -- k turns, each of which places one input, or nothing where none can be placed
+  -- k turns, each of which places one input, or nothing if none can be placed
   abbrev pub settled : ℕ → ℕ → ℕ
   settled zero = λ n. 0
   settled (suc k) = placed_at (settled k) (first_that_can (settled k) a.nodes)

@@ -198,7 +198,7 @@ module _ {A : Type 0} (logs : List (NodeLog A)) (transcripts : List (Transcript 
     pub one_more_placed : length new.placements.items ≡ suc (length old.placements.items)
     one_more_placed = ap length t.placements ∙ length_more old.placements.items (record { node = n; source = source })
 
-  -- where an input can come, the node runs
+  -- if an input can come, the node runs
   module _ (rs : List (Replayed A)) (way : AreOnTheWay logs transcripts rs) (sent : List (Envelope (Command A) A)) (n : ℕ) (source : Source) (c : CanCome logs transcripts (counts_of rs) sent n source) where
     pub it_runs : (r : Replayed A) → slice_get rs n ≡ Some r → runs r.state ≡ true
     it_runs r its =
@@ -251,7 +251,7 @@ module _ {A : Type 0} (logs : List (NodeLog A)) (transcripts : List (Transcript 
       zeros : counts_of placing.replays.items ≡ (λ n. 0)
       zeros = λ i n. counts_zero placing.replays.items (λ m r e. (begun.each m r e).1) n i
 
-  -- where none of all logs has an input that can come, the placing is stuck
+  -- if none of all logs has an input that can come, the placing is stuck
   pub all_stuck : (placing : Placing A) → ((n : ℕ) → n < length logs → can_place first_case (counts_of placing.replays.items) n ≡ false) → is_stuck first_case (counts_of placing.replays.items) ≡ true
   all_stuck placing none =
       all_from (λ n. if can_place first_case (counts_of placing.replays.items) n then false else true) (places_from 0 logs) (λ n there.

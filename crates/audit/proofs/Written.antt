@@ -161,7 +161,7 @@ module _ {S I E K O L : Type 0} (a : Case S I E K O L) (laws : Laws a) (begins :
       neither : (k : K) → None ≡ Some k → ⊥
       neither k e = absurd (cc)
 
-  -- an input that no session brings, where all sessions whose node is then down are as far as they can be
+  -- an input that no session brings, if all sessions whose node is then down are as far as they can be
   moved_quietly : (q : ℕ → ℕ) (n : ℕ) (x : I) (sent : List E) (f g : ℕ → Session I K O L) (before : List Event) (event : Event) (talks talks' : ℕ → Talk) → next a n (q n) ≡ Some x → asked a (state_at a n (q n)) x ≡ None
       → ((m : ℕ) (e : E) → IsIn m a.nodes → IsIn e (sent_at a m (q m)) → IsIn e sent)
       → Leads a (the_world a q sent f) before (the_world a q sent g) → Happens a (the_world a q sent g) event (the_world a (more q n) (sent ++ a.sends (state_at a n (q n)) x) g)
@@ -235,7 +235,7 @@ module _ {S I E K O L : Type 0} (a : Case S I E K O L) (laws : Laws a) (begins :
   in_script : (q : ℕ → ℕ) (i : ℕ) (ts : List (Turn I K O L)) (s : Session I K O L) → Synced a q (at i) ts s → (k : K) → IsIn k (key_in a s.left) → IsIn k (key_in a ts)
   in_script q i ts s z k h = subst (λ us. IsIn k (key_in a us)) z.whole (subst (λ ks. IsIn k ks) (sym (keys_both a s.done s.left)) (in_right k (key_in a s.done) _ h))
 
-  -- where all but one input of a log is placed, and that one is of no session, its sessions have asked all
+  -- if all but one input of a log is placed, and that one is of no session, its sessions have asked all
   nothing_asked_last : (q : ℕ → ℕ) (n : ℕ) (x : I) → next a n (q n) ≡ Some x → asked a (state_at a n (q n)) x ≡ None → suc (q n) ≡ used n → (i : ℕ) (ts : List (Turn I K O L)) → slice_get a.scripts i ≡ Some (Some ts) → at i ≡ n → (s : Session I K O L) → Synced a q (at i) ts s → (k : K) → IsIn k (key_in a s.left) → ⊥
   nothing_asked_last q n x is asks whole i ts script here s z k h =
       let m = submitted_at i ts script k (in_script q i ts s z k h) in

@@ -7,7 +7,7 @@ pub data Turn (I K O L : Type 0) : Type 0 where
   Asks : (line : Option L) → (input : I) → (key : K) → (outcome : Option O) → Turn I K O L
 
 module _ {I K O L : Type 0} where
-  -- what stands behind a turn that asks: a hangup is the last of its session, and its transcript tells no outcome of it
+  -- what stands after a turn that asks: a hangup is the last of its session, and its transcript tells no outcome of it
   abbrev pub EndsIfHangup : Option L → Option O → List (Turn I K O L) → Type 0
   EndsIfHangup (Some line) outcome behind = Unit {0}
   EndsIfHangup None outcome behind = (outcome ≡ None) × (behind ≡ [])

@@ -41,7 +41,7 @@ unsaid (Hangup ∷ ks) = Hangup ∷ ks
 abbrev pub collected : ℕ → Bool → List Event
 collected i asked = if asked then event.Collect i ∷ [] else []
 
--- a session goes on as far as it can, where the answer that it awaits is there or not
+-- a session goes on as far as it can, whether the answer that it awaits is there or not
 abbrev pub goes_on : ℕ → Bool → Talk → List Event
 goes_on i answered talk = if talk.asked && not answered then [] else collected i talk.asked ++ said i talk.left
 

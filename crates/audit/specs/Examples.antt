@@ -60,7 +60,7 @@ module _ (A : Type 0) (limits : Limits) where
   stuck : is_stuck (case_of (log_of 1 (Arrive asks_for_votes ∷ []) ∷ []) []) none_placed ≡ true
   stuck = refl
 
-  -- behind a crash nothing comes
+  -- after a crash nothing comes
   down : can_place (case_of (log_of 1 (Crash ∷ Tick ∷ []) ∷ []) []) one_placed 0 ≡ false
   down = refl
 
@@ -71,7 +71,7 @@ module _ (A : Type 0) (limits : Limits) where
   again : can_place (case_of (log_of 1 [] ∷ log_of 1 (Tick ∷ []) ∷ []) []) none_placed 1 ≡ false
   again = refl
 
-  -- a Take comes where an entry names it
+  -- a Take comes if an entry names it
   unnamed : can_place (case_of (log_of 1 (Submit alice Take ∷ []) ∷ []) []) none_placed 0 ≡ false
   unnamed = refl
 

@@ -52,7 +52,7 @@ module _ {A : Type 0} where
   answers_left None id = None
   answers_left (Some node) id = answer_of id node.awaited
 
-  -- the node of a log before its first input, where it is the first log of the node
+  -- the node of a log before its first input, if it is the first log of the node
   abbrev pub begun : Bool → Opening A → Replay A
   begun first opening = if is_fit opening && first then Some (record { opening = opening; inputs = [] }) else None
 

@@ -63,7 +63,7 @@ module _ {S I E K O L : Type 0} (a : Case S I E K O L) where
       × ((w.sessions i).left ≡ Plain l ∷ ts)
       × (w' ≡ record { placed = w.placed; sent = w.sent; sessions = put w.sessions i (record { node = Some n; done = (w.sessions i).done ++ Plain l ∷ []; left = ts; awaits = None }) })
 
-  -- the transcript's outcome, where it has one, is the one that is found
+  -- the transcript's outcome, if it has one, is the one that is found
   abbrev pub Agrees : Option O → O → Type 0
   Agrees None o = Unit {0}
   Agrees (Some o') o = o' ≡ o

@@ -45,7 +45,7 @@ module _ {A : Type 0} (logs : List (NodeLog A)) (transcripts : List (Transcript 
   pub record ArePlacedBy (placed : ℕ → ℕ) (sent : List (Envelope (Command A) A)) (placements : List Placement) : Type 0 where
     pub onwards : (rest : List Placement) → ArePlaced (case_of logs transcripts) placed sent rest → ArePlaced (case_of logs transcripts) (λ n. 0) [] (placements ++ rest)
 
-  -- inputs were placed one at a time, each where it could come
+  -- inputs were placed one at a time, each when it could come
   pub record IsPlaced (placing : Placing A) : Type 0 where
     pub replayed : AreOnTheWay placing.replays.items
     pub messages : AreSent (counts_of placing.replays.items) placing.sent
@@ -69,7 +69,7 @@ module _ {A : Type 0} (logs : List (NodeLog A)) (transcripts : List (Transcript 
   IsNext placed sent n None = can_place (case_of logs transcripts) placed n ≡ false
   IsNext placed sent n (Some source) = CanCome placed sent n source
 
-  -- an input of the log was placed, or none, where none could come
+  -- an input of the log was placed, or none, if none could come
   abbrev pub IsMoved : ℕ → Placing A → Placing A → Bool → Type 0
   IsMoved n before after false = (after ≡ before) × (can_place (case_of logs transcripts) (counts_of after.replays.items) n ≡ false)
   IsMoved n before after true = length after.placements.items ≡ suc (length before.placements.items)
@@ -79,7 +79,7 @@ module _ {A : Type 0} (logs : List (NodeLog A)) (transcripts : List (Transcript 
   HasGone n before after false = (after ≡ before) × (can_place (case_of logs transcripts) (counts_of after.replays.items) n ≡ false)
   HasGone n before after true = length before.placements.items < length after.placements.items
 
-  -- inputs of the first logs were placed, or none, where none of them could come
+  -- inputs of the first logs were placed, or none, if none of them could come
   abbrev pub HavePassed : ℕ → Placing A → Placing A → Bool → Type 0
   HavePassed count before after false = (after ≡ before) × ((n : ℕ) → n < count → can_place (case_of logs transcripts) (counts_of after.replays.items) n ≡ false)
   HavePassed count before after true = length before.placements.items < length after.placements.items

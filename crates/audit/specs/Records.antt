@@ -30,7 +30,7 @@ module _ {A : Type 0} where
   abbrev pub is_fit : Opening A → Bool
   is_fit o = are_different o.names && can_begin o.me o.cluster o.window
 
-  -- the place of the first log of this node, or behind the last
+  -- the place of the first log of this node, or after the last
   abbrev pub place_of : ℕ → List (NodeLog A) → ℕ
   place_of number [] = 0
   place_of number (log ∷ logs) = if log.opening.me == number then 0 else suc (place_of number logs)

@@ -15,7 +15,7 @@ use Rattle.node.specs.declared.input.Input.{Input}
 use Rattle.node.specs.declared.input.Input.TheVariants.{Submit, Arrive}
 use Rattle.node.specs.declared.log.NodeLog.{NodeLog}
 
--- what came to a node so far, none where there is no such node
+-- what came to a node so far, none if there is no such node
 abbrev pub Replay : Type 0 → Type 0
 Replay A = Option (NodeLog A)
 

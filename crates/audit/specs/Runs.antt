@@ -39,7 +39,7 @@ module _ {A : Type 0} where
   abbrev pub opening_at : Config A → ℕ → Opening A
   opening_at cfg number = record (opening_of cfg) { me = number }
 
-  -- These are logs and transcripts of a service: each node began as the service's nodes do, and session i, behind the
+  -- These are logs and transcripts of a service: each node began as the service's nodes do, and session i, after the
   -- greeting of its timestamp, was served over the service's accounts.
   pub record AreOfService (cfg : Config A) (stamps : ℕ → Stamp) (logs : List (NodeLog A)) (transcripts : List (Transcript A)) : Type 0 where
     pub openings : (n : ℕ) (log : NodeLog A) → slice_get logs n ≡ Some log → log.opening ≡ opening_at cfg log.opening.me

@@ -20,7 +20,7 @@ pub record Speaker : Type 0 where
   pub answered : Bool
   pub talk : Talk
 
--- the turn of an entry, which is one where it has a ticket
+-- the turn of an entry, which is one if it has a ticket
 abbrev pub asked_kind : Kind → Option Ticket → List Kind
 asked_kind kind None = []
 asked_kind kind (Some ticket) = kind ∷ []

@@ -37,7 +37,7 @@ module _ {A : Type 0} where
   hangups [] = []
   hangups (entry ∷ entries) = asks None entry ++ hangups entries
 
-  -- the line of a number asks where the next entry is its
+  -- the line of a number asks if the next entry is its
   abbrev pub turn_of : ℕ → Line → (List (Asked A) → Turns A) → List (Asked A) → Turns A
   turn_of number line rest [] = Plain line ∷ rest []
   turn_of number line rest (entry ∷ entries) =

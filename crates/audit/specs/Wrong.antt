@@ -26,7 +26,7 @@ module _ {S I E K O L : Type 0} (a : Case S I E K O L) where
   abbrev pub is_seen : List K → K → Bool
   is_seen seen k = list_any (λ k'. a.same_key k' k) seen
 
-  -- an entry, where these were named by earlier ones, of a session whose tickets are of node n
+  -- an entry, if these were named by earlier ones, of a session whose tickets are of node n
   abbrev pub is_good : ℕ → List K → I → K → Option O → Bool
   is_good n seen x k o =
       has_submit (a.home k) k x (length (a.logs (a.home k)))

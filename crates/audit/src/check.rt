@@ -192,7 +192,7 @@ fn check_session<A: Allocator + Copy>(
     )
 }
 
-/// The place of the first transcript with a wrong answer, where all that was placed is all of the logs. It costs look-ups
+/// The place of the first transcript with a wrong answer, if all that was placed is all of the logs. It costs look-ups
 /// in proportion to the entries. Takes no memory.
 pub(crate) fn first_wrong<A: Allocator + Copy>(
     logs: &[NodeLog<A>],

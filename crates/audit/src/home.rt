@@ -13,8 +13,8 @@ use node::NodeLog;
 use session::{Asked, Transcript};
 use std::alloc::Allocator;
 
-/// The place of the node's first log, or the place behind the last log where the node has none. It takes as long as there
-/// are logs, which are nine at most where each is of another node.
+/// The place of the node's first log, or the place after the last log if the node has none. It takes as long as there
+/// are logs, which are nine at most if each is of another node.
 pub(crate) fn place_of<A: Allocator + Copy>(logs: &[NodeLog<A>], node: NodeId) -> usize
     ensures { result ≡ spec.place_of node logs.now }
 {

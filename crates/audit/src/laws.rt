@@ -1,6 +1,6 @@
 //! Laws of audits. Each is a function that does nothing: its contract is the law.
 //!
-//! Inputs are placed one at a time, each where it can come by what is placed: it is the next of its log, no crash stands
+//! Inputs are placed one at a time, each when it can come by what is placed: it is the next of its log, no crash stands
 //! before it, its message was sent, and what its session asked before is answered. By these laws it makes no difference in
 //! which order that is done: whoever places inputs until none can be placed knows whether there is a legal order, but for
 //! what the transcripts say of answers.
@@ -59,7 +59,7 @@ pub fn a_placing_ends<A: Allocator>()
 {}
 
 /// Where no input can be placed, each that anybody can place is placed already, whatever the logs and the transcripts are.
-/// So all that end there have placed the same; and where all inputs can be placed, none is left.
+/// So all that end there have placed the same; and if all inputs can be placed, none is left.
 pub fn a_stuck_placing_holds_every_placing<A: Allocator>()
     ensures { (logs : List (NodeLog A)) (transcripts : List (Transcript A)) (stuck : ℕ → ℕ) →
         is_stuck (case_of logs transcripts) stuck ≡ true

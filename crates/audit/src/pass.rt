@@ -76,7 +76,7 @@ fn none_answered<A: Allocator + Copy>(
 
 /// Places inputs one at a time until none can be placed. A pass over the logs tests one input more of each log than it
 /// places. A test costs some look-ups. Only that of an arrival may compare it with each message that was sent so far, and
-/// so again each time that it can't come yet: where the last message with its sender, addressee and topic is another one.
+/// so again each time that it can't come yet: if the last message with its sender, addressee and topic is another one.
 pub(crate) fn place_all<A: Allocator + Copy>(
     alloc: A,
     logs: &[NodeLog<A>],

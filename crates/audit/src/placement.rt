@@ -5,7 +5,7 @@
 pub(crate) enum Source {
     /// Neither a session nor a message.
     Own,
-    /// Neither, and the node takes no other behind it.
+    /// Neither, and the node takes no other after it.
     Last,
     /// The message that was sent as this number, counted from 0.
     Message(usize),

@@ -17,7 +17,7 @@ use node::{Input, NodeLog};
 use session::Transcript;
 use std::alloc::{Allocator, Global};
 
-/// Inputs that are placed one at a time, each where it can come.
+/// Inputs that are placed one at a time, each when it can come.
 #[derive(Drop)]
 pub(crate) struct Placing<A: Allocator + Copy = Global> {
     /// In the order in which they were placed.

@@ -14,7 +14,7 @@ use node::{Envelopes, Input, Node, NodeLog};
 use std::alloc::{Allocator, Global};
 use std::marker::Model;
 
-/// The node of a log, as far as its inputs have come. There is none where no node begins as the log says. A crash comes to
+/// The node of a log, as far as its inputs have come. There is none if no node begins as the log says. A crash comes to
 /// the node as a mark alone: what it had answered before can be asked for ever after.
 #[derive(Drop)]
 pub(crate) struct Replay<A: Allocator + Copy = Global> {
@@ -44,7 +44,7 @@ fn begin<A: Allocator + Copy>(alloc: A, log: &NodeLog<A>) -> Result<Option<Node<
     Node::open(alloc, log.opening.copy_for(alloc, log.opening.me)?)
 }
 
-/// One more than a count, where it can be counted.
+/// One more than a count, if it can be counted.
 fn one_more(count: usize) -> Result<usize, Memory>
     ensures { IfOk result (λ more. more ≡ suc count) }
 {
@@ -70,7 +70,7 @@ fn step<A: Allocator + Copy>(node: &mut Node<A>, input: Input<A>) -> Result<Enve
 }
 
 impl<A: Allocator + Copy> Replay<A> {
-    /// The node of a log before its first input. There is none behind the first log of a node.
+    /// The node of a log before its first input. There is none after the first log of a node.
     pub(crate) fn new(alloc: A, log: &NodeLog<A>, first: bool) -> Result<Self, Memory>
         ensures { IfOk result (λ replay. replay ≡ record { state = begun first log.now.opening; placed = 0 }) }
     {

@@ -15,7 +15,7 @@ ghost use Rattle.audit.specs.declared.event.Event.{Event};
 
 use std::alloc::Allocator;
 
-/// Logs and transcripts of a service are what an audit is made for, where a node can begin as its nodes do, and the logs
+/// Logs and transcripts of a service are what an audit is made for, if a node can begin as its nodes do, and the logs
 /// are those of some of its nodes, from the first on.
 pub fn a_service_is_fit<A: Allocator>()
     ensures { (config : Config A) (stamps : ℕ → Stamp) (logs : List (NodeLog A)) (transcripts : List (Transcript A)) →

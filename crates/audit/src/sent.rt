@@ -31,7 +31,7 @@ pub(crate) enum Topic {
 /// Places in a list of messages, by sender, addressee and topic.
 type Places<A> = IndexMap<(NodeId, NodeId, Topic), usize, BuildHasherDefault<FoldHasher>, A>;
 
-/// Messages in the order in which they were sent. To find one costs a look-up where it is the last with its sender,
+/// Messages in the order in which they were sent. To find one costs a look-up if it is the last with its sender,
 /// addressee and topic, or there is none with these; else it may be compared with each.
 #[derive(Drop)]
 pub(crate) struct Sent<A: Allocator + Copy = Global> {
@@ -139,7 +139,7 @@ impl<A: Allocator + Copy> Sent<A> {
         self.envelopes.push(envelope)
     }
 
-    /// These are sent, behind the others. After `Memory` some of them may stand there.
+    /// These are sent, after the others. After `Memory` some of them may stand there.
     pub(crate) fn add(&mut self, envelopes: Envelopes<A>) -> Result<(), Memory>
         ensures { OnOk result (self.new ≡ self.old ++ envelopes) }
     {

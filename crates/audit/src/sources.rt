@@ -1,4 +1,4 @@
-//! What brings the next input of a log, where it can come by what is placed.
+//! What brings the next input of a log, if it can come by what is placed.
 ghost use Rattle.std.specs.Prelude.{◌≡◌, ◌<◌, ◌≤◌, ℕ, length, None, true, false, is_some, IfSome, ◌&&◌, ◌==◌, slice_get};
 ghost use Rattle.std.specs.List.{list_any};
 ghost use Rattle.audit.specs.Answered.{is_answered_by, needs_no_more, are_answered, is_turn, AreAnswered};
@@ -52,7 +52,7 @@ fn is_entry_answered<A: Allocator + Copy>(
     }
 }
 
-/// How many of a session's first entries are answered, where so many are known to be. It looks at no entry from `end` on.
+/// How many of a session's first entries are answered, if so many are known to be. It looks at no entry from `end` on.
 fn answered_up_to<A: Allocator + Copy>(
     logs: &[NodeLog<A>],
     replays: &[Replay<A>],
@@ -73,7 +73,7 @@ fn answered_up_to<A: Allocator + Copy>(
     known.max(end)
 }
 
-/// The session that asks for a command, where all that it asked before is answered.
+/// The session that asks for a command, if all that it asked before is answered.
 fn session_of<A: Allocator + Copy>(
     logs: &[NodeLog<A>],
     transcripts: &[Transcript<A>],
@@ -124,7 +124,7 @@ fn is_of_lock<A: Allocator + Copy>(op: &SharedOp<A>) -> bool
     }
 }
 
-/// What brings the next input of a log, where it can come by what is placed.
+/// What brings the next input of a log, if it can come by what is placed.
 pub(crate) fn next_source<A: Allocator + Copy>(
     logs: &[NodeLog<A>],
     transcripts: &[Transcript<A>],

@@ -51,7 +51,7 @@ fn say_lines<A: Allocator + Copy>(
     Ok(kinds.len())
 }
 
-/// Takes the answer, where one is awaited.
+/// Takes the answer, if one is awaited.
 fn collect<A: Allocator + Copy>(
     session: usize,
     asked: bool,
@@ -65,7 +65,7 @@ fn collect<A: Allocator + Copy>(
     Ok(())
 }
 
-/// Asks, where the first of these turns does.
+/// Asks, if the first of these turns does.
 fn beg<A: Allocator + Copy>(
     session: usize,
     kinds: &[Kind],
@@ -88,7 +88,7 @@ fn awaits_after(kinds: &[Kind]) -> bool
     matches!(kinds.first(), Some(Kind::AskingLine))
 }
 
-/// The number of the turn behind the one of this number, if there is that one.
+/// The number of the turn after the one of this number, if there is that one.
 fn number_behind(kinds: &[Kind], number: usize) -> usize
     requires { number ≤ length kinds.now }
     ensures within { result ≤ length kinds.now }
@@ -115,7 +115,7 @@ impl<A: Allocator + Copy> Speaker<A> {
         }
     }
 
-    /// Goes on as far as it can, where the answer that it awaits is there or not.
+    /// Goes on as far as it can, whether the answer that it awaits is there or not.
     fn go_on(
         &mut self,
         session: usize,
@@ -147,7 +147,7 @@ impl<A: Allocator + Copy> Speaker<A> {
         Ok(())
     }
 
-    /// Goes on as far as it ever does, where no node is told, or the one that is told is its own.
+    /// Goes on as far as it ever does, if no node is told, or the one that is told is its own.
     pub(crate) fn go_on_at(
         &mut self,
         node: Option<usize>,

@@ -21,7 +21,7 @@ fn is_of_line<A: Allocator + Copy>(entry: &Asked<A>, number: usize) -> bool
     }
 }
 
-/// Adds a turn that asks, where the entry has a ticket. After `Memory` nothing has changed.
+/// Adds a turn that asks, if the entry has a ticket. After `Memory` nothing has changed.
 fn push_asking<A: Allocator + Copy>(
     kinds: &mut Vec<Kind, A>,
     kind: Kind,

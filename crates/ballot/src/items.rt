@@ -6,7 +6,7 @@ use std::alloc::{Allocator, Global};
 use std::marker::Model;
 use std::mem;
 
-/// A list, the first item first. Two are equal where their items are, whatever room each has.
+/// A list, the first item first. Two are equal if their items are, whatever room each has.
 #[derive(Drop)]
 pub struct Items<T, A: Allocator = Global> {
     items: Vec<T, A>,

@@ -36,7 +36,7 @@ impl<C: Payload, A: Allocator + Copy> Promise<C, A> {
     }
 }
 
-/// An acceptor's answer to `Message::P2a`. It is a vote for the asked ballot exactly where its own
+/// An acceptor's answer to `Message::P2a`. It is a vote for the asked ballot exactly if its own
 /// ballot is that one.
 #[derive(Clone, Copy, Debug, PartialEq, Eq)]
 pub struct Vote {
@@ -95,7 +95,7 @@ pub struct Envelope<C, A: Allocator = Global> {
 }
 
 impl<C: Payload, A: Allocator + Copy> Envelope<C, A> {
-    /// The same envelope again. Takes no memory where its message has no command and no list.
+    /// The same envelope again. Takes no memory if its message has no command and no list.
     pub fn copy(&self) -> Result<Self, Memory>
         ensures value { IfOk result (λ envelope. envelope ≡ self.now) }
         ensures sure { message_owns_memory self.now.message ≡ false → IsOk result }

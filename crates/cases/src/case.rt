@@ -39,18 +39,18 @@ pub struct Case {
     pub turns: Vec<Turn>,
     /// What it is to get.
     pub wanted: Vec<u8>,
-    /// With what the lines begin that count, where not all do.
+    /// With what the lines begin that count, if not all do.
     pub only: Option<Vec<u8>>,
     /// The exit status that is wanted.
     pub status: u8,
     /// What is to be told on standard error.
     pub told: Vec<u8>,
-    /// The unique ids that are to be left in a free maildrop, where the case says so.
+    /// The unique ids that are to be left in a free maildrop, if the case says so.
     pub left: Option<String>,
 }
 
 impl Settings {
-    /// The settings where a case doesn't say others.
+    /// The settings if a case doesn't say others.
     fn new(alloc: Global) -> Result<Settings, AllocError> {
         Ok(Settings {
             user: b"alice".to_vec(alloc)?,

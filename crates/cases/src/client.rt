@@ -67,7 +67,7 @@ pub struct Patient<'c, 'r> {
     pub turns: &'c [Turn],
     /// What it got.
     pub taken: &'r RefCell<Vec<u8>>,
-    /// The maildrop's desk and its user, where others come to the maildrop meanwhile.
+    /// The maildrop's desk and its user, if others come to the maildrop meanwhile.
     pub desk: Option<(&'r RefCell<LoneDesk>, Name)>,
 }
 

@@ -19,7 +19,7 @@ fn digit_of(byte: u8) -> Result<u8, Fail> {
     }
 }
 
-/// The byte that a letter behind a `\` stands for.
+/// The byte that a letter after a `\` stands for.
 fn escaped(letter: u8) -> u8 {
     match letter {
         b'n' => b'\n',

@@ -4,7 +4,7 @@ use std::cell::RefCell;
 use std::io;
 use std::io::Write;
 
-/// A writer that takes so many bytes a call, and no more than its room, behind which it takes nothing or fails.
+/// A writer that takes so many bytes a call, and no more than its room, after which it takes nothing or fails.
 #[derive(Drop)]
 pub struct Output<'a> {
     pub taken: &'a RefCell<Vec<u8>>,

@@ -197,7 +197,7 @@ fn torn(alloc: Global, case: &Case, gathers: bool) -> Result<Option<String>, All
     cramped_anywhere(alloc, case, gathers)
 }
 
-/// What the runs of a case first do that is not wanted, where the replies are gathered or not.
+/// What the runs of a case first do that is not wanted, whether the replies are gathered or not.
 fn difference_of(alloc: Global, case: &Case, gathers: bool) -> Result<Option<String>, AllocError> {
     let wanted = wanted_of(case);
     let at_once = Taking { gathers, ..AT_ONCE };
@@ -230,7 +230,7 @@ fn difference_of(alloc: Global, case: &Case, gathers: bool) -> Result<Option<Str
     torn(alloc, case, gathers)
 }
 
-/// What a run of a script does that is not wanted where each read is first interrupted.
+/// What a run of a script does that is not wanted if each read is first interrupted.
 fn interrupted(alloc: Global, case: &Case) -> Result<Option<String>, AllocError> {
     let mut reader = Interrupted {
         reader: hasty(case, 1),

@@ -3,7 +3,7 @@
 //! | Key | Value |
 //! |---|---|
 //! | `case` | the name of a case, which goes on to the next one |
-//! | `user`, `method`, `secret`, `nonce`, `host` | an option of `lone`, where it isn't the usual one |
+//! | `user`, `method`, `secret`, `nonce`, `host` | an option of `lone`, if it isn't the usual one |
 //! | `mbox` | bytes of the mailbox file |
 //! | `C` | a line of the client, which first awaits all replies before it |
 //! | `raw` | bytes that the client sends without waiting |

@@ -19,7 +19,7 @@ pub struct Taking {
     pub most: usize,
     /// How many it takes in all.
     pub room: usize,
-    /// Whether it fails behind them, or takes nothing.
+    /// Whether it fails after them, or takes nothing.
     pub fails: bool,
     /// Whether a session's replies are gathered before they come to it.
     pub gathers: bool,
@@ -51,7 +51,7 @@ pub struct Wanted<'a> {
     pub replies: &'a [u8],
     /// Whether a front of the replies is as good as all of them.
     pub is_front: bool,
-    /// With what the lines begin that count, where not all do.
+    /// With what the lines begin that count, if not all do.
     pub only: Option<&'a [u8]>,
 }
 

@@ -28,11 +28,11 @@ asks_and_counts_anew = refl
 second_node : campaigns_at (new_patience 2) (replicate 12 (waits_at 1)) ≡ replicate 11 false ++ true ∷ []
 second_node = refl
 
--- where a slot is decided the count begins anew: that tick isn't in vain
+-- if a slot is decided the count begins anew: that tick isn't in vain
 a_decided_slot : campaigns_at (new_patience 1) (replicate 7 (waits_at 1) ++ replicate 9 (waits_at 2)) ≡ replicate 15 false ++ true ∷ []
 a_decided_slot = refl
 
--- where nothing is awaited it never asks
+-- if nothing is awaited it never asks
 nothing_awaited : campaigns_at (new_patience 1) (replicate 7 (waits_at 1) ++ idle_at 1 ∷ replicate 8 (waits_at 1)) ≡ replicate 15 false ++ true ∷ []
 nothing_awaited = refl
 

@@ -169,7 +169,7 @@ impl<
     D: Deployment + Send + Sync + 'static,
     R: Threads + Wait + Copy + Send + Sync + 'static,
 > Cluster<D, R, InboxLink<R>> {
-    /// Starts all nodes of the cluster, which send to one another's inboxes. `Setup` where its window isn't 1 to
+    /// Starts all nodes of the cluster, which send to one another's inboxes. `Setup` if its window isn't 1 to
     /// `WIDEST_WINDOW`.
     pub fn start(rt: R, alloc: Global, setup: &Setup) -> Result<Self, StartError>
         requires deployment { setup.now ≡ D.setup }
@@ -191,7 +191,7 @@ impl<
     R: Threads + Wait + Copy + Send + Sync + 'static,
     L: Link + Drop + Send + Sync + 'static,
 > Cluster<D, R, L> {
-    /// Starts these nodes of the cluster alone, each of which sends by its link. `Setup` where one of them can't begin,
+    /// Starts these nodes of the cluster alone, each of which sends by its link. `Setup` if one of them can't begin,
     /// or is there twice.
     pub fn start_over(
         rt: R,
@@ -259,7 +259,7 @@ impl<
         Ok(())
     }
 
-    /// Puts an envelope into its addressee's inbox. Gives whether it is in there: not where that node doesn't run here, its
+    /// Puts an envelope into its addressee's inbox. Gives whether it is in there: not if that node doesn't run here, its
     /// thread has ended, or without memory. A node that has stopped hears none. Its thread ends at the next that comes, so
     /// one may still be put in there, and is lost.
     pub fn arrive(&self, envelope: Envelope<SharedCommand>) -> bool
@@ -292,12 +292,12 @@ impl<
         }
     }
 
-    /// Time has passed for a node. Nothing where it isn't here, or has stopped.
+    /// Time has passed for a node. Nothing if it isn't here, or has stopped.
     pub fn tick(&self, node: NodeId) {
         self.step(node, Input::Tick);
     }
 
-    /// A node asks to lead. Nothing where it isn't here, or has stopped.
+    /// A node asks to lead. Nothing if it isn't here, or has stopped.
     pub fn campaign(&self, node: NodeId) {
         self.step(node, Input::Campaign);
     }

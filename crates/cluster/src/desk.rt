@@ -56,12 +56,12 @@ impl<D: Deployment, R: Wait, L: Link> NodeDesk<D, R, L> {
         self.node.crash(&self.rt)
     }
 
-    /// Time has passed for the node. Nothing where it has stopped.
+    /// Time has passed for the node. Nothing if it has stopped.
     pub fn tick(&self) {
         let _none = self.node.step(&self.rt, Input::Tick);
     }
 
-    /// The node asks to lead. Nothing where it has stopped.
+    /// The node asks to lead. Nothing if it has stopped.
     pub fn campaign(&self) {
         let _none = self.node.step(&self.rt, Input::Campaign);
     }
@@ -103,7 +103,7 @@ impl<D: Deployment, R: Wait, L: Link> NodeDesk<D, R, L> {
         self.hub.has_unheard(&self.rt)
     }
 
-    /// Puts an envelope into the node's inbox. Gives whether it is in there: not where the envelope is to another node, the
+    /// Puts an envelope into the node's inbox. Gives whether it is in there: not if the envelope is to another node, the
     /// node's thread has ended, or without memory. A node that has stopped hears none. Its thread ends at the next that
     /// comes, so one may still be put in there, and is lost.
     pub fn arrive(&self, envelope: Envelope<SharedCommand>) -> bool

@@ -26,8 +26,8 @@ pub struct Ended {
     pub kept: Result<Kept, Memory>,
 }
 
-/// The logs of nodes that have ended. Contracts see the logs. What else the nodes were is let go with the logs, or when they
-/// are taken out: that takes as long as the nodes have performed much, so it can be left to a thread that has time.
+/// The logs of nodes that have ended. Contracts see the logs. The rest of the nodes' state is freed with the logs, or when
+/// they are taken out. That takes time in proportion to what the nodes have performed, so a thread that has time can do it.
 #[derive(Drop)]
 pub struct EndedLogs {
     nodes: Vec<EndedNode>,

@@ -97,8 +97,8 @@ impl<D: Deployment, L: Link> NodeHandle<D, L> {
         self.me
     }
 
-    /// An operation for a user is submitted. Gives the ticket of its command, or nothing where the node has stopped: it
-    /// stops too where there is no memory for the operation.
+    /// An operation for a user is submitted. Gives the ticket of its command, or nothing if the node has stopped: it
+    /// stops too if there is no memory for the operation.
     pub(crate) fn submit<R: Wait>(&self, rt: &R, user: Name, op: Op) -> Option<Ticket>
         ensures { IfSome result (λ ticket. ticket.node ≡ self.now) }
     {
@@ -142,7 +142,7 @@ impl<D: Deployment, L: Link> NodeHandle<D, L> {
         Outbox::new(self.shared.alloc, self.shared.link.carries_own())
     }
 
-    /// Hears an envelope, and those that are in the inbox behind it, in one step each. Gives whether the node is still
+    /// Hears an envelope, and those that are in the inbox after it, in one step each. Gives whether the node is still
     /// up. The outbox is empty, and is empty again afterwards.
     pub(crate) fn hear<R: Wait>(
         &self,
@@ -180,7 +180,7 @@ impl<D: Deployment, L: Link> NodeHandle<D, L> {
         }
     }
 
-    /// Waits until the answer to a command is there. Gives nothing where the node has stopped.
+    /// Waits until the answer to a command is there. Gives nothing if the node has stopped.
     pub(crate) fn wait_for<R: Wait>(&self, rt: &R, user: Name, ticket: Ticket) -> Option<Outcome>
         ensures { IfSome result (λ outcome. IsAnswered D.setup self.now user ticket outcome) }
     {
@@ -230,7 +230,7 @@ impl<D: Deployment, L: Link> NodeHandle<D, L> {
         was_up
     }
 
-    /// How the node stands, or nothing where it is no more.
+    /// How the node stands, or nothing if it is no more.
     pub(crate) fn status<R: Wait>(&self, rt: &R) -> Option<Status>
         ensures { IfSome result (λ status. IsStatusOf D.setup self.now status) }
     {
@@ -320,7 +320,7 @@ fn answer_in<D: Deployment>(
 }
 
 /// All that one input brings under the lock. Where the node has stopped by then, all who wait for it are to be woken, also
-/// where the step was refused.
+/// if the step was refused.
 fn step_all<D: Deployment>(member: &mut Member<D>, input: Input, sends: Outbox) -> Stepped
     ensures ticket { IfSome result.ticket (λ ticket. ticket.node ≡ member.old.log.opening.me) }
     ensures wakes { IfSome member.new.stopped (λ _. AreAll result.wakes) }
@@ -336,7 +336,7 @@ fn step_all<D: Deployment>(member: &mut Member<D>, input: Input, sends: Outbox) 
     }
 }
 
-/// All that an envelope and those in the inbox behind it bring under the lock. Gives who is to be woken: where the node has
+/// All that an envelope and those in the inbox after it bring under the lock. Gives who is to be woken: if the node has
 /// stopped by then, all who wait for it.
 fn hear_all<D: Deployment, R: Wait>(
     member: &mut Member<D>,
@@ -365,7 +365,7 @@ fn ask_if_behind<D: Deployment>(member: &mut Member<D>, sends: &mut Outbox) {
     }
 }
 
-/// Hears an envelope, and those that are in the inbox behind it, up to a batch of them.
+/// Hears an envelope, and those that are in the inbox after it, up to a batch of them.
 fn hear_batch<D: Deployment, R: Wait>(
     member: &mut Member<D>,
     rt: &R,
@@ -415,7 +415,7 @@ fn hear_own<D: Deployment>(member: &mut Member<D>, sends: &mut Outbox) {
     }
 }
 
-/// Those for whom a node's last steps may have brought what they wait for, behind so many performed commands: an answer, or
+/// Those for whom a node's last steps may have brought what they wait for, after so many performed commands: an answer, or
 /// the end of the node.
 fn woken_by<D: Deployment>(member: &Member<D>, performed: usize) -> Groups
     ensures stopped { IfSome member.now.stopped (λ _. AreAll result) }

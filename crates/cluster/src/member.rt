@@ -153,7 +153,7 @@ impl<D: Deployment> Member<D> {
         self.node.performed().len()
     }
 
-    /// Who waits here for the commands that it has performed, behind as many others.
+    /// Who waits here for the commands that it has performed, after as many others.
     pub(crate) fn answered(&self, behind: usize) -> Groups {
         let me = self.node.me();
         let mut groups = Groups::NONE;

@@ -66,7 +66,7 @@ impl<C: Payload, A: Allocator + Copy> Leader<C, A> {
         Ok(sends)
     }
 
-    /// Hears `Message::P1b`: hands it to its scout, and does what `adopted` or `preempted` does where
+    /// Hears `Message::P1b`: hands it to its scout, and does what `adopted` or `preempted` does if
     /// that ends.
     pub fn hear1(&mut self, from: NodeId, promise: Promise<C, A>) -> Result<Sends<C, A>, Memory>
         ensures moves { IsMoved (λ l. hears_promise C.equal l from promise) self.old self.new result }
@@ -79,7 +79,7 @@ impl<C: Payload, A: Allocator + Copy> Leader<C, A> {
     }
 
     /// Hears `Message::P2b`: hands it to the commander of its slot, sends the decision to all nodes
-    /// where that decides, and does what `preempted` does where a higher ballot ends it.
+    /// if that decides, and does what `preempted` does if a higher ballot ends it.
     pub fn hear2(&mut self, from: NodeId, vote: Vote) -> Result<Sends<C, A>, Memory>
         ensures moves { IsMoved (λ l. hears_vote l from vote) self.old self.new result }
         ensures undecided { (l : LeaderState C) → self.old ≡ Some l → decides_in from vote l.phase ≡ false → IsOk result }
@@ -109,7 +109,7 @@ impl<C: Payload, A: Allocator + Copy> Leader<C, A> {
 
     /// Yields to this ballot, if it is above its own: the leader is passive, and its ballot is of the
     /// round after. Where there is no round after, it keeps its ballot and is passive for ever.
-    /// Takes no memory: it answers `Memory` only where the leader is spent.
+    /// Takes no memory: it answers `Memory` only if the leader is spent.
     pub fn preempted(&mut self, ballot: Ballot) -> Result<Sends<C, A>, Memory>
         ensures moves { IsMoved (λ l. preempted l ballot) self.old self.new result }
         ensures spent { IsErr result ↔ (self.old ≡ None) }

@@ -156,7 +156,7 @@ module _ {A : Type 0} where
       let rest = above_first n ms (rising-tail g.uid (unique_ids (n ∷ ms)) rising) in
       All-cons (λ m. g.uid + 1 ≤ m.uid) n ms (omega (arith, first)) (All-weaker (λ m. n.uid + 1 ≤ m.uid) (λ m. g.uid + 1 ≤ m.uid) (λ m above. omega (arith, first, above)) ms rest)
 
-  -- messages that are still to be stored after those in front, where this is the next unique id
+  -- messages that are still to be stored after those in front, if this is the next unique id
   record Fit (front ms : List (Message A)) (next last : ℕ) : Type 0 where
     few : length front + length ms ≤ most_messages
     small : message_octets front + message_octets ms ≤ most_octets

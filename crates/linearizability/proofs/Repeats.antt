@@ -20,7 +20,7 @@ neither false true e = absurd (true≢false e)
 neither false false e = (refl, refl)
 
 module _ {A : Type 0} where
-  -- where none has the identity, none before the last has it, nor has the last
+  -- if none has the identity, none before the last has it, nor has the last
   none_of : (id : CommandId) (before : List (ℕ × Command A)) (p : ℕ × Command A) →
       has_identity mail_rules id (before ++ p ∷ []) ≡ false →
       (has_identity mail_rules id before ≡ false) × (is_eq (compare_ids (identity_of p.1) id) ≡ false)

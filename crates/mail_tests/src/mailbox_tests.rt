@@ -15,10 +15,10 @@ const MAILBOX: &[u8] = b"From a@b Thu Jan  1 00:00:00 1970\nSubject: x\n\nhi\n.\
 
 const LINES: &[&str] = &["Subject: x", "", "hi", ".", "From me"];
 
-/// Mailboxes, the lines of their texts, each with a line feed behind it and a line `--` behind each text, or why they
+/// Mailboxes, the lines of their texts, each with a line feed after it and a line `--` after each text, or why they
 /// are refused, and how many requests for memory they take at most, whole and byte by byte. A block of bytes takes one
 /// for its first 8 and one for each doubling: that of each text, and that of an open line, which is the last one or,
-/// byte by byte, each in turn. The first of a text is for as many bytes as stand behind the line that begins it, where
+/// byte by byte, each in turn. The first of a text is for as many bytes as stand after the line that begins it, if
 /// some do. A text takes one more to give back what its block doesn't need, if it has lines, and one to be shared; a list
 /// of up to four texts takes one.
 const ROWS: &[(&[u8], Result<&[u8], MboxError>, u64, u64)] = &[
@@ -94,7 +94,7 @@ fn read_in_pieces<A: Allocator + Copy>(
     reader.finish()
 }
 
-/// The lines of the texts, each with a line feed behind it, and a line `--` behind each text.
+/// The lines of the texts, each with a line feed after it, and a line `--` after each text.
 fn shown<A: Allocator + Copy>(alloc: Global, texts: &[Text<A>]) -> Result<Vec<u8>, Memory> {
     let mut bytes = Vec::new(alloc);
     for text in texts {

@@ -59,7 +59,7 @@ const LIMITS: &[Row] = &[
     (Act::Break, Short::Done, 0),
 ];
 
-/// The same maildrop, where a delivery is tried again.
+/// The same maildrop, if a delivery is tried again.
 const KEYS: &[Row] = &[
     (FIRST, Short::Stored(1), 6),
     (FIRST, Short::Stored(1), 0),

@@ -27,7 +27,7 @@ fn lines_of(alloc: Global, file: &[u8]) -> Result<Lines, Memory> {
     Ok(lines)
 }
 
-/// A line without its first `>`, where it is some `>` and then `From `.
+/// A line without its first `>`, if it is some `>` and then `From `.
 fn unquoted(line: &[u8]) -> &[u8] {
     for place in 1..line.len() {
         if line[place - 1] != b'>' {
@@ -40,7 +40,7 @@ fn unquoted(line: &[u8]) -> &[u8] {
     line
 }
 
-/// The messages of a file, or nothing where it has a line before the first that begins one.
+/// The messages of a file, or nothing if it has a line before the first that begins one.
 pub fn messages(alloc: Global, file: &[u8]) -> Result<Option<Vec<Lines>>, Memory> {
     let mut messages: Vec<Lines> = Vec::new(alloc);
     for line in lines_of(alloc, file)? {

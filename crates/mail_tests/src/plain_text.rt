@@ -6,7 +6,7 @@ use std::alloc::Global;
 /// The lines of a text.
 pub type Lines = Vec<&'static str>;
 
-/// The size of a text: each line has a CR and a LF behind it.
+/// The size of a text: each line has a CR and a LF after it.
 pub fn octets(lines: &[&str]) -> u64 {
     let mut octets = 0u64;
     for line in lines {
@@ -15,7 +15,7 @@ pub fn octets(lines: &[&str]) -> u64 {
     octets
 }
 
-/// The header, which ends with the first empty line, and so many lines of the body behind it.
+/// The header, which ends with the first empty line, and so many lines of the body after it.
 pub fn top(alloc: Global, lines: &[&'static str], count: u32) -> Result<Lines, Memory> {
     let mut top = Vec::new(alloc);
     let mut in_header = true;
@@ -34,7 +34,7 @@ pub fn top(alloc: Global, lines: &[&'static str], count: u32) -> Result<Lines, M
     Ok(top)
 }
 
-/// A first line, and the lines as they stand on the wire behind it: a dot comes before each that begins with one, and a
+/// A first line, and the lines as they stand on the wire after it: a dot comes before each that begins with one, and a
 /// dot alone is the last.
 pub fn reply(alloc: Global, first: &str, lines: &[&str]) -> Result<Vec<u8>, Memory> {
     let mut wire = Vec::from_slice(alloc, first.as_bytes())?;

@@ -222,7 +222,7 @@ one_part bytes rest e =
     let parts = and_parts _ _ (sym (list_all-append (λ b. not (b == 10)) bytes rest) ∙ all) in
     slice_split_none (λ b. b == 10) bytes (λ k d inside. opposite (get_or bytes k d == 10) (AllPass-from_list_all (λ b. not (b == 10)) bytes parts.0 k d inside))
 
--- the parts of bytes that start with `From `, by those of the bytes behind it
+-- the parts of bytes that start with `From `, by those of the bytes after it
 abbrev behind_from : List (List ℕ) → List (List ℕ)
 behind_from parts = onto_first 70 (onto_first 114 (onto_first 111 (onto_first 109 (onto_first 32 parts))))
 
@@ -320,7 +320,7 @@ agree-nil : (piece : List ℕ) → agree piece [] ≡ true
 agree-nil [] = refl
 agree-nil (b ∷ piece) = refl
 
--- a piece may come exactly where the bytes agree with `From ` then
+-- a piece may come exactly if the bytes agree with `From ` then
 pub goes_on-is : (bytes piece : List ℕ) (texts : List (List (List ℕ))) (text : Option (List (List ℕ))) (line : List ℕ) → agree bytes from ≡ true → IsKept bytes texts text line → goes_on (is_some text) line piece ≡ agree (bytes ++ piece) from
 goes_on-is bytes piece texts text line is kept = elim (agree-cases bytes from is) [
   | inr shorter ↦
@@ -471,7 +471,7 @@ tested bytes piece line' texts text line has_text answer is kept has same e =
 line-alone : (bytes rest : List ℕ) → from ≡ bytes ++ rest → are_messages (lines bytes) ≡ are_messages (last_line bytes)
 line-alone bytes rest e = ap (λ ps. are_messages (lines_of_parts ps)) (one_part bytes rest e) ∙ ap are_messages (lines-parts (bytes ∷ []))
 
--- a file begins with a line that begins a message exactly where its bytes do
+-- a file begins with a line that begins a message exactly if its bytes do
 pub messages-begun : (bytes : List ℕ) → is_begun None bytes ≡ true → are_messages (lines bytes) ≡ true
 messages-begun [] is = refl
 messages-begun (b ∷ bs) is =

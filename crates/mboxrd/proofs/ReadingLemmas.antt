@@ -4,7 +4,7 @@ use Rattle.std.proofs.lemmas.List.Elements.{All-tail}
 use Rattle.maildrop.specs.Text.{IsLine}
 use Rattle.mboxrd.specs.Mailbox.{is_quotable, unquoted, without_last_empty}
 
--- a line with another behind it stays
+-- a line with another after it stays
 without_last_empty-more : (line next : List ℕ) (more : List (List ℕ)) → without_last_empty (line ∷ next ∷ more) ≡ line ∷ without_last_empty (next ∷ more)
 without_last_empty-more [] next more = refl
 without_last_empty-more (b ∷ bs) next more = refl

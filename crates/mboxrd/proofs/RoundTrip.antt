@@ -64,7 +64,7 @@ map-unquoted-quoted [] = refl
 map-unquoted-quoted (line ∷ text) =
     ap (λ first. first ∷ map unquoted (map quoted text)) (unquoted-quoted line) ∙ ap (λ rest. line ∷ rest) (map-unquoted-quoted text)
 
--- the lines of a message behind its first
+-- the lines of a message after its first
 abbrev body_of : List (List ℕ) → List (List ℕ)
 body_of text = map quoted text ++ [] ∷ []
 
@@ -77,7 +77,7 @@ quoted-is_message : (text : List (List ℕ)) → All (λ line. begins_message li
 quoted-is_message [] = All-nil (λ line. begins_message line ≡ false)
 quoted-is_message (line ∷ text) = All-cons (λ line. begins_message line ≡ false) (quoted line) (map quoted text) (begins_message-quoted line) (quoted-is_message text)
 
--- nor does the empty line behind it
+-- nor does the empty line after it
 body_of-is_message : (text : List (List ℕ)) → All (λ line. begins_message line ≡ false) (body_of text)
 body_of-is_message text = All-push (λ line. begins_message line ≡ false) (map quoted text) [] (quoted-is_message text) refl
 
@@ -112,7 +112,7 @@ strip-by_cases line none false is = refl
 strip-none : (line : List ℕ) → EndsInNoReturn line → strip_carriage_return line ≡ line
 strip-none line none = strip-by_cases line none (slice_index line (length line - 1) == 13) refl
 
--- a line with its line feed, and more behind it
+-- a line with its line feed, and more after it
 lines-line : (line bytes : List ℕ) → IsLine line → lines ((line ++ 10 ∷ []) ++ bytes) ≡ strip_carriage_return line ∷ lines bytes
 lines-line line bytes is = ap lines (append_assoc line (10 ∷ []) bytes) ∙ lines-more line bytes (tests-from_IsLine line is)
 
@@ -169,7 +169,7 @@ lines-written_of from (text ∷ texts) line is none =
 
 -- ---- the `From ` line
 
--- `From ` ends in a space, so a carriage return that ends the line stands behind it
+-- `From ` ends in a space, so a carriage return that ends the line stands after it
 longer : (from : List ℕ) → begins_message from ≡ true → slice_index from (length from - 1) ≡ 13 → 5 ≤ length from - 1
 longer from begins last =
     let front : from_bytes ≡ take 5 from = (bytes_eq-Decides from_bytes (take 5 from)).0 begins in
@@ -190,7 +190,7 @@ begins_message-by_last from begins false is = begins
 pub begins_message-strip : (from : List ℕ) → begins_message from ≡ true → begins_message (strip_carriage_return from) ≡ true
 begins_message-strip from begins = begins_message-by_last from begins (slice_index from (length from - 1) == 13) refl
 
--- what is written is read back, where no line of the texts ends in a carriage return
+-- what is written is read back, if no line of the texts ends in a carriage return
 pub read_of-written_of : (from : List ℕ) (texts : List (List (List ℕ))) → begins_message from ≡ true → IsLine from → All (All IsLine) texts → All (All EndsInNoReturn) texts → read_of (written_of from texts) ≡ Ok texts
 read_of-written_of from [] begins line is none = refl
 read_of-written_of from (text ∷ texts) begins line is none =

@@ -1,5 +1,5 @@
 -- Mailboxes: what a file in the mboxrd format holds, and how one is written. `lines` is std's word for the lines of a
--- text: a line feed ends a line, one carriage return directly before it is dropped, and what stands behind the last
+-- text: a line feed ends a line, one carriage return directly before it is dropped, and what stands after the last
 -- line feed is a line, if it is not empty.
 use Rattle.std.specs.Prelude.{◌≢◌, ℕ, ◌==◌, ◌++◌, Bool, true, false, not, ◌&&◌, nat_eq, List, [], ◌∷◌, map, drop, if◌then◌else◌, codes, Result, Ok, Err}
 use Rattle.std.specs.List.{starts_with, slice_split, flat_map, list_all}
@@ -24,7 +24,7 @@ is_quotable (b ∷ bs) = if b == 62 then is_quotable bs else begins_message (b �
 abbrev pub quoted : List ℕ → List ℕ
 quoted line = if is_quotable line then 62 ∷ line else line
 
--- a line as it is read: one `>` less before `From `, where there is one
+-- a line as it is read: one `>` less before `From `, if there is one
 abbrev pub unquoted : List ℕ → List ℕ
 unquoted [] = []
 unquoted (b ∷ bs) = if b == 62 then (if is_quotable bs then bs else b ∷ bs) else b ∷ bs
@@ -52,15 +52,15 @@ are_messages (line ∷ lines) = begins_message line
 abbrev pub read_of : List ℕ → Result (List (List (List ℕ))) MboxError
 read_of bytes = if are_messages (lines bytes) then Ok (texts_of (lines bytes)) else Err NoFromLine
 
--- lines, each with a line feed (10) behind it
+-- lines, each with a line feed (10) after it
 abbrev pub file_of : List (List ℕ) → List ℕ
 file_of lines = flat_map (λ line. line ++ 10 ∷ []) lines
 
--- the lines of a message behind its `From ` line: an empty line is the last
+-- the lines of a message after its `From ` line: an empty line is the last
 abbrev pub message_of : List ℕ → List (List ℕ) → List (List ℕ)
 message_of from_line text = from_line ∷ map quoted text ++ [] ∷ []
 
--- the file of these texts, each behind the same `From ` line
+-- the file of these texts, each after the same `From ` line
 abbrev pub written_of : List ℕ → List (List (List ℕ)) → List ℕ
 written_of from_line texts = flat_map (λ text. file_of (message_of from_line text)) texts
 

@@ -85,7 +85,7 @@ is_begun None (b ∷ bytes) = begins_message (b ∷ bytes)
 abbrev pub goes_on : Bool → List ℕ → List ℕ → Bool
 goes_on has_text line piece = if has_text then true else agree piece (drop (min (length line) 5) (codes "From "))
 
--- all texts, where the open line is the last one
+-- all texts, if the open line is the last one
 abbrev pub all_texts : List (List (List ℕ)) → Option (List (List ℕ)) → List ℕ → List (List (List ℕ))
 all_texts texts text [] = texts ++ ended_text text
 all_texts texts text (b ∷ bytes) = texts_with texts text (b ∷ bytes) ++ ended_text (text_with text (b ∷ bytes))

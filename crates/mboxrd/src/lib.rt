@@ -1,4 +1,4 @@
-//! Mailboxes in the mboxrd format: texts one after another in a file, each behind a line `From ..`.
+//! Mailboxes in the mboxrd format: texts one after another in a file, each after a line `From ..`.
 #![tactic(auto)]
 
 mod error;

@@ -21,7 +21,7 @@ pub(crate) fn is_quotable(line: &[u8]) -> bool
     false
 }
 
-/// A line as it is read, with one `>` less before `From `, where there is one.
+/// A line as it is read, with one `>` less before `From `, if there is one.
 pub(crate) fn unquoted(line: &[u8]) -> &[u8]
     ensures { result.now ≡ spec.unquoted line.now }
 {

@@ -80,7 +80,7 @@ fn is_begun<A: Allocator>(text: &Option<OpenText<A>>, line: &[u8]) -> bool
 }
 
 /// Adds a line that has ended, without its line end, to the texts and the open one. So many bytes of its piece stand
-/// behind it, which may all be of a message that it begins.
+/// after it, which may all be of a message that it begins.
 fn end_line<A: Allocator + Copy>(
     texts: &mut Vec<Text<A>, A>,
     text: &mut Option<OpenText<A>>,
@@ -105,7 +105,7 @@ fn end_line<A: Allocator + Copy>(
 }
 
 /// Adds the open line, which ends with these bytes, to the texts and the open one. So many bytes of its piece stand
-/// behind it.
+/// after it.
 fn end_open_line<A: Allocator + Copy>(
     texts: &mut Vec<Text<A>, A>,
     text: &mut Option<OpenText<A>>,
@@ -165,7 +165,7 @@ impl<A: Allocator + Copy> Reader<A> {
         }
     }
 
-    /// Takes the next piece of the mailbox. Answers `NoFromLine` exactly where the bytes so far neither start with
+    /// Takes the next piece of the mailbox. Answers `NoFromLine` exactly if the bytes so far neither start with
     /// `From ` nor are a prefix of it.
     pub fn feed(&mut self, piece: &[u8]) -> Result<(), MboxError>
         ensures kept { (bytes : List ℕ) → self.old ≡ kept_after bytes → OnOk result (self.new ≡ kept_after (bytes ++ piece.now)) }
@@ -194,7 +194,7 @@ impl<A: Allocator + Copy> Reader<A> {
     }
 
     /// The texts of the mailbox, of which no more comes: the same answer as `read` gives for all its bytes. Answers
-    /// `NoFromLine` too where these are a nonempty shorter prefix of `From `.
+    /// `NoFromLine` too if these are a nonempty shorter prefix of `From `.
     pub fn finish(self) -> Result<Vec<Text<A>, A>, MboxError>
         ensures value { (bytes : List ℕ) → self ≡ kept_after bytes → IfOk result (λ texts. read_of bytes ≡ Ok texts.items) }
         ensures refused { (bytes : List ℕ) → self ≡ kept_after bytes →

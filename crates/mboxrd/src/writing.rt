@@ -7,7 +7,7 @@ use ballot::Memory;
 use maildrop::Text;
 use std::alloc::Allocator;
 
-/// Adds a line with a line feed behind it.
+/// Adds a line with a line feed after it.
 fn write_line<A: Allocator>(bytes: &mut Vec<u8, A>, line: &[u8]) -> Result<(), Memory>
     ensures { OnOk result (bytes.new.items ≡ bytes.old.items ++ (line.now ++ 10 ∷ [])) }
 {
@@ -26,7 +26,7 @@ fn write_quoted<A: Allocator>(bytes: &mut Vec<u8, A>, line: &[u8]) -> Result<(),
     write_line(bytes, line)
 }
 
-/// Adds a text, behind a line that begins a message.
+/// Adds a text, after a line that begins a message.
 fn write_message<A: Allocator + Copy>(
     bytes: &mut Vec<u8, A>,
     from_line: &[u8],
@@ -41,7 +41,7 @@ fn write_message<A: Allocator + Copy>(
     write_line(bytes, b"")
 }
 
-/// The mailbox of these texts, each behind the same line, which starts with `From ` and has no line feed. A line that
+/// The mailbox of these texts, each after the same line, which starts with `From ` and has no line feed. A line that
 /// is any number of `>` and then `From ` gets one more `>`, and an empty line follows each text.
 pub fn write<A: Allocator + Copy>(
     alloc: A,

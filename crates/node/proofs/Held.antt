@@ -29,7 +29,7 @@ module _ {A : Type 0} where
   same_after None (Some a) = refl
   same_after (Some a) there = refl
 
-  -- where an answer comes to both
+  -- if an answer comes to both
   comes_after : (o : Option (Outcome A)) (here there : Option (Option (Outcome A))) → IsLeft here there → held (answered_with o here) ≡ left_after (held here) (held there) (held (answered_with o there))
   comes_after o here None e = rw e refl
   comes_after o here (Some None) e = rw e refl

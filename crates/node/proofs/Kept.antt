@@ -68,7 +68,7 @@ module _ {A : Type 0} where
         tickets = h.tickets;
       }
 
-  -- a log has a crash where its last input is one, or one stands before
+  -- a log has a crash if its last input is one, or one stands before
   pub crash-push : (is : List (Input A)) (i : Input A) → list_any is_crash is ≡ false → list_any is_crash (is ++ i ∷ []) ≡ is_crash i
   crash-push [] i h = last (is_crash i)
     where
@@ -81,7 +81,7 @@ module _ {A : Type 0} where
       front true u h rest = absurd (cc h)
       front false u h rest = rest h
 
-  -- a node waits where its log does
+  -- a node waits if its log does
   pub waits_as : (log : NodeLog A) (roles : Option (NodeState A)) (given : List (List ℕ × ℕ)) (h : IsCurrent log roles given) → is_waiting h.node.replica.awaited ≡ is_waiting (replayed log).replica.awaited
   waits_as log roles given h = waiting_left mail_rules ids_total (first log.opening) h.node.replica (replayed log).replica h.replay.replica
 

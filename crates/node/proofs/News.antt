@@ -38,7 +38,7 @@ module _ {A : Type 0} where
     pub answers : (id : CommandId) → is_some (answer_of id later.replica.awaited) ≡ true → (is_some (answer_of id n.replica.awaited) ≡ true) ⊎ (has_identity mail_rules id more ≡ true)
     pub new : (id : CommandId) → answer_of id n.replica.awaited ≡ None → is_some (answer_of id later.replica.awaited) ≡ true → has_identity mail_rules id n.replica.performed ≡ false
 
-  -- where the answers stayed none has come
+  -- if the answers stayed none has come
   none_came : {X : Type 0} (before after : Option (Outcome A)) → after ≡ before → before ≡ None → is_some after ≡ true → X
   none_came before after same none some = absurd (true≢false (sym some ∙ ap is_some (same ∙ none)))
 

@@ -19,7 +19,7 @@ module _ {A : Type 0} where
       → IsKept (record { opening = o; inputs = inputs }) roles given None
   begun o inputs roles given none new free = rw (none, new, free) (new_current o, refl)
 
-  -- where there was no crash, an input acts
+  -- if there was no crash, an input acts
   takes_acts : (me : ℕ) (before : List (Input A)) (n : NodeState A) (i : Input A) → list_any is_crash before ≡ false → takes me before n i ≡ acts me before n i
   takes_acts me before n i h = rw h refl
 

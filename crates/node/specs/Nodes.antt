@@ -72,7 +72,7 @@ module _ {A : Type 0} where
   abbrev pub answered : NodeLog A → CommandId → Option (Outcome A)
   answered log id = answer_for mail_rules id (replayed log).replica.awaited
 
-  -- an answer that is there stays, and one comes where the log gets it: it had none before, and has one after
+  -- an answer that is there stays, and one comes if the log gets it: it had none before, and has one after
   abbrev pub left_after : Option (Outcome A) → Option (Outcome A) → Option (Outcome A) → Option (Outcome A)
   left_after (Some answer) before after = Some answer
   left_after None (Some taken) after = None
@@ -116,7 +116,7 @@ module _ {A : Type 0} where
   abbrev pub EndsInCrash : List (Input A) → Type 0
   EndsInCrash inputs = (before : List (Input A)) × (inputs ≡ before ++ Crash ∷ []) × (list_any is_crash before ≡ false)
 
-  -- what holds of a node between steps; it has crashed where its log ends in a crash
+  -- what holds of a node between steps; it has crashed if its log ends in a crash
   abbrev pub IsKept : NodeLog A → Option (NodeState A) → List (List ℕ × ℕ) → Option Stopped → Type 0
   IsKept log roles given (Some Memory) = AreGiven log.inputs given × (list_any is_crash log.inputs ≡ false)
   IsKept log roles given (Some Crashed) = IsCurrent log roles given × EndsInCrash log.inputs

@@ -13,7 +13,7 @@ use Rattle.maildrop.specs.declared.command.Command.{Command}
 use Rattle.node.specs.Replay.{NodeState, NodeMove, MailReplica, mail_rules, to_one, by_leader, by_replica, hears}
 
 module _ {A : Type 0} where
-  -- none where the leader or the replica is spent
+  -- none if the leader or the replica is spent
   abbrev pub node_of : AcceptorState (Command A) → Option (LeaderState (Command A)) → Option (MailReplica A) → Option (NodeState A)
   node_of acceptor None replica = None
   node_of acceptor (Some leader) None = None

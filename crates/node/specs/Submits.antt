@@ -27,7 +27,7 @@ module _ {A : Type 0} where
   op_at me before id (Submit user op) later = if same_id (next_id me user before) id then Some op else later
   op_at me before id _ later = later
 
-  -- the operation that has the identity among inputs of node me behind others
+  -- the operation that has the identity among inputs of node me after others
   abbrev pub op_among : ℕ → List (Input A) → List (Input A) → CommandId → Option (Op A)
   op_among me before [] id = None
   op_among me before (i ∷ is) id = op_at me before id i (op_among me (before ++ i ∷ []) is id)

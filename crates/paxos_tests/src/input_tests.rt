@@ -246,7 +246,7 @@ fn state_of(node: &Node<Heap>) -> Result<(usize, usize, bool), Fail> {
     Ok((node.log().inputs.len(), node.performed().len(), held))
 }
 
-/// Checks what an input brings, where no memory was refused, and that the log is longer by one.
+/// Checks what an input brings, if no memory was refused, and that the log is longer by one.
 fn check_taken(
     heap: Heap,
     node: &Node<Heap>,

@@ -11,7 +11,7 @@ pub const SLOTS: u64 = 5;
 #[derive(Drop)]
 pub struct PlainAcceptor {
     alloc: Global,
-    /// The highest ballot that it was asked for, and one below all where it was asked for none.
+    /// The highest ballot that it was asked for, and one below all if it was asked for none.
     ballot: (u64, u8),
     accepted: Vec<Accepted>,
 }

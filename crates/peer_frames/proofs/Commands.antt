@@ -138,7 +138,7 @@ module _ {A : Type 0} where
   abbrev make_commit : Ticket → List ℕ → Op A
   make_commit lock uids = Commit lock uids
 
-  -- what is written behind the operation's number
+  -- what is written after the operation's number
   abbrev arguments : Version → Op A → List ℕ
   arguments v (Mail text k) = key_bytes v k ++ counted long_string text
   arguments v Take = []

@@ -20,7 +20,7 @@ impl Front for Brand {
     ghost front = { [] };
 }
 
-/// The content of a frame, as far as it is written, behind what stood in its buffer. Contracts see it as the content alone.
+/// The content of a frame, as far as it is written, after what stood in its buffer. Contracts see it as the content alone.
 /// After an error nothing is said of that. What stood in the buffer stays.
 #[derive(Drop)]
 pub(crate) struct Content<A: Allocator, F: Front> {
@@ -39,7 +39,7 @@ impl<A: Allocator, F: Front> Model for Content<A, F> {
 }
 
 impl<A: Allocator, F: Front> Content<A, F> {
-    /// Nothing yet, behind what the buffer has.
+    /// Nothing yet, after what the buffer has.
     pub(crate) fn behind(front: Vec<u8, A>) -> Self
         requires { front.items ≡ F.front }
         ensures { result ≡ [] }

@@ -100,7 +100,7 @@ const COMMAND_FAULTS: &[(&str, FrameFault)] = &[
         "0000002a 02010102 0000000000000001 02616c 010000000000000001 01 026b20 00000002 000000026869 00000000",
         FrameFault::Field,
     ),
-    // A key where version 1 has none.
+    // A key, which version 1 has no place for.
     (
         "0000002a 01010102 0000000000000001 02616c 010000000000000001 01 026b31 00000002 000000026869 00000000",
         FrameFault::Length,

@@ -38,12 +38,12 @@ split_parts c (x ∷ xs) = elim (x == c) as (λ b. (part : List ℕ) × (parts :
   | false ↦ let more = split_parts c xs in (x ∷ more.0, more.1, rw more.2 refl)
 ]
 
--- what stands behind a keyword, if anything does
+-- what stands after a keyword, if anything does
 arguments_behind : (rest : List ℕ) → 1 ≤ length rest → arguments_in rest ≡ slice_split (is_byte 32) (take (length rest - 1) (drop 1 rest))
 arguments_behind [] some = absurd (omega arith)
 arguments_behind (space ∷ bytes) some = rw take_rest refl
 
--- there are arguments exactly where anything stands behind the keyword
+-- there are arguments exactly if anything stands after the keyword
 pub is_nothing-arguments : (rest : List ℕ) → (length rest == 0) ≡ is_nothing (arguments_in rest)
 is_nothing-arguments [] = refl
 is_nothing-arguments (space ∷ bytes) =

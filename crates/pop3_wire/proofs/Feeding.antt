@@ -105,7 +105,7 @@ lines_after-fed (Open bytes) piece more none = elim (first_lf piece) [
 pub lines_from : (kept next : Kept) (piece more : List ℕ) (n : ℕ) → IsKept kept → n ≡ taken kept piece → next ≡ fed kept piece → lines_after kept (take n piece ++ more) ≡ lines_after next more
 lines_from kept next piece more n is count after = rw (count, after) (lines_after-fed kept piece more is)
 
--- parts, where the last goes on in the first of others
+-- parts, if the last goes on in the first of others
 abbrev join : List (List ℕ) → List (List ℕ) → List (List ℕ)
 join [] others = others
 join (part ∷ []) [] = part ∷ []
@@ -172,7 +172,7 @@ nowhere-none (x ∷ xs) none =
 pub no_lf : (piece : List ℕ) → Nowhere (Passes (is_byte 10) piece) 0 (length piece) → list_any is_lf piece ≡ false
 no_lf piece none = nowhere-none piece (λ i below. none i (omega arith) below)
 
--- a search that finds the first LF: none stands before it, and the piece goes on behind it
+-- a search that finds the first LF: none stands before it, and the piece goes on after it
 pub lf_at : (piece : List ℕ) (k : ℕ) → NoneBefore (Passes (is_byte 10) piece) 0 (length piece) k → Passes (is_byte 10) piece k → (list_any is_lf (take k piece) ≡ false) × (piece ≡ take k piece ++ 10 ∷ drop (k + 1) piece)
 lf_at piece k first here = (
   nowhere-none (take k piece) (λ i below lf.

@@ -8,7 +8,7 @@ use Rattle.std.specs.Io.BufRead.{take_through}
 use Rattle.pop3_wire.specs.declared.listed.Listed.{Listed}
 use Rattle.pop3_wire.specs.Reply.{HasShortFirstLine, greeting, maildrop_has, scan_listings, message_text, message_deleted, number_line}
 
--- up to an LF there is at most what stands before some place, and what is behind it up to an LF
+-- up to an LF there is at most what stands before some place, and what is after it up to an LF
 through-append : (xs ys : List ℕ) → length (take_through 10 (xs ++ ys)) ≤ length xs + length (take_through 10 ys)
 through-append [] ys = omega arith
 through-append (x ∷ xs) ys = elim (cases_Bool (x == 10)) [

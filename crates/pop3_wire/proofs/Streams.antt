@@ -49,7 +49,7 @@ take_again zero xs ys = refl
 take_again (suc n) [] ys = refl
 take_again (suc n) (x ∷ xs) ys = ap (λ zs. x ∷ zs) (take_again n xs ys)
 
--- what is behind its first 512 bytes tells a line nothing
+-- what is after its first 512 bytes tells a line nothing
 pub line_of-take : (xs ys : List ℕ) → line_of (take 512 xs ++ ys) ≡ line_of (xs ++ ys)
 line_of-take xs ys =
     elim (cases_lt 512 (length xs)) [

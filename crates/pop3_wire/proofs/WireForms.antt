@@ -52,7 +52,7 @@ same_cut (x ∷ xs) (y ∷ ys) a b none others same =
     let front : xs ≡ ys = parts.0 in
     (cc, parts.1)
 
--- so does the first line end, where it is CR and LF
+-- so does the first line end, if it is CR and LF
 same_line : (line other a b : List ℕ) → list_any is_lf line ≡ false → list_any is_lf other ≡ false → line ++ 13 ∷ 10 ∷ a ≡ other ++ 13 ∷ 10 ∷ b → (line ≡ other) × (a ≡ b)
 same_line line other a b none others same =
     let ended : (line ++ 13 ∷ []) ++ 10 ∷ a ≡ (other ++ 13 ∷ []) ++ 10 ∷ b =
@@ -112,7 +112,7 @@ first_line [] rest lines = (46 ∷ [], rest, refl, refl)
 first_line (line ∷ more) rest lines =
     (stuffed_line line, wire_form more ++ rest, stuffed-none line (none-IsLine line (All-head IsLine line more lines)), wire_form-cons line more rest)
 
--- where no line is left, nothing remains
+-- if no line is left, nothing remains
 pub remains-open : (lines : List (List ℕ)) (left : List ℕ) (text : List (List ℕ)) (rest : List ℕ) → ((line behind : List ℕ) → IsLine line → left ≡ line ++ 13 ∷ 10 ∷ behind → ⊥) → Remains lines left text rest → ⊥
 remains-open lines left text rest ends is =
     let first = first_line is.more rest is.are_lines in
@@ -200,7 +200,7 @@ no_line_end bytes line rest none is_line parts =
     let both : list_any is_lf bytes ≡ true = rw parts yes in
     cc
 
--- what stands before the first LF ends in CR where a line and its end stand there
+-- what stands before the first LF ends in CR if a line and its end stand there
 pub line_end : (bytes line rest : List ℕ) (k : ℕ) → NoneBefore (Passes (is_byte 10) bytes) 0 (length bytes) k → Passes (is_byte 10) bytes k → IsLine line → bytes ≡ line ++ 13 ∷ 10 ∷ rest → take k bytes ≡ line ++ 13 ∷ []
 line_end bytes line rest k first here is_line parts =
     let cut = lf_at bytes k first here in
@@ -250,7 +250,7 @@ read_wrong lines bytes left cut behind is_line parts none long is text rest all 
     let ended = remains-end lines left text rest cut behind is_line parts none (is.remains text rest all whole) in
     omega (arith, long, ap length ended.1)
 
--- and none ends where no line is left
+-- and none ends if no line is left
 pub read_open : (lines : List (List ℕ)) (bytes left : List ℕ) → ((line behind : List ℕ) → IsLine line → left ≡ line ++ 13 ∷ 10 ∷ behind → ⊥) → IsReadTo lines bytes left → BeginsWithNone bytes
 read_open lines bytes left ends is text rest all whole = remains-open lines left text rest ends (is.remains text rest all whole)
 
@@ -269,7 +269,7 @@ stuffed_next left cut behind is_line parts are = by are.0 (are.1).0 (are.1).1
         let same = same_line (stuffed_line first) cut (flat_map wire_line more) behind (stuffed-none first (none-IsLine first is_first)) (none-IsLine cut is_line) (sym (stuffed_lines-cons first more) ∙ sym e ∙ parts) in
         (first, (ap unstuffed_line (sym same.0) ∙ unstuffed-stuffed first, is_first, (more, (All-tail IsLine first more lines, sym same.1))))
 
--- where no line can be cut off them, there are none
+-- if no line can be cut off them, there are none
 pub stuffed_end : (left : List ℕ) → ((line behind : List ℕ) → IsLine line → left ≡ line ++ 13 ∷ 10 ∷ behind → ⊥) → AreStuffed left → left ≡ []
 stuffed_end left ends are = by are.0 (are.1).0 (are.1).1
   where

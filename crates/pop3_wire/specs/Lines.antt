@@ -14,7 +14,7 @@ all_but_last [] = []
 all_but_last (part ∷ []) = []
 all_but_last (part ∷ next ∷ parts) = part ∷ all_but_last (next ∷ parts)
 
--- what stands before each LF, from the one before it on: what stands behind the last has not ended, and is no line
+-- what stands before each LF, from the one before it on: what stands after the last has not ended, and is no line
 abbrev pub ended_lines : List ℕ → List (List ℕ)
 ended_lines stream = all_but_last (slice_split is_lf stream)
 

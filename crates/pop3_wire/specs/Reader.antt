@@ -13,7 +13,7 @@ pub data Kept : Type 0 where
   Open : List ℕ → Kept
   Finished : Line → Kept
 
--- of the parts between LFs the last is the open line; where it is empty, the part before it has just ended
+-- of the parts between LFs the last is the open line; if it is empty, the part before it has just ended
 abbrev pub kept_of : List (List ℕ) → Kept
 kept_of [] = Open []
 kept_of (part ∷ []) = Open (take (longest_line + 1) part)

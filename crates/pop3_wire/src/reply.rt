@@ -58,7 +58,7 @@ pub enum Reply<'a, A: Allocator = Global> {
     Reset { messages: u64, octets: u64 },
     /// To QUIT.
     SigningOff,
-    /// To QUIT, where the marked messages could not be removed.
+    /// To QUIT, if the marked messages could not be removed.
     NotRemoved,
 }
 

@@ -92,7 +92,7 @@ fn put_first<A: Allocator>(
     Ok(())
 }
 
-/// Adds the lines up to and including the first empty one, and so many more. Reads no line behind them.
+/// Adds the lines up to and including the first empty one, and so many more. Reads no line after them.
 fn put_top_lines<A: Allocator>(
     bytes: &mut Vec<u8, A>,
     mut lines: Lines,

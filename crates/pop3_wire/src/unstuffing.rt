@@ -10,7 +10,7 @@ use maildrop::{Text, TextBuilder, begins_with_dot};
 use memchr::memchr;
 use std::alloc::Allocator;
 
-/// The bytes up to the first line end, if that is CR and LF, and what stands behind it.
+/// The bytes up to the first line end, if that is CR and LF, and what stands after it.
 fn cut_at_line_end(bytes: &[u8]) -> Option<(&[u8], &[u8])>
     ensures { MatchOption result
         ((line rest : List ℕ) → IsLine line → ¬ (bytes.now ≡ line ++ 13 ∷ 10 ∷ rest))
@@ -57,8 +57,8 @@ fn without_dot(line: &[u8]) -> &[u8]
     }
 }
 
-/// The lines of the wire form that the bytes begin with, each with its CR and LF, and what stands behind the dot that
-/// ends it; none where they begin with no wire form.
+/// The lines of the wire form that the bytes begin with, each with its CR and LF, and what stands after the dot that
+/// ends it; none if they begin with no wire form.
 fn split_wire_form(bytes: &[u8]) -> Option<(&[u8], &[u8])>
     ensures { MatchOption result (BeginsWithNone bytes.now) (λ cut. BeginsWithOne bytes.now cut.0.now cut.1.now) }
 {
@@ -92,7 +92,7 @@ fn text_of<A: Allocator + Copy>(alloc: A, stuffed: &[u8]) -> Result<Text<A>, Mem
     text.finish()
 }
 
-/// The text whose wire form the bytes begin with, and what stands behind it; none where they begin with no wire form,
+/// The text whose wire form the bytes begin with, and what stands after it; none if they begin with no wire form,
 /// which takes no memory.
 pub fn unstuffed<A: Allocator + Copy>(
     alloc: A,
@@ -101,7 +101,7 @@ pub fn unstuffed<A: Allocator + Copy>(
     ensures found { IfOk result (λ found. IfSome found (λ f.
         All IsLine f.0 × (bytes.now ≡ wire_form f.0 ++ f.1.now))) }
 
-    // So nothing is found only where no front of the bytes is a wire form.
+    // So nothing is found only if no front of the bytes is a wire form.
     ensures every { (text : List (List ℕ)) (rest : List ℕ) → All IsLine text → bytes.now ≡ wire_form text ++ rest →
         IfOk result (λ found. IsSomeAnd found (λ f. (f.0 ≡ text) × (f.1.now ≡ rest))) }
     ensures none { BeginsWithNone bytes.now → IsOk result }

@@ -32,7 +32,7 @@ Counts size mine heard from fits b =
     (in_cluster size from ≡ true) × (fits ≡ true) × (b ≡ mine) × (is_among from heard ≡ false)
 
 module _ {S R : Type 0} (size : ℕ) (mine : BallotNumber) (heard : List ℕ) (from : ℕ) (fits : Bool) (b : BallotNumber) (counted : Step S R) where
-  -- where the answer is counted, that is all that happens
+  -- if the answer is counted, that is all that happens
   pub answered_counts : Counts size mine heard from fits b → answered size mine heard from fits b counted ≡ counted
   answered_counts h =
       let low : below mine b ≡ false = AtMost-test mine b (subst (λ x. AtMost x mine) (sym h.2) (most_refl mine)) in
@@ -52,7 +52,7 @@ module _ {S R : Type 0} (size : ℕ) (mine : BallotNumber) (heard : List ℕ) (f
       go true false false true p q r s e = absurd (true≢false (sym e))
       go true false false false p q r s e = let a = and_parts _ _ p in ((a.0, a.1, same_height mine b q r, s), e)
 
--- distinct acceptors of a cluster are a quorum exactly where they are a majority
+-- distinct acceptors of a cluster are a quorum exactly if they are a majority
 pub quorum_majority : (size : ℕ) (heard : List ℕ) → AreDistinct size heard → (is_quorum size heard ≡ true) ↔ IsMajority size (λ node. is_among node heard)
 quorum_majority size heard h =
     let e = nodes_counted size heard h in (

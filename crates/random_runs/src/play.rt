@@ -26,7 +26,7 @@ const MOST_NODES: usize = 5;
 /// How many sessions a service may have.
 pub const SESSIONS: usize = 6;
 
-/// How many messages lie behind one that arrives late, at most.
+/// How many messages lie after one that arrives late, at most.
 const LATEST: usize = 60;
 
 /// What was asked of a node.

@@ -118,7 +118,7 @@ module _ {C I R M : Type 0} (rules : Rules C I R M) (total : IsTotalOrder rules.
         answered = rw (same.awaited, same.performed) h.answered;
       }
 
-  -- whoever awaits the command has its answer, where nobody has one yet
+  -- whoever awaits the command has its answer, if nobody has one yet
   answers_set : (c : C) (a : R) (i : I) (awaited : List (I × Option R)) → ((b : R) → lookup (is_at (rules.compare i)) awaited ≡ Some (Some b) → is_eq (rules.compare (rules.identity c) i) ≡ false)
       → lookup (is_at (rules.compare i)) (set_value (is_at (rules.compare (rules.identity c))) awaited (Some a)) ≡ answered_with (cond (is_eq (rules.compare (rules.identity c) i)) (Some a) None) (lookup (is_at (rules.compare i)) awaited)
   answers_set c a i awaited fresh =

@@ -9,7 +9,7 @@ use Rattle.replica.specs.Calls.{IsBehind}
 use Rattle.replica.proofs.Slots.{first_slots-same}
 use Rattle.replica.proofs.Front.{once_push}
 
--- a list and what comes behind it
+-- a list and what comes after it
 record IsLonger {X : Type 0} (short long : List X) : Type 0 where
   pub more : List X
   pub is : long ≡ short ++ more

@@ -122,7 +122,7 @@ module _ {C I R M : Type 0} (rules : Rules C I R M) where
   part_slots zero r f = f
   part_slots (suc n) r f = part_slots n (performs_next rules (at_slot r.slot_out r.decisions) r) (part_next r f (at_slot r.slot_out r.decisions) refl)
 
-  -- where the slot isn't decided, no more is performed
+  -- if the slot isn't decided, no more is performed
   pub idle : (n : ℕ) (r : ReplicaState C I R M) → at_slot r.slot_out r.decisions ≡ None → performs_slots rules n r ≡ r
   idle zero r h = refl
   idle (suc n) r h = rw h (idle n r h)

@@ -74,7 +74,7 @@ module _ {X : Type 0} where
   past (x ∷ xs) zero h = absurd (true≢false h)
   past (x ∷ xs) (suc k) h = let rest : length xs ≤ k = past xs k h in omega (arith, rest)
 
-  -- what comes behind the front goes behind it
+  -- what comes after the front goes after it
   past_front : (n s : ℕ) (x : X) (xs : List X) (es : List (ℕ × X)) → n + length xs ≤ s → with_slot s x (enumerate_from n xs ++ es) ≡ enumerate_from n xs ++ with_slot s x es
   past_front n s x [] es h = refl
   past_front n s x (y ∷ ys) es h =
@@ -89,7 +89,7 @@ module _ {X : Type 0} where
       let first : is_decided e.0 (e ∷ es) ≡ true = rw (same_slot e.0) refl in
       rw (below s e.0 (h e.0 first)) refl
 
-  -- a slot without a decision is behind the front
+  -- a slot without a decision is after the front
   pub behind_front : (s : ℕ) (front : List X) (ahead : List (ℕ × X)) → 1 ≤ s → is_decided s (enumerate_from 1 front ++ ahead) ≡ false → (length front < s) × (is_decided s ahead ≡ false)
   behind_front s front ahead low free =
       let none = no_either (slice_get front (s - 1)) (at_slot s ahead) (ap is_some (sym (at_either s front ahead low)) ∙ free) in
@@ -118,7 +118,7 @@ module _ {X : Type 0} where
   length-push [] x = refl
   length-push (y ∷ ys) x = let rest = length-push ys x in omega (arith, rest)
 
-  -- a decision for the slot behind the front goes to the front
+  -- a decision for the slot after the front goes to the front
   pub front_grows : (s : ℕ) (x : X) (front : List X) (ahead : List (ℕ × X)) → s ≡ 1 + length front → is_decided s (enumerate_from 1 front ++ ahead) ≡ false → IsAhead (length front) ahead
       → with_slot s x (enumerate_from 1 front ++ ahead) ≡ enumerate_from 1 (front ++ x ∷ []) ++ ahead
   front_grows s x front ahead at free h =

@@ -20,11 +20,11 @@ module _ {I : Type 0} {compare : I → I → Ordering} (total : IsTotalOrder com
   back : (i j : I) → is_eq (compare i j) ≡ is_eq (compare j i)
   back i j = (eq_by_cmp_equiv total).symm i j
 
-  -- where k and e are equal, q is equal to one as to the other
+  -- if k and e are equal, q is equal to one as to the other
   alike : (k e q : I) → compare k e ≡ Equal → is_eq (compare q e) ≡ is_eq (compare k q)
   alike k e q h = ap is_eq (sym (alike_right total k e q h)) ∙ back q k
 
-  -- q isn't equal to both, where these are not equal
+  -- q isn't equal to both, if these are not equal
   apart : (k e q : I) → is_eq (compare k e) ≡ false → is_eq (compare q e) ≡ true → is_eq (compare k q) ≡ false
   apart k e q other same =
       go (is_eq (compare k q)) refl
@@ -200,7 +200,7 @@ module _ {C I R M : Type 0} (rules : Rules C I R M) (total : IsTotalOrder rules.
       go true s ih = rw (← alike total k e.0 q (equal_is (rules.compare k e.0) s)) (gone (is_eq (rules.compare q e.0)) refl)
       go false s ih = rw ih (passed (is_eq (rules.compare q e.0)) (is_eq (rules.compare k q)) (apart total k e.0 q s))
 
--- where nothing is found nothing is written
+-- if nothing is found nothing is written
 pub set_none : {K X : Type 0} (test : K → Bool) (es : List (K × X)) (w : X) → lookup test es ≡ None → set_value test es w ≡ es
 set_none test [] w h = refl
 set_none test (e ∷ es) w h =

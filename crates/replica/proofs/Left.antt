@@ -56,7 +56,7 @@ module _ {C I R M : Type 0} (A : Type 0) (rules : Rules C I R M) (total : IsTota
         left = λ i. rw (p.answers i, q.answers i, answer i) (left_answered (answer_among rules i s.machine q.more) (awaited_for rules i r) (awaited_for rules i s) (h.left i));
       }
 
-  -- one answer comes to both, where it is awaited
+  -- one answer comes to both, if it is awaited
   pub decided_answered : (first : M) (slot : ℕ) (c : C) (r s : ReplicaState C I R M) → IsButTaken rules first r s → (i : I) →
       (o : Option R) × ((awaited_for rules i (learns {A = A} rules slot c r).after ≡ answered_with o (awaited_for rules i r)) × (awaited_for rules i (learns {A = A} rules slot c s).after ≡ answered_with o (awaited_for rules i s)))
   decided_answered first slot c r s h i =

@@ -79,7 +79,7 @@ module _ {C I R M : Type 0} (rules : Rules C I R M) where
       let same : performs_slots rules n (with_decision s c r) ≡ r = ap (performs_slots rules n) known ∙ idle rules n r (none_is (at_slot r.slot_out r.decisions) h.front.ends) in
       ap (λ (x : ReplicaState C I R M). proposes {A = A} x) same ∙ idle_slots A ((r.slot_out + r.window) - r.slot_in) r h.rests
 
-  -- the front of what was given, where the decisions are the first that were given
+  -- the front of what was given, if the decisions are the first that were given
   pub front_given : (given : List (ℕ × C)) (r : ReplicaState C I R M) → ((s : ℕ) → at_slot s r.decisions ≡ at_slot s given) → IsFrontOf rules r.decisions r → IsFrontOf rules given r
   front_given given r same f =
       record {

@@ -53,7 +53,7 @@ module _ {C I R M : Type 0} (A : Type 0) where
       let next : ReplicaState C I R M = (proposes_next {A = A} r.requests r).after in
       alike_then (proposes_slots {A = A} n next).after next r (slots_alike n next) (next_alike r.requests r)
 
-  -- where nothing can be proposed, nothing is
+  -- if nothing can be proposed, nothing is
   pub idle_next : (cs : List C) (r : ReplicaState C I R M) → can_propose cs r ≡ false → proposes_next {A = A} cs r ≡ stays r
   idle_next [] r h = refl
   idle_next (c ∷ cs) r h = rw h refl

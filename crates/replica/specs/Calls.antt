@@ -46,7 +46,7 @@ module _ {C I R M : Type 0} (A : Type 0) (rules : Rules C I R M) where
   all_called [] r = r
   all_called (call ∷ calls) r = all_called calls (called {A = A} rules call r).after
 
--- `later` has performed what `early` has, and maybe more behind it
+-- `later` has performed what `early` has, and maybe more after it
 pub record IsBehind {C I R M : Type 0} (early later : ReplicaState C I R M) : Type 0 where
   pub slot_out : early.slot_out ≤ later.slot_out
   pub more : List (ℕ × C)

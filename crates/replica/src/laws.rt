@@ -30,7 +30,7 @@ pub fn repeated_decisions_do_nothing<M: Machine, A: Allocator>()
         IsSettled rules r → is_decided slot r.decisions ≡ true → learns {A = A} rules slot command r ≡ stays r }
 {}
 
-/// A replica that was given at least what another was given has performed what that one has, and maybe more behind
+/// A replica that was given at least what another was given has performed what that one has, and maybe more after
 /// it. Replicas that were given the same for each slot have performed the same.
 pub fn fronts_agree<M: Machine>()
     ensures behind { let rules = rules_of M.Command.identity M.Command.Id.cmp M.answer_to M.after in

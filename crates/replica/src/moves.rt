@@ -25,7 +25,7 @@ pub fn request<M: Machine, A: Allocator + Copy>(
     propose_all(state)
 }
 
-/// Puts a command behind the other requests.
+/// Puts a command after the other requests.
 fn add_request<M: Machine, A: Allocator + Copy>(
     state: &mut State<M, A>,
     command: M::Command,

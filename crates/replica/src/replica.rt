@@ -99,7 +99,7 @@ impl<M: Machine, A: Allocator + Copy> Replica<M, A> {
         Ok(sends)
     }
 
-    /// Hears `Message::Ask`: the command that is decided for the slot. Takes no memory where none
+    /// Hears `Message::Ask`: the command that is decided for the slot. Takes no memory if none
     /// is.
     pub fn ask(&self, slot: Slot) -> Result<Option<M::Command>, Memory>
         ensures decision { (r : ReplicaState M.Command M.Command.Id M.Answer M) → self.now ≡ Some r → IfOk result (λ command. command ≡ at_slot slot r.decisions) }

@@ -91,7 +91,7 @@ module _ {C A : Type 0} where
       found.1 ∙ ap (λ d. Some d) (agree w i s found.0 c (listed_chosen w.size w.sent s found.0 found.1) h)
 
 module _ {C I R M A : Type 0} (rules : Rules C I R M) where
-  -- where all that it keeps is chosen, a replica has performed how the decided order begins
+  -- if all that it keeps is chosen, a replica has performed how the decided order begins
   pub performed_first : (w : Roles C A) → Sound w → (r : ReplicaState C I R M) → IsFrontOf rules r.decisions r → ((s : ℕ) (c : C) → at_slot s r.decisions ≡ Some c → IsChosen w.size w.sent s c) →
       IsPrefix r.performed (decided_order rules w.size w.sent)
   performed_first w i r front known =

@@ -65,7 +65,7 @@ module _ {A : Type 0} where
       go true = stands_later c (disconnected c.standing)
       go false = itself c
 
-  -- the client of each session, where that of one is put in
+  -- the client of each session, if that of one is put in
   pub at_inserted : (session s : ℕ) (d : Client A) (clients : List (ℕ × Client A)) → client_of s (with_client session d clients) ≡ cond (eqb s session) (Some d) (client_of s clients)
   at_inserted session s d [] = refl
   at_inserted session s d (e ∷ es) =

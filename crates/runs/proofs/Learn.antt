@@ -241,7 +241,7 @@ module _ {C A : Type 0} (w : Roles C A) (n : ℕ) where
     abbrev fits : Bool
     fits = same_ballot v.asked k.ballot && eqb v.slot k.slot
 
-    -- the vote, where it is counted
+    -- the vote, if it is counted
     counted_voted : Counts w.size k.ballot k.heard from fits v.ballot → (c : C) → at_slot v.slot l.proposals ≡ Some c → (m : ℕ) → is_among m (from ∷ k.heard) ≡ true →
         voted w.sent l.ballot v.slot m ≡ true
     counted_voted counts c at m t =
@@ -254,7 +254,7 @@ module _ {C A : Type 0} (w : Roles C A) (n : ℕ) where
         (λ q. (h (v.slot, record { size = w.size; state = Some k }) among c at).1 k refl m q)
         (among_cases m from k.heard t)
 
-    -- where its state is another, what it has heard has voted
+    -- if its state is another, what it has heard has voted
     set_voted : (state : Option CommanderState) → ((s : CommanderState) → state ≡ Some s → (c : C) → at_slot v.slot l.proposals ≡ Some c → (m : ℕ) → is_among m s.heard ≡ true → voted w.sent l.ballot v.slot m ≡ true) →
         AreVoted w.size w.sent l.ballot l.proposals (Active (set_slot v.slot (record { size = w.size; state = state }) ks))
     set_voted state g j i c e =

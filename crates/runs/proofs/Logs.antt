@@ -35,7 +35,7 @@ get_set (z ∷ xs) (suc k) zero x y e = let ne : 0 ≢ suc k = omega arith in rw
 get_set (z ∷ xs) (suc k) (suc j) x y e = rw (next_number j k) (get_set xs k j x y e)
 
 module _ {A : Type 0} where
-  -- the logs, where that of node n is another
+  -- the logs, if that of node n is another
   pub log_set : (logs : List (NodeLog A)) (n : ℕ) (log x : NodeLog A) → log_of n logs ≡ Some log → (m : ℕ) → log_of m (set logs (n - 1) x) ≡ cond (eqb m n) (Some x) (log_of m logs)
   log_set logs zero log x e m = absurd (cc)
   log_set logs (suc k) log x e zero = let ne : 0 ≢ suc k = omega arith in rw (ne_eqb 0 (suc k) ne) refl

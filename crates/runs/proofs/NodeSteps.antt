@@ -75,7 +75,7 @@ module _ {A : Type 0} where
     pub proposals : AllOf S move.after.leader.proposals
     pub holds : Holds S move.after.replica
 
-  -- a part of the nodes, where one of them is another
+  -- a part of the nodes, if one of them is another
   along_put : {Y : Type 0} (g : NodeState A → Y) (f : ℕ → NodeState A) (n : ℕ) (x : NodeState A) → ◌≡◌ {A = ℕ → Y} (λ m. g (put f n x m)) (put (λ m. g (f m)) n (g x))
   along_put g f n x = λ i m. go m (eqb m n) i
     where
@@ -343,7 +343,7 @@ module _ {A : Type 0} (size : ℕ) (S : Command A → Type 0) (nodes : ℕ → N
   acts_steps before Campaign h = led Campaigns tt tt
   acts_steps before Crash h = quiet
 
-  -- what it is given, also behind a crash
+  -- what it is given, also after a crash
   pub given_steps : (before : List (Input A)) (input : Input A) → IsGiven S sent n before input → Shows (takes n before (nodes n) input)
   given_steps before input h =
       go (list_any is_crash before)

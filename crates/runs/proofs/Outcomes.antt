@@ -16,7 +16,7 @@ use Rattle.runs.proofs.NodeRuns.{every_run}
 use Rattle.runs.proofs.Theorems.{performed_prefix}
 
 module _ {A : Type 0} where
-  -- more that is decided behind it changes nothing
+  -- more that is decided after it changes nothing
   outcome_more : (first : Opening A) (xs ys : List (ℕ × Command A)) (id : CommandId) (o : Outcome A) → IsPrefix xs ys → IsOutcomeOf first xs id o → IsOutcomeOf first ys id o
   outcome_more first xs ys id o p h = record {
     before = h.before;

@@ -68,7 +68,7 @@ module _ {A : Type 0} where
       ap (λ xs. outcome_of (first_maildrop first id.user) id.ticket (own_of id.user xs)) h.order ∙ is
       ∙ sym (ap Some (h.outcome ∙ ap (λ u. outcome_at (maildrop_after_all (first_maildrop first u) (own_of u h.before)) h.command) user))
 
-  -- and what is decided behind changes nothing
+  -- and what is decided after changes nothing
   pub outcome_later : (first : Opening A) (user : List ℕ) (ticket : Ticket) (o : Outcome A) (order later : List (ℕ × Command A)) → IsPrefix order later →
       outcome_of (first_maildrop first user) ticket (own_of user order) ≡ Some o → outcome_of (first_maildrop first user) ticket (own_of user later) ≡ Some o
   outcome_later first user ticket o order later front e =

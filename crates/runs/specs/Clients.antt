@@ -56,7 +56,7 @@ module _ {A : Type 0} where
   abbrev pub asking : Client A → Ticket → Standing A → Client A
   asking c ticket standing = record c { tickets = c.tickets ++ ticket ∷ []; standing = standing }
 
-  -- the same client later: what it sent, got and was told stays, and more comes behind
+  -- the same client later: what it sent, got and was told stays, and more comes after
   pub record IsLater (c later : Client A) : Type 0 where
     pub node : later.node ≡ c.node
     pub stamp : later.stamp ≡ c.stamp

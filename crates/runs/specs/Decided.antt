@@ -5,7 +5,7 @@ use Rattle.ballot.specs.declared.message.Envelope.{Envelope}
 use Rattle.replica.specs.Replicas.{Rules, rules_of, is_decided, first_slots, once}
 use Rattle.runs.specs.Chosen.{chosen}
 
--- of n slots from s on the first at which nothing stands; the slot behind them where something stands at each
+-- of n slots from s on the first at which nothing stands; the slot after them if something stands at each
 abbrev pub first_gap : {X : Type 0} → ℕ → ℕ → List (ℕ × X) → ℕ
 first_gap zero s es = s
 first_gap (suc n) s es = if is_decided s es then first_gap n (s + 1) es else s
@@ -20,7 +20,7 @@ decided_order {C} rules size sent =
     let all : List (ℕ × C) = chosen size sent in
     once rules [] (first_slots (first_gap (length all) 1 all - 1) all)
 
--- a worked example: of the commands that stand at slots 1, 2 and 4 the third is behind a gap
+-- a worked example: of the commands that stand at slots 1, 2 and 4 the third is after a gap
 module _ {X : Type 0} (x y z : X) where
   behind_a_gap : without_gap ((4, z) ∷ (2, y) ∷ (1, x) ∷ (1, x) ∷ []) ≡ (1, x) ∷ (2, y) ∷ []
   behind_a_gap = refl

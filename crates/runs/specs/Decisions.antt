@@ -40,6 +40,6 @@ module _ {A : Type 0} where
   abbrev pub WereSubmitted : Service A → List (ℕ × Command A) → Type 0
   WereSubmitted w commands = (slot : ℕ) (c : Command A) → IsIn (slot, c) commands → WasSubmitted w.network.logs c
 
-  -- what is decided stays so, and more comes behind
+  -- what is decided stays so, and more comes after
   abbrev pub KeepsDecided : Config A → Service A → Service A → Type 0
   KeepsDecided cfg w later = IsPrefix (decided cfg w) (decided cfg later)

@@ -34,7 +34,7 @@ module _ {A : Type 0} where
   abbrev pub own_commands : Config A → Service A → List ℕ → List (Command A)
   own_commands cfg w user = own_of user (decided_order mail_rules cfg.cluster (envelopes w.network))
 
-  -- what the client's lines ask for, where they are answered so
+  -- what the client's lines ask for, if they are answered so
   abbrev pub asked_by : Config A → Client A → List (Answer A) → List (Request A)
   asked_by cfg c answers = (conversation cfg.accounts c.stamp c.lines answers).asked
 
@@ -50,7 +50,7 @@ module _ {A : Type 0} where
   HasOneUser cfg c = AsksNothing cfg c ⊎ ((user : List ℕ) × (is_some (account_named cfg.accounts user) ≡ true) × IsUserOf cfg c user)
 
   -- the bytes of the replies of a server that has the user's maildrop alone, to the client's greeting and these lines,
-  -- where the operations that they ask for have these tickets, and these are the user's commands
+  -- if the operations that they ask for have these tickets, and these are the user's commands
   abbrev pub alone_bytes : Config A → Client A → List ℕ → List Line → List Ticket → List (Command A) → List ℕ
   alone_bytes cfg c user lines tickets own =
       concat (replies_alone cfg.accounts c.stamp (first_maildrop (opening_of cfg) user) lines tickets own)

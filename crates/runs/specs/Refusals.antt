@@ -26,7 +26,7 @@ refusal_number SessionExists = 6
 refusal_number Memory = 7
 
 module _ {A : Type 0} where
-  -- where the node of this log is down that is told first
+  -- if the node of this log is down that is told first
   abbrev pub unless_down : Option (NodeLog A) → Option Refused → Option Refused
   unless_down log refusal = if is_up log then refusal else Some Down
 

@@ -60,7 +60,7 @@ module _ {A : Type 0} where
   abbrev pub stepped : World A → Event A → World A
   stepped w event = record w { service = occurs w.config w.service event; operations = w.operations ++ operation_of w.service event }
 
-  -- the answer to the command that its node has got, where the node is up
+  -- the answer to the command that its node has got, if the node is up
   abbrev pub answer_at : Option (NodeLog A) → CommandId → Option (Outcome A)
   answer_at None id = None
   answer_at (Some log) id = if is_up (Some log) then answered log id else None

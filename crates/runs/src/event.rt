@@ -56,7 +56,7 @@ pub enum Event<A: Allocator = Global> {
         /// Whose maildrop it is.
         user: Name,
     },
-    /// The message that was sent as this number, counted from 0, reaches its addressee, once more where it did before.
+    /// The message that was sent as this number, counted from 0, reaches its addressee, once more if it did before.
     Arrive(usize),
     /// Time passes at a node.
     Tick(NodeId),

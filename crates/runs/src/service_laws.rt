@@ -71,7 +71,7 @@ pub fn answers_fit<A: Allocator>()
         → is_some (by_answer state id.ticket answer) ≡ true }
 {}
 
-/// A client stays, with its node and its greeting. What it sent and was told stays, and more comes behind.
+/// A client stays, with its node and its greeting. What it sent and was told stays, and more comes after.
 pub fn what_was_told_stays<A: Allocator>()
     ensures { (config : Config A) (early late : List (Happening A)) (session : ℕ) (c : Client A) →
         client_of session (run_of config early).clients ≡ Some c

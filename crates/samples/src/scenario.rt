@@ -37,7 +37,7 @@ fn meets<S: Scenario>(alloc: Global, scenario: &S, refusal: Refusal) -> Result<b
 }
 
 /// Runs a scenario with each of its requests refused in turn, alone and with all that follow, and then with none
-/// refused. Fails where it makes more than so many, and gives how many it makes.
+/// refused. Fails if it makes more than so many, and gives how many it makes.
 pub fn requests<S: Scenario>(alloc: Global, scenario: &S, most: u64) -> Result<u64, Fail> {
     for after in 0..=most {
         let _ = meets(alloc, scenario, Refusal::All { after })?;

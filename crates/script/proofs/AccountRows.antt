@@ -24,7 +24,7 @@ has_secret name secret (Some method) account is = by_test (is_name name && is_se
     by_test true both is = (and_parts _ _ both).1
     by_test false both is = absurd (cc is)
 
--- the secret of what stands behind the name
+-- the secret of what stands after the name
 by_second_space : (name rest : List ℕ) (account : Account) (place : Option ℕ) → option_and_then (λ (method, secret). account_of name (method_of method) secret) (option_map (λ place. (take place rest, drop (place + 1) rest)) place) ≡ Some account → (n : ℕ) × (is_secret (drop n rest) ≡ true)
 by_second_space name rest account None is = absurd (cc is)
 by_second_space name rest account (Some place) is = (place + 1, has_secret name (drop (place + 1) rest) (method_of (take place rest)) account is)
@@ -66,7 +66,7 @@ no_line_feed row line k d inside = ne_eqb _ 10 (line k d inside)
 row_line : (row : List ℕ) (account : Account) (more : List ℕ) → IsLine row → row_of row ≡ Some account → lines (row ++ 10 ∷ more) ≡ row ∷ lines more
 row_line row account more line is = lines-more row more (no_line_feed row line) ∙ ap (λ r. r ∷ lines more) (row_stays row account is)
 
--- faults of lines that stand behind others
+-- faults of lines that stand after others
 option_or-assoc : {A : Type 0} (a b c : Option A) → option_or a (option_or b c) ≡ option_or (option_or a b) c
 option_or-assoc None b c = refl
 option_or-assoc (Some x) b c = refl

@@ -83,7 +83,7 @@ place-behind bytes more none =
 place-low : (bytes : List ℕ) → place bytes ≤ length bytes
 place-low bytes = prefix_len-le-length (λ b. not (is_space b)) bytes
 
--- where no space stands
+-- if no space stands
 nowhere : (bytes : List ℕ) → nat_lt (place bytes) (length bytes) ≡ false → place bytes ≡ length bytes
 nowhere bytes none = omega (arith, place-low bytes, ltb-false _ _ none)
 
@@ -105,7 +105,7 @@ module _ (bytes more line end : List ℕ) (same : bytes ++ more ≡ line ++ end)
   abbrev SaysNothing : Bool → Type 0
   SaysNothing found = (0 < length line) × (statement_cut (option_map (λ n. (take n line, drop (n + 1) line)) (cond found (Some (place line)) None)) line ≡ None)
 
-  -- where the first word is whole
+  -- if the first word is whole
   module _ (inside : place bytes < length bytes) (none : is_keyword (take (place bytes) bytes) ≡ false) where
     whole-word : (found : Bool) → nat_lt (place line) (length line) ≡ found → SaysNothing found
     whole-word true within =
@@ -119,7 +119,7 @@ module _ (bytes more line end : List ℕ) (same : bytes ++ more ≡ line ++ end)
         let here : place (line ++ end) ≡ place bytes = ap place (sym same) ∙ place-inside bytes more inside in
         absurd (omega (arith, last, here, inside, lengths))
 
-  -- where the first word goes on
+  -- if the first word goes on
   module _ (beyond : place bytes ≡ length bytes) (long : 8 < length bytes) where
     open-word : (found : Bool) → nat_lt (place line) (length line) ≡ found → SaysNothing found
     open-word true within =

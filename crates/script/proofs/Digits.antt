@@ -1,7 +1,7 @@
 -- The value of digits, from the front.
 use Rattle.std.proofs.Common.{◌≡◌, ◌≤◌, ◌<◌, ◌+◌, ◌-◌, ◌*◌, ℕ, List, [], ◌∷◌, fold, length, drop, get_or, drop-cons, add-one, arith, refl}
 
--- the value of more digits behind a number
+-- the value of more digits after a number
 abbrev pub value_behind : ℕ → List ℕ → ℕ
 value_behind number digits = fold (λ n digit. 10 * n + (digit - 48)) number digits
 

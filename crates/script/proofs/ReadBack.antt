@@ -26,7 +26,7 @@ use Rattle.script.specs.declared.request.Request.{Request}
 use Rattle.script.specs.declared.request.Request.TheVariants as request
 use Rattle.script.proofs.Keys.{digits_visible}
 
--- what stands before a space, and what behind it
+-- what stands before a space, and what after it
 front_of : (word rest : List ℕ) → take (length word) (word ++ rest) ≡ word
 front_of [] rest = refl
 front_of (b ∷ word) rest = ap (λ bs. b ∷ bs) (front_of word rest)
@@ -87,7 +87,7 @@ decimal_is_decimal n fits =
     and_from _ _ (and_from _ _ (le-leb _ _ (decimal_nonempty n fits)) (same_digits (decimal n) ∙ digits_decimal value_model n fits))
     (ap not (no_leading_zero n fits))
 
--- a number that is written reads back, where it is in the range
+-- a number that is written reads back, if it is in the range
 pub number-reads_back : (low high n : ℕ) → low ≤ n → n ≤ high → n < 2 ^ 64 → number_between low high (decimal n) ≡ Some n
 number-reads_back low high n above below fits =
     let value : number_value (decimal n) ≡ n = digits_value-decimal value_model n fits in

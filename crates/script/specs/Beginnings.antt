@@ -16,11 +16,11 @@ abbrev pub may_begin_cut : Option (List ℕ × List ℕ) → List ℕ → Bool
 may_begin_cut None bytes = nat_le (length bytes) longest_keyword
 may_begin_cut (Some parts) bytes = is_keyword parts.0
 
--- the first word is a keyword, or no space stands behind it yet and it isn't too long for one
+-- the first word is a keyword, or no space stands after it yet and it isn't too long for one
 abbrev pub may_begin_line : List ℕ → Bool
 may_begin_line bytes = may_begin_cut (cut_at_space bytes) bytes
 
--- what stands behind the bytes of a line: nothing behind the last one, or else a line feed, or both a carriage return and
+-- what stands after the bytes of a line: nothing after the last one, or else a line feed, or both a carriage return and
 -- a line feed
 abbrev pub IsLineEnd : List ℕ → Type 0
 IsLineEnd end = (end ≡ []) ⊎ (end ≡ codes "\n") ⊎ (end ≡ codes "\r\n")

@@ -65,7 +65,7 @@ session_of (first ∷ digits) = if first == 115 then number_between 0 last_sessi
 abbrev pub longest_sent : ℕ
 longest_sent = 510
 
--- the line that a client sends, with a CR and an LF behind it
+-- the line that a client sends, with a CR and an LF after it
 abbrev pub sent_line : List ℕ → Line
 sent_line bytes = if nat_lt longest_sent (length bytes) then TooLong else Whole bytes
 
@@ -89,7 +89,7 @@ keyed_in rest =
     option_and_then (λ (node, behind). option_and_then (λ (user, more). option_and_then (λ (key, written). keyed_of (node_of node) (name_of user) (key_of key) written) (cut_at_space more)) (cut_at_space behind)) (cut_at_space rest)
 
 module _ {A B : Type 0} where
-  -- both, where both are there
+  -- both, if both are there
   abbrev pub both_of : Option A → Option B → Option (A × B)
   both_of (Some a) (Some b) = Some (a, b)
   both_of a b = None
@@ -124,7 +124,7 @@ deliver_in rest =
 abbrev pub storm_in : List ℕ → Option Command
 storm_in rest = option_and_then (λ (copies, limit). option_map (λ both. command.Storm both.0 both.1) (both_of (number_of copies) (number_of limit))) (cut_at_space rest)
 
--- the command of a keyword and what stands behind its space
+-- the command of a keyword and what stands after its space
 abbrev pub command_with : Keyword → List ℕ → Option Command
 command_with keyword.Mail rest = mail_in rest
 command_with keyword.Keyed rest = keyed_in rest
@@ -159,7 +159,7 @@ limits_of rest =
 abbrev pub window_of : List ℕ → Option ℕ
 window_of rest = number_between 1 widest_window rest
 
--- the setting of a keyword and what stands behind its space
+-- the setting of a keyword and what stands after its space
 abbrev pub setting_with : SettingKeyword → List ℕ → Option Setting
 setting_with word.Nodes rest = option_map setting.Nodes (cluster_of rest)
 setting_with word.Limits rest = option_map setting.Limits (limits_of rest)
@@ -172,7 +172,7 @@ statement_by (Some word) other rest = option_map statement.Setting (setting_with
 statement_by None (Some word) rest = option_map statement.Command (command_with word rest)
 statement_by None None rest = None
 
--- the statement of a first word and what stands behind its space
+-- the statement of a first word and what stands after its space
 abbrev pub statement_with : List ℕ → List ℕ → Option Statement
 statement_with bytes rest = statement_by (setting_keyword_of bytes) (keyword_of bytes) rest
 

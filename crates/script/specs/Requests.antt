@@ -61,7 +61,7 @@ stop_in rest =
     else if bytes_eq rest (codes "now wait") then Some (request.Stop true true)
     else None
 
--- the request of a first word and what stands behind its space
+-- the request of a first word and what stands after its space
 abbrev pub request_with : List ℕ → List ℕ → Option Request
 request_with word rest =
     if bytes_eq word (codes "deliver") then deliver_in rest

@@ -44,7 +44,7 @@ with_setting s (setting.Window window) = Ok (record { cluster = s.cluster; limit
 with_setting s (setting.Host host) = Ok (record { cluster = s.cluster; limits = s.limits; window = s.window; host = host; accounts = s.accounts })
 with_setting s (setting.Account row) = or_fault s (with_account s.accounts (row_of row))
 
--- the settings so far, and whether a command stood behind them
+-- the settings so far, and whether a command stood after them
 pub record Script : Type 0 where
   pub settings : Settings
   pub begun : Bool
@@ -56,7 +56,7 @@ abbrev pub set_or_fault : Result Settings ScriptFault → Result (Option Command
 set_or_fault (Ok settings) = Ok (None, record { settings = settings; begun = false })
 set_or_fault (Err fault) = Err fault
 
--- behind a command nothing is set any more
+-- after a command nothing is set any more
 abbrev pub set : Script → Setting → Result (Option Command × Script) ScriptFault
 set script it = if script.begun then Err LateSetting else set_or_fault (with_setting script.settings it)
 
@@ -66,6 +66,6 @@ read_statement script (Ok None) = Ok (None, script)
 read_statement script (Ok (Some (statement.Setting it))) = set script it
 read_statement script (Ok (Some (statement.Command it))) = Ok (Some it, record { settings = script.settings; begun = true })
 
--- a line: the command on it, if there is one, and the script behind it
+-- a line: the command on it, if there is one, and the script after it
 abbrev pub read_line : Script → List ℕ → Result (Option Command × Script) ScriptFault
 read_line script line = read_statement script (parsed line)

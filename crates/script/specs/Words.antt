@@ -16,7 +16,7 @@ has_leading_zero digits = false
 abbrev pub is_decimal : List ℕ → Bool
 is_decimal bytes = nat_le 1 (length bytes) && list_all is_ascii_digit bytes && not (has_leading_zero bytes)
 
--- the number of these digits, where it is in the range
+-- the number of these digits, if it is in the range
 abbrev pub number_between : ℕ → ℕ → List ℕ → Option ℕ
 number_between low high bytes =
     if is_decimal bytes && nat_le low (number_value bytes) && nat_le (number_value bytes) high

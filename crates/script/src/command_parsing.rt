@@ -1,4 +1,4 @@
-//! Reads the words behind the keyword of a command.
+//! Reads the words after the keyword of a command.
 ghost use Rattle.std.specs.Prelude.{◌≡◌};
 ghost use Rattle.maildrop.specs.Text.{IsLine};
 ghost use Rattle.script.specs.Commands as spec;
@@ -19,7 +19,7 @@ const LAST_SESSION: u64 = 999_999_999;
 /// The most bytes of a client's line that ends in CR and LF: 512 octets with them.
 const LONGEST_SENT: usize = 510;
 
-/// The number of a session, behind an `s`.
+/// The number of a session, after an `s`.
 fn session_of(word: &[u8]) -> Option<u32>
     ensures { result ≡ spec.session_of word.now }
 {
@@ -81,7 +81,7 @@ fn connect_in(rest: &[u8]) -> Option<Command<'_>>
     })
 }
 
-/// The line that a client sends, with a CR and an LF behind it.
+/// The line that a client sends, with a CR and an LF after it.
 fn sent_line(bytes: &[u8]) -> Line
     ensures { result ≡ spec.sent_line bytes.now }
 {
@@ -125,7 +125,7 @@ fn storm_in(rest: &[u8]) -> Option<Command<'_>>
     Some(Command::Storm { copies, limit })
 }
 
-/// The command of a keyword and what stands behind its space.
+/// The command of a keyword and what stands after its space.
 pub(crate) fn command_with(keyword: Keyword, rest: &[u8]) -> Option<Command<'_>>
     requires { IsLine rest.now }
     ensures { result ≡ spec.command_with keyword rest.now }

@@ -9,7 +9,7 @@ pub enum ScriptFault {
     /// The line is none of the language, or a value in it is out of its range.
     #[error("no line of a script")]
     NoStatement,
-    /// A setting stands behind a command.
+    /// A setting stands after a command.
     #[error("a setting behind a command")]
     LateSetting,
     /// An account has the name of an account before it.

@@ -9,7 +9,7 @@ use std::marker::Model;
 /// A nonce that can stand before every host.
 const ANY_NONCE: &[u8] = b"1";
 
-/// What stands behind the `@` of the timestamps of all greetings: 1 to 100 letters and digits, hyphens inside a run of
+/// What stands after the `@` of the timestamps of all greetings: 1 to 100 letters and digits, hyphens inside a run of
 /// them, single dots between. It is kept in its own place and takes no memory.
 #[derive(Drop)]
 pub struct Host {

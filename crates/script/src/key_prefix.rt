@@ -17,7 +17,7 @@ const LONGEST_KEY: usize = 64;
 pub const LAST_MESSAGE: u32 = 999_999_999;
 
 /// What the keys of a file's messages begin with: 1 to 54 bytes of 0x21 to 0x7E. A dot and the number of the message
-/// stand behind it. It is kept in its own place, so a copy takes no memory.
+/// stand after it. It is kept in its own place, so a copy takes no memory.
 #[derive(Clone, Copy, Debug)]
 pub struct KeyPrefix {
     key: Key,

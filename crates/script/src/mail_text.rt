@@ -10,7 +10,7 @@ use maildrop::{Text, TextBuilder};
 use memchr::{memchr, memchr_iter};
 use std::alloc::Allocator;
 
-/// What stands before the first bar and what stands behind it, if there is a bar.
+/// What stands before the first bar and what stands after it, if there is a bar.
 fn cut_at_bar(bytes: &[u8]) -> Option<(&[u8], &[u8])>
     ensures parts { MatchOption result
         (slice_split spec.is_bar bytes.now ≡ bytes.now ∷ [])

@@ -16,7 +16,7 @@ use crate::words::cut_at_space;
 /// How many bytes the longest keyword has.
 const LONGEST_KEYWORD: usize = 8;
 
-/// The statement of a first word and what stands behind its space.
+/// The statement of a first word and what stands after its space.
 fn statement_with<'a>(word: &[u8], rest: &'a [u8]) -> Option<Statement<'a>>
     requires { IsLine rest.now }
     ensures { result ≡ spec.statement_with word.now rest.now }
@@ -71,7 +71,7 @@ fn is_keyword(word: &[u8]) -> bool
     setting_keyword_of(word).is_some() || keyword_of(word).is_some()
 }
 
-/// Whether a line of the language may begin with these bytes: the first word is a keyword, or no space stands behind it
+/// Whether a line of the language may begin with these bytes: the first word is a keyword, or no space stands after it
 /// yet and it isn't too long for one. Takes no memory.
 pub fn may_begin_line(bytes: &[u8]) -> bool
     ensures value { result ≡ beginnings.may_begin_line bytes.now }

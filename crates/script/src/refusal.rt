@@ -2,7 +2,7 @@
 ghost use Rattle.std.specs.Prelude.{◌≡◌};
 ghost use Rattle.script.specs.Output as spec;
 
-/// Why a command can't happen now. The script goes on behind it.
+/// Why a command can't happen now. The script goes on after it.
 #[derive(Clone, Copy, Debug, PartialEq, Eq)]
 pub enum Refusal {
     /// No such message was sent that never arrived.

@@ -18,7 +18,7 @@ pub const LARGEST_FILE: u64 = 1 << 30;
 #[derive(Drop)]
 pub enum Request {
     /// `deliver NODE USER COUNT` or `deliver NODE USER COUNT KEY`: the messages of a mailbox file of so many bytes, which
-    /// stand behind the line, are delivered.
+    /// stand after the line, are delivered.
     Deliver {
         node: NodeId,
         user: Name,
@@ -163,7 +163,7 @@ fn stop_in(rest: &[u8]) -> Option<Request>
     }
 }
 
-/// The request of a first word and what stands behind its space.
+/// The request of a first word and what stands after its space.
 fn request_with(word: &[u8], rest: &[u8]) -> Option<Request>
     ensures { result ≡ spec.request_with word.now rest.now }
 {

@@ -4,7 +4,7 @@ ghost use Rattle.maildrop.specs.Text.{IsLine};
 
 use std::marker::Model;
 
-/// What stands behind the words of a line: any bytes but a line feed. They are those of the line, not a copy.
+/// What stands after the words of a line: any bytes but a line feed. They are those of the line, not a copy.
 #[derive(Drop)]
 pub struct Rest<'a> {
     bytes: &'a [u8],

@@ -46,7 +46,7 @@ impl<A: Allocator + Copy> Script<A> {
     }
 
     /// Reads a line, without its line end, and answers the command on it; an empty line and a setting have none. A
-    /// setting behind a command is refused, and an account whose name another has. After an error nothing is changed.
+    /// setting after a command is refused, and an account whose name another has. After an error nothing is changed.
     pub fn read<'a>(&mut self, line: &'a [u8]) -> Result<Option<Command<'a>>, ScriptFault>
         requires { IsLine line.now }
         ensures value { IfOk result (λ command. read_line self.old line.now ≡ Ok (command, self.new)) }

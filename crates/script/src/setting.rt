@@ -13,9 +13,9 @@ pub enum Setting<'a> {
     Nodes(Cluster),
     /// `limits M O I`: the messages, octets and highest unique id of each maildrop.
     Limits(Limits),
-    /// `window W`: how many slots behind the first undecided one a replica may propose for, 1 to 1,000.
+    /// `window W`: how many slots after the first undecided one a replica may propose for, 1 to 1,000.
     Window(Window),
-    /// `host H`: what stands behind the `@` of all greetings.
+    /// `host H`: what stands after the `@` of all greetings.
     Host(Host),
     /// `account NAME METHOD SECRET`: a user who may log in.
     Account(AccountRow<'a>),

@@ -1,4 +1,4 @@
-//! Reads the words behind the keyword of a setting.
+//! Reads the words after the keyword of a setting.
 ghost use Rattle.std.specs.Prelude.{◌≡◌};
 ghost use Rattle.maildrop.specs.Text.{IsLine};
 ghost use Rattle.script.specs.Commands as spec;
@@ -38,7 +38,7 @@ fn limits_of(rest: &[u8]) -> Option<Limits>
     Limits::new(messages, octets, ids)
 }
 
-/// The setting of a keyword and what stands behind its space.
+/// The setting of a keyword and what stands after its space.
 pub(crate) fn setting_with(keyword: SettingKeyword, rest: &[u8]) -> Option<Setting<'_>>
     requires { IsLine rest.now }
     ensures { result ≡ spec.setting_with keyword rest.now }

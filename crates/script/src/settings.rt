@@ -14,21 +14,21 @@ use std::alloc::{Allocator, Global};
 use std::collections::BTreeSet;
 use std::marker::Model;
 
-/// The limits of each maildrop, where a script sets none.
+/// The limits of each maildrop, if a script sets none.
 const MESSAGES: u64 = 1_000;
 
 const OCTETS: u64 = 1_000_000;
 
 const IDS: u64 = 1_000_000;
 
-/// The window, where a script sets none.
+/// The window, if a script sets none.
 const WINDOW: u64 = 10;
 
-/// The host, where a script sets none.
+/// The host, if a script sets none.
 const HOST: &[u8] = b"localhost";
 
 /// What a script sets: one node, maildrops of 1,000 messages, 1,000,000 octets and unique ids up to 1,000,000, a window
-/// of 10 slots, the host `localhost` and no accounts, where it sets nothing else.
+/// of 10 slots, the host `localhost` and no accounts, if it sets nothing else.
 #[derive(Drop)]
 pub struct Settings<A: Allocator = Global> {
     cluster: Cluster,

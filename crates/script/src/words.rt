@@ -15,7 +15,7 @@ fn place_of_space(bytes: &[u8]) -> Option<usize>
     bytes.iter().position(|byte| *byte == b' ')
 }
 
-/// The first word and what stands behind its space, if there is a space.
+/// The first word and what stands after its space, if there is a space.
 pub(crate) fn cut_at_space(bytes: &[u8]) -> Option<(&[u8], &[u8])>
     ensures parts { option_map (λ parts. (parts.0.now, parts.1.now)) result ≡ accounts.cut_at_space bytes.now }
     ensures line { IsLine bytes.now → IfSome result (λ parts. IsLine parts.1.now) }

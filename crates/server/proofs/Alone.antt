@@ -69,7 +69,7 @@ module _ {A : Type 0} where
       let one : maildrop_of user (users_after users c) ≡ maildrop_after (maildrop_of user users) c = subst (λ u. maildrop_of u (users_after users c) ≡ maildrop_after (maildrop_of u users) c) numbered.0 (maildrop_of-own users c) in
       own-after user (users_after users c) (number + 1) cs numbered.2 ∙ ap (λ maildrop. maildrop_after_all maildrop cs) one
 
-  -- a command is found by its ticket behind others of lower numbers
+  -- a command is found by its ticket after others of lower numbers
   outcome-there : (user : List ℕ) (maildrop : Option (Maildrop A)) (number : ℕ) (front rest : List (Command A)) (c : Command A) → AreNumbered user number front → c.ticket ≡ ticket_of (number + length front)
       → outcome_of maildrop c.ticket (front ++ c ∷ rest) ≡ Some (outcome_at (maildrop_after_all maildrop front) c)
   outcome-there user maildrop number [] rest c numbered ticketed =

@@ -79,7 +79,7 @@ module _ {A : Type 0} where
       let rest = commands_asked (number + 1) entries answered.1 in
       rw answered.0.asked_by (ap (λ commands. record { user = entry.name; ticket = ticket_of number; op = entry.op } ∷ commands) rest)
 
-  -- one entry more: its answer, and those behind it
+  -- one entry more: its answer, and those after it
   answer-first : (first next : LoneDesk A) (entry : Asked A) (ticket : Ticket) (outcome : Outcome A) (answers : List (Answer A)) (commands : List (Command A))
       → entry.ticket ≡ Some ticket → entry.outcome ≡ Some outcome → Gives first (given_of entry) next → answers ≡ answers_in next.office commands
       → record { ticket = ticket; outcome = outcome } ∷ answers ≡ answers_in first.office (record { user = entry.name; ticket = ticket_of first.next; op = entry.op } ∷ commands)
@@ -139,7 +139,7 @@ module _ {A : Type 0} where
         replied = all-taken accounts stamp transcript bytes.written over bytes.said ∙ ap (λ (c : Conversation A). concat c.replies) (sym same);
       }
 
-  -- where the input is known, all of it was answered
+  -- if the input is known, all of it was answered
   pub written_session : (accounts : List Account) (stamp : Stamp) (desk last : LoneDesk A) (remaining remaining2 contents contents2 : Option (List ℕ)) (transcript : Transcript A)
       → IsTranscript accounts stamp transcript → IsReadAndWritten accounts stamp transcript remaining remaining2 contents contents2 → IsHistory Gives desk transcript.asked last → IsOver transcript.end
       → IfSome remaining (λ input. (written : List ℕ) × IsSessionOf accounts stamp desk.next desk.office input written × Appends contents contents2 written)

@@ -32,7 +32,7 @@ login : replies_alone accounts stamp (lone_maildrop Global) (lines_of (codes "US
 unfolding digits
 login = refl
 
--- where the removal is not decided yet, no more is said
+-- if the removal is not decided yet, no more is said
 undecided : replies_alone accounts stamp (lone_maildrop Global) (lines_of (codes "USER alice\r\nPASS s\r\nDELE 1\r\nQUIT\r\n")) (tickets_of own) (mails ++ record { user = codes "alice"; ticket = ticket_of 2; op = Take } ∷ [])
     ≡ codes "+OK POP3 server ready <1.1@localhost>\r\n" ∷ codes "+OK send PASS\r\n" ∷ codes "+OK maildrop has 1 messages (18 octets)\r\n" ∷ codes "+OK message 1 deleted\r\n" ∷ []
 unfolding digits

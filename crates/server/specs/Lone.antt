@@ -52,7 +52,7 @@ lone_maildrop A = Some (empty_maildrop lone_limits)
 abbrev pub AreStored : Type 0 → Bool → LoneOptions → List (List (List ℕ)) → Type 0
 AreStored A all options texts = (texts_of options ≡ Ok texts) × (are_stored (lone_maildrop A) (mails_from 1 options.user.now texts) ≡ all)
 
--- What is written is what a server says to the lines of the input that has the user's maildrop alone, where the user's
+-- What is written is what a server says to the lines of the input that has the user's maildrop alone, if the user's
 -- commands are the texts of the mailbox file and then what the session asks, each under the next ticket of node 1.
 pub record IsLoneSession (A : Type 0) (options : LoneOptions) (input written : List ℕ) : Type 0 where
   pub texts : List (List (List ℕ))

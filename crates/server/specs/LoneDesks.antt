@@ -16,7 +16,7 @@ module _ {A : Type 0} where
   IsSure desk given =
       (takes_memory_in desk.office (command_of given (ticket_of desk.next)) ≡ false) × (0 < desk.next) × (desk.next + 1 < 2 ^ 64)
 
-  -- where it gave no ticket it did nothing, and could find too little memory or had no ticket left; where it gave one it
+  -- if it gave no ticket it did nothing, and could find too little memory or had no ticket left; if it gave one it
   -- gave also the outcome that is awaited
   abbrev pub GivesTicket : LoneDesk A → Given A → LoneDesk A → Option Ticket → Type 0
   GivesTicket old given new None = (new ≡ old) × (given.outcome ≡ None) × ¬ IsSure old given

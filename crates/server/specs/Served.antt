@@ -31,7 +31,7 @@ module _ {A : Type 0} where
   users_after_all users [] = users
   users_after_all users (c ∷ cs) = users_after_all (users_after users c) cs
 
-  -- what is written is a whole session, where what it asks are commands under the tickets from this number on, which
+  -- what is written is a whole session, if what it asks are commands under the tickets from this number on, which
   -- the office answers
   pub record IsSessionOf (accounts : List Account) (stamp : Stamp) (first : ℕ) (users : List (User A)) (input written : List ℕ) : Type 0 where
     pub own : List (Command A)

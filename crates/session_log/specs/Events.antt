@@ -19,7 +19,7 @@ ending_word NoMemory = codes "no_memory"
 abbrev pub digit : ℕ → ℕ
 digit number = 48 + number % 10
 
--- a time in seconds, with three digits after the dot, behind a text
+-- a time in seconds, with three digits after the dot, after a text
 abbrev pub with_time : List ℕ → ℕ → List ℕ
 with_time text millis =
     text ++ codes "time=" ++ decimal (millis / 1000)

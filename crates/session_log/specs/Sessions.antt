@@ -49,7 +49,7 @@ is_message_in (line ∷ others) = announces_message line
 abbrev pub is_message : List ℕ → Bool
 is_message text = is_message_in (lines text)
 
--- what kind of reply begins with this, where the first text is the reply to a login that is refused
+-- what kind of reply begins with this, if the first text is the reply to a login that is refused
 abbrev pub reply_kind : List ℕ → List ℕ → ReplyKind
 reply_kind refusal text =
     if bytes_eq text refusal then reply.Refusal else if is_message text then reply.Message else reply.Other

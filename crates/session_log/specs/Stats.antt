@@ -35,7 +35,7 @@ after_delivery messages octets counts = record counts {
   octets_stored = added counts.octets_stored octets;
 }
 
--- a line behind a text
+-- a line after a text
 abbrev pub with_line : List ℕ → List ℕ → ℕ → List ℕ
 with_line text label number = text ++ label ++ decimal number ++ codes "\n"
 

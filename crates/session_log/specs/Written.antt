@@ -6,7 +6,7 @@ abbrev pub user_text : Option (List ℕ) → List ℕ
 user_text None = codes "-"
 user_text (Some user) = user
 
--- the line of a session behind a text: its number, its node, the address of its client, its user, its age and how much it
+-- the line of a session after a text: its number, its node, the address of its client, its user, its age and how much it
 -- was told
 abbrev pub with_session : List ℕ → ℕ → ℕ → List ℕ → Option (List ℕ) → ℕ → ℕ → List ℕ
 with_session text number node peer user seconds bytes =

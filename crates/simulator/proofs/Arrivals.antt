@@ -132,7 +132,7 @@ module _ {A : Type 0} where
   addressee_moves cfg w later None is = absurd is
   addressee_moves cfg w later (Some s) is = inr (Occurs (event.Crash s.envelope.to), is)
 
-  -- where an event found no memory
+  -- if an event found no memory
   pub interrupted_moves : (cfg : Config A) (e : Event A) (w later : Service A) → IsInterrupted cfg e w later → Moves cfg w later
   interrupted_moves cfg (event.Connect session node stamp) w later is = inl is
   interrupted_moves cfg (event.Line session line) w later (inl lost) = inr (Lost session, lost)

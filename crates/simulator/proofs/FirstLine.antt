@@ -15,7 +15,7 @@ pub record IsLast (bytes : List ℕ) : Type 0 where
   pub taken : take_through 10 bytes ≡ bytes
   pub dropped : drop_through 10 bytes ≡ []
 
--- a line stands before the first line feed, and something behind it
+-- a line stands before the first line feed, and something after it
 pub record IsFirst (bytes : List ℕ) : Type 0 where
   pub line : List ℕ
   pub rest : List ℕ

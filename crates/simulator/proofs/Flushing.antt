@@ -21,7 +21,7 @@ flushed_whole a b report later appended none = record { written = report; append
 pub flushed_nothing : (a : Option (List ℕ)) (report : List ℕ) → IsFlushed a a report report
 flushed_nothing a report = record { written = []; appended = appends_none a; all = refl }
 
--- some more of it, where something comes behind
+-- some more of it, if something comes after
 pub flushed_on : (a b c : Option (List ℕ)) (whole report later behind : List ℕ) → IsFlushed a b whole (report ++ behind) → IsFlushed b c report later → IsFlushed a c whole (later ++ behind)
 flushed_on a b c whole report later behind p q = record {
   written = p.written ++ q.written;

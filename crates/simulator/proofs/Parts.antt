@@ -55,7 +55,7 @@ module _ {bytes line line_now : List ℕ} {now next : Option (List ℕ)} {whole 
     more = more;
   }
 
-  -- a part without the line feed, with nothing behind it
+  -- a part without the line feed, with nothing after it
   pub ends_unended : (there : Bool) (later : Option (List ℕ)) → whole ≡ false → later ≡ Some part.rest → part.rest ≡ [] → there ≡ nat_lt 0 (length line_now) → IsRead bytes line_now later there
   unfolding goes_on
   ends_unended there later unended known none more =

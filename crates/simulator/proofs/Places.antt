@@ -41,7 +41,7 @@ module _ {X : Type 0} where
       go true lt here = let same : position_or_len test xs ≡ k = cc here in at_place test xs k same (subst (λ n. n < length xs) same (ltb-true (position_or_len test xs) (length xs) lt))
       go false lt here = absurd (cc here)
 
-  -- where none of the first ones passes
+  -- if none of the first ones passes
   behind_place : (test : X → Bool) (xs : List X) (from : ℕ) → from ≤ length xs → ((k : ℕ) (x : X) → k < from → slice_get xs k ≡ Some x → test x ≡ false)
       → position_or_len test xs ≡ from + position_or_len test (drop from xs)
   behind_place test xs zero le none = let n = position_or_len test xs in let same : n ≡ 0 + n = omega arith in same

@@ -91,7 +91,7 @@ module _ {A : Type 0} where
   }
 
   module _ {bytes : List ℕ} {run later : Run A} {contents contents_now : Option (List ℕ)} {report report_now : List ℕ} {now : Option (List ℕ)} {number : ℕ} (played : IsPlayed bytes 1 run contents report now number later contents_now report_now) where
-    -- behind the last line there is no fault, and all is reported
+    -- after the last line there is no fault, and all is reported
     pub ends : (line : List ℕ) (new : Option (List ℕ)) (there : Bool) → IsRead played.rest line new there → there ≡ false
         → (fault_from (lines bytes) 1 run.script ≡ None) × IsFlushed contents contents_now (report ++ left_of bytes run) report_now
     ends line new there read is =

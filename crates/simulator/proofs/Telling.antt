@@ -38,7 +38,7 @@ module _ {S : Type 0} where
   both_written t next between now first second third one two = ended (next between) (followed t next) now first second third two (further t next between first second one)
 
 module _ {A : Type 0} where
-  -- no message stands behind the last one
+  -- no message stands after the last one
   pub answers_alone : (w : Service A) (behind : ℕ) → behind ≡ length w.network.sent → next_oldest w behind ≡ next_answer w
   answers_alone w behind is =
       ap (λ sent. option_or (next_answer w) (option_map (λ k. event.Arrive (behind + k)) (position (may_arrive w 1) sent)))

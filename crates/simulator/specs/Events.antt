@@ -7,7 +7,7 @@ use Rattle.runs.specs.declared.event.Event.{Event}
 use Rattle.runs.specs.declared.event.Event.TheVariants as event
 
 module _ {A : Type 0} where
-  -- the event that a command names whole, where the greetings have this host
+  -- the event that a command names whole, if the greetings have this host
   abbrev pub event_of : List ℕ → Command → Option (Event A)
   event_of host (command.Mail node user key written) = Some (event.Mail node user (lines_of written) key)
   event_of host (command.Break node user) = Some (event.Break node user)

@@ -91,7 +91,7 @@ module _ (A : Type 0) where
   unfolding digits
   logs_in = refl
 
-  -- nothing comes of a line at fault, and of those behind it
+  -- nothing comes of a line at fault, and of those after it
   up_to_the_fault : output A (script_lines (codes "connect s1 1 n.1" ∷ codes "tick" ∷ codes "line s1 USER alice" ∷ [])) ≡ answers (codes "s1|+OK POP3 server ready <n.1@localhost>" ∷ [])
   unfolding digits
   up_to_the_fault = refl

@@ -120,7 +120,7 @@ module _ {A : Type 0} where
   order_by node p None = record { state = p; text = refusal_line Down }
   order_by node p (Some performed) = record { state = p; text = order_lines node performed }
 
-  -- what a node has performed is told, also of one that has crashed; where there is no such node, that it is down
+  -- what a node has performed is told, also of one that has crashed; if there is no such node, that it is down
   abbrev pub order : ℕ → Play A → Told (Play A)
   order node p = order_by node p (performed_at node p)
 
@@ -135,7 +135,7 @@ module _ {A : Type 0} where
   done host (command.Deliver from to kind) p = delivered p (record { from = from; to = to; kind = kind })
   done host command p = happened host command p
 
-  -- behind a command outcomes are told, and then sessions take their answers
+  -- after a command outcomes are told, and then sessions take their answers
   abbrev pub done_to_the_end : List ℕ → Command → Play A → Told (Play A)
   done_to_the_end host command p = followed (done host command p) (λ q. followed (outcomes q) all_collected)
 

@@ -16,7 +16,7 @@ pub record IsRead (bytes line : List ℕ) (now : Option (List ℕ)) (there : Boo
   pub rest : now ≡ Some (drop_through 10 bytes)
   pub more : there ≡ nat_lt 0 (length line)
 
--- what was read of the first line of the bytes, and what stands behind that; the line feed is among it, or it goes on
+-- what was read of the first line of the bytes, and what stands after that; the line feed is among it, or it goes on
 pub record IsPart (bytes part rest : List ℕ) (whole : Bool) : Type 0 where
   pub taken : take_through 10 bytes ≡ (if whole then part else part ++ take_through 10 rest)
   pub dropped : drop_through 10 bytes ≡ (if whole then rest else drop_through 10 rest)
@@ -66,12 +66,12 @@ module _ {A : Type 0} where
     pub same : fault_from (lines bytes) number run.script ≡ fault_from (lines rest) later run_now.script
     pub told : IsFlushed contents contents_now (report ++ left_of bytes run) (report_now ++ left_of rest run_now)
 
-  -- where this is the first line of bytes, it has no fault, and what comes of it is reported
+  -- if this is the first line of bytes, it has no fault, and what comes of it is reported
   pub record IsPlayedLine (line : List ℕ) (number : ℕ) (run : Run A) (report : List ℕ) (later : Run A) (report_now : List ℕ) : Type 0 where
     pub same : (bytes : List ℕ) → line ≡ take_through 10 bytes → 0 < length line → fault_from (lines bytes) number run.script ≡ fault_from (lines (drop_through 10 bytes)) (number + 1) later.script
     pub told : (bytes : List ℕ) → line ≡ take_through 10 bytes → 0 < length line → report ++ left_of bytes run ≡ report_now ++ left_of (drop_through 10 bytes) later
 
-  -- where this is the first line of bytes, the fault is in it, and nothing comes of it
+  -- if this is the first line of bytes, the fault is in it, and nothing comes of it
   pub record IsStopAt (line : List ℕ) (number : ℕ) (run : Run A) (report report_now : List ℕ) (fault : Fault) : Type 0 where
     pub here : (bytes : List ℕ) (told : ℕ) → line ≡ take_through 10 bytes → 0 < length line → fault ≡ Line told → fault_from (lines bytes) number run.script ≡ Some told
     pub told : (bytes : List ℕ) (told : ℕ) → line ≡ take_through 10 bytes → 0 < length line → fault ≡ Line told → report ++ left_of bytes run ≡ report_now

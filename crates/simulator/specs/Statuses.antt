@@ -24,7 +24,7 @@ fault_by rest number (Ok read) = rest read.1
 fault_by rest number (Err error) = Some number
 
 -- the number of the first of these lines that is none of the language or stands where it may not, where they stand from
--- this number on behind what is read
+-- this number on after what is read
 abbrev pub fault_from : List (List ℕ) → ℕ → Script → Option ℕ
 fault_from [] number script = None
 fault_from (line ∷ lines) number script = fault_by (fault_from lines (number + 1)) number (read_line script line)

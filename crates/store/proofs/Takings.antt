@@ -49,7 +49,7 @@ takes_next commands i c l m n p q r within here first next =
     ∙ map-append (λ (d : ℕ × Command Global). record { slot = d.0; command = d.1 }) (take i commands) (c ∷ []) in
     subst (λ (ds : List (Decided Global)). HaveTaken ds l p n r) (sym decided) (takes_more (decided_of (take i commands)) (decided_of (c ∷ [])) l m n p q r first next)
 
--- where records end no later than those before them, none was added
+-- if records end no later than those before them, none was added
 pub none_added : (a b : Addition) (payloads : List (List ℕ)) → b ≡ with_payloads a payloads → b.place ≤ a.place → b ≡ a
 none_added a b [] is within =
     is

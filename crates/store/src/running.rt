@@ -9,7 +9,7 @@ use crate::pending::Pending;
 use std::marker::Model;
 
 /// The file of a segment whose epoch runs. The bytes that are on the disk for good are its whole snapshot and whole entries.
-/// A write that failed, or one that was not synced, may leave more bytes behind them.
+/// A write that failed, or one that was not synced, may leave more bytes after them.
 #[derive(Drop)]
 pub(crate) struct Running<D: Device> {
     file: Growing<D>,

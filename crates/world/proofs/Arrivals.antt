@@ -22,7 +22,7 @@ module _ {A : Type 0} where
   arrival_set zero (x ∷ ss) s e = let same : x ≡ s = cc in ap (λ (y : Sent A). once_more y ∷ ss) (sym same)
   arrival_set (suc k) (x ∷ ss) s e = ap (λ xs. x ∷ xs) (arrival_set k ss s e)
 
-  -- more that is sent is behind it
+  -- more that is sent is after it
   pub arrival_more : (k : ℕ) (ss ts : List (Sent A)) (s : Sent A) → slice_get ss k ≡ Some s → with_arrival k (ss ++ ts) ≡ with_arrival k ss ++ ts
   arrival_more k [] ts s e = absurd (cc)
   arrival_more zero (x ∷ ss) ts s e = refl

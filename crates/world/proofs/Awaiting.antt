@@ -125,7 +125,7 @@ module _ {A : Type 0} where
   pub nothing_new : (w later : Service A) (session : ℕ) → later.clients ≡ w.clients → Awaits w session later
   nothing_new w later session same s id a = inl (same_clients w later s id same a)
 
-  -- where the client of one session is another
+  -- if the client of one session is another
   put_awaits : (w later : Service A) (session : ℕ) (d : Client A) → later.clients ≡ with_client session d w.clients → (s : ℕ) (id : CommandId) → IsAwaitedBy later s id
       → ((s ≡ session) × ((state : State A) × (d.standing ≡ Waits state id))) ⊎ IsAwaitedBy w s id
   put_awaits w later session d same s id a =
@@ -328,7 +328,7 @@ module _ {A : Type 0} where
   ready o Disconnected e = absurd (cc)
   ready o Over e = absurd (cc)
 
-  -- where a client is put in that awaits nothing, its session awaits nothing
+  -- if a client is put in that awaits nothing, its session awaits nothing
   put_quiet : (w later : Service A) (session : ℕ) (d : Client A) → later ≡ keeps w session d → IsQuiet d.standing → (id : CommandId) → IsAwaitedBy later session id → ⊥
   put_quiet w later session d same quiet id a =
       let its : client_of session (with_client session d w.clients) ≡ Some a.client = ap (λ (x : Service A). client_of session x.clients) (sym same) ∙ a.its in

@@ -1,4 +1,4 @@
--- What an event leaves to be heard, and that the index of sessions that await an answer is right again behind it.
+-- What an event leaves to be heard, and that the index of sessions that await an answer is right again after it.
 use Rattle.std.proofs.Common.{◌≡◌, ℕ, zero, suc, ◌<◌, List, [], ◌∷◌, ◌++◌, Bool, true, false, Option, Some, None, refl, sym, ap, ◌∙◌, subst, inl, inr, ⊎_elim, arith, length, drop, replicate, get_or}
 use Rattle.std.specs.Prelude.{◌⊎◌, ◌||◌, Result, Ok, Err, OnOk, OnErr, slice_get, is_some, not}
 use Rattle.std.specs.List.{list_any}
@@ -166,7 +166,7 @@ module _ {A : Type 0} where
           there = λ place e id log at apart waits log_at up some. still place e id log (was_there place e at apart) waits log_at up some;
         })
 
-  -- What holds behind an event, or a part of it
+  -- What holds after an event, or a part of it
 
   module _ (cfg : Config A) (hosts hosts2 : Hosts A) (es es2 : List (ℕ × Connection A)) (ops : List (CommandId × Bool)) (kept : IsKept cfg hosts es ops) (fit : AreFit es2) (e : Event A)
       (possible : refusal_of (service_of hosts es) e ≡ None) (stays : (n : ℕ) (id : CommandId) → (collected_by es e ≡ Some id → ⊥) → HasAnswerAt n id hosts → HasAnswerAt n id hosts2) where
@@ -178,7 +178,7 @@ module _ {A : Type 0} where
     acted_follows (Ok u) done failed = moved_follows cfg (service_of hosts es) (service_of hosts2 es2) (Occurs e) done
     acted_follows (Err error) done failed = cut_follows cfg (service_of hosts es) (service_of hosts2 es2) e failed
 
-  -- where only answers were taken
+  -- if only answers were taken
   pub taken_current : (hosts hosts2 : Hosts A) (es : List (ℕ × Connection A)) (w : Waiting) → network_of hosts2 ≡ network_of hosts → IsUpToDate hosts es w → IsUpToDate hosts2 es w
   taken_current hosts hosts2 es w same current =
       record {

@@ -53,7 +53,7 @@ module _ {A : Type 0} where
   step_crash later host Campaign stops was up = ap has_crashed stops ∙ sym was
   step_crash later host Crash stops was up = rw (up) (ap has_crashed stops)
 
-  -- where the step found no memory
+  -- if the step found no memory
   pub stopped_crash : (later : NodeValue A) (log : NodeLog A) (used : Bool) (stop : Stopped) → later ≡ record { log = log; stopped = Some stop; awaited = [] } → CanStop used stop → (host_of later false).crashed ≡ false
   stopped_crash later log used Crashed is can = absurd can
   stopped_crash later log used Memory is can = ap (λ (x : NodeValue A). has_crashed x.stopped) is
@@ -85,7 +85,7 @@ module _ {A : Type 0} where
   crashes_set (x ∷ hosts) zero h = refl
   crashes_set (x ∷ hosts) (suc k) h = ap (λ cs. x.crashed ∷ cs) (crashes_set hosts k h)
 
-  -- where a node is another that is crashed if that was
+  -- if a node is another that is crashed if that was
   pub same_crashes : (w : Hosts A) (place : ℕ) (h later : Host A) (sent : List (Sent A)) → slice_get w.hosts place ≡ Some h → later.crashed ≡ h.crashed → crashes_of (record { hosts = set w.hosts place later; sent = sent }) ≡ crashes_of w
   same_crashes w place h later sent found same =
       crashes_set w.hosts place later ∙ ap (set (crashes_of w) place) same ∙ set_same (crashes_of w) place h.crashed (crash_at w place h found)

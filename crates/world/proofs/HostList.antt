@@ -127,11 +127,11 @@ module _ {A : Type 0} where
         | inr q ↦ has x q
       ]
 
-  -- where node n answers as the log says
+  -- if node n answers as the log says
   pub answer_found : (w : Hosts A) (n place : ℕ) (h : Host A) → place + 1 ≡ n → slice_get w.hosts place ≡ Some h → (id : CommandId) → HasAnswerAt n id w → HasAnswer id h
   answer_found w n place h e found id has = has h (host_at_place w.hosts place n e ∙ found)
 
-  -- the logs, where a node is another whose log is the same
+  -- the logs, if a node is another whose log is the same
   pub same_logs : (w : Hosts A) (place : ℕ) (h later : Host A) → slice_get w.hosts place ≡ Some h → later.log ≡ h.log
       → network_of (record { hosts = set w.hosts place later; sent = w.sent }) ≡ network_of w
   same_logs w place h later found same =

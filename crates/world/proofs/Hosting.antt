@@ -85,14 +85,14 @@ module _ {A : Type 0} where
   pub step_log : (node later : NodeValue A) (host : Host A) (i : Input A) → node.log ≡ host.log → later.log ≡ logged node.log i → later.stopped ≡ stops_after i → (host_of later false).log ≡ logged host.log i
   step_log node later host i same log stops = rw (stops) (known_after later.log i) ∙ log ∙ ap (λ (l : NodeLog A). logged l i) same
 
-  -- where there was no memory for the input, or for what it sent
+  -- if there was no memory for the input, or for what it sent
   pub cut_log : (node later : NodeValue A) (host : Host A) (i : Input A) → node.log ≡ host.log → later.log ≡ logged node.log i → (host_of later true).log ≡ logged host.log Crash
   cut_log node later host i same log =
       ap crashed_instead log
       ∙ ap (λ (is : List (Input A)). logged (record { opening = node.log.opening; inputs = is }) Crash) (without_last-push node.log.inputs i)
       ∙ ap (λ (l : NodeLog A). logged l Crash) same
 
-  -- where the step found no memory
+  -- if the step found no memory
   pub stopped_log : (node later : NodeValue A) (host : Host A) (used : Bool) (stop : Stopped) → node.log ≡ host.log → later ≡ record { log = node.log; stopped = Some stop; awaited = [] } → CanStop used stop
       → (host_of later false).log ≡ logged host.log Crash
   stopped_log node later host used Crashed same is can = absurd can

@@ -64,7 +64,7 @@ differ a b apart = sym (ids_eq a b) ∙ other_id a b apart
 found_same : {X : Type 0} (a b : CommandId) (es : List (CommandId × X)) → a ≡ b → lookup (same_id a) es ≡ lookup (same_id b) es
 found_same a b es e = ap (λ (i : CommandId). lookup (same_id i) es) e
 
--- a new entry behind others
+-- a new entry after others
 pub found_last : (id other : CommandId) (x : Bool) (es : List (CommandId × Bool)) (y : Bool) → lookup (same_id other) (es ++ (id, x) ∷ []) ≡ Some y
     → (lookup (same_id other) es ≡ Some y) ⊎ ((other ≡ id) × (x ≡ y))
 found_last id other x [] y e =

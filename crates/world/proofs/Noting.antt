@@ -45,7 +45,7 @@ below_or k from =
     go true q = inl (ltb-true k from q)
     go false q = inr (ltb-false k from q)
 
--- where a list has what passes
+-- if a list has what passes
 at_position : {X : Type 0} (test : X → Bool) (xs : List X) (k : ℕ) → position test xs ≡ Some k → position_or_len test xs ≡ k
 at_position test xs k e =
     go (nat_lt (position_or_len test xs) (length xs)) e
@@ -134,7 +134,7 @@ module _ {A : Type 0} where
       go Over e true = refl
       go Over e false = refl
 
-  -- a session that awaits an answer which isn't there, where its node is up
+  -- a session that awaits an answer which isn't there, if its node is up
   waits_unanswered : (hosts : Hosts A) (es : List (ℕ × Connection A)) (c : Connection A) (id : CommandId) → awaited_by c.standing ≡ Some id
       → ((log : NodeLog A) → log_of c.node (network_of hosts).logs ≡ Some log → is_up (Some log) ≡ true → is_some (answered log id) ≡ true → ⊥) → has_its_answer hosts es c ≡ false
   waits_unanswered hosts es c id waits none =

@@ -133,7 +133,7 @@ module _ {A : Type 0} where
           ∙ with_same session (shown new.logs (client_in c)) (clients_in new.logs es) (client_shown new.logs session es ∙ ap (option_map (λ x. shown new.logs (client_in x))) found))
           ∙ nodes_crash cfg c.node h.0
 
-      -- what is done where the client's node is up
+      -- what is done if the client's node is up
       shown_node : (t : Bool) (x : Client A) → (cond t x (standing_as x (disconnected x.standing))).node ≡ x.node
       shown_node true x = refl
       shown_node false x = refl

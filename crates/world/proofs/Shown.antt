@@ -110,7 +110,7 @@ module _ {A : Type 0} where
   abbrev without_by : Bool → Client A → Client A
   without_by its c = if its then standing_as c (disconnected c.standing) else c
 
-  -- a client shown by whether its node is up, where that is the node that crashes
+  -- a client shown by whether its node is up, if that is the node that crashes
   crash_one : (logs : List (NodeLog A)) (n : ℕ) (log : NodeLog A) → log_of n logs ≡ Some log → is_up (Some log) ≡ true → (c : Client A)
       → shown_by (is_up (cond (eqb c.node n) (Some (logged log Crash)) (log_of c.node logs))) c ≡ without_by (eqb c.node n) (shown logs c)
   crash_one logs n log e up c =

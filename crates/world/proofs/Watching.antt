@@ -21,7 +21,7 @@ same_id id other tied = (id_decides id other).0 (sym (ids_eq id other) ∙ tied)
 abbrev pub its_place : CommandId → Waiting → Option ℕ
 its_place id w = lookup (is_at (compare_ids id)) w.commands
 
--- what the entry of one command becomes, where whoever awaited it may have its answer then
+-- what the entry of one command becomes, if whoever awaited it may have its answer then
 pub put_watches : (but : ℕ → Type 0) (w later : Waiting) (id : CommandId) (o : Option ℕ)
     → ((other : CommandId) → its_place other later ≡ cond (is_eq (compare_ids id other)) o (its_place other w))
     → ((place : ℕ) → (but place → ⊥) → its_place id w ≡ Some place → MayHave later place)

@@ -42,7 +42,7 @@ module _ {A : Type 0} where
   known_log (Some Memory) log = logged log Crash
   known_log (Some TicketsUsed) log = logged log Crash
 
-  -- and in place of the last input, where there was no memory for that or for its messages
+  -- and in place of the last input, if there was no memory for that or for its messages
   abbrev pub crashed_instead : NodeLog A → NodeLog A
   crashed_instead log = logged (record { opening = log.opening; inputs = without_last log.inputs }) Crash
 
@@ -77,7 +77,7 @@ module _ {A : Type 0} where
   abbrev pub crashes_of : Hosts A → List Bool
   crashes_of w = map (λ h. h.crashed) w.hosts
 
-  -- what an input makes of a log, and what it sends behind these messages, where the node is up
+  -- what an input makes of a log, and what it sends after these messages, if the node is up
   abbrev pub log_after : NodeLog A → Input A → NodeLog A
   log_after log i = if is_up (Some log) then logged log i else log
 
@@ -94,7 +94,7 @@ module _ {A : Type 0} where
   crashes_after Crash n w = if is_up (log_of n (network_of w).logs) then set (crashes_of w) (n - 1) true else crashes_of w
   crashes_after _ n w = crashes_of w
 
-  -- the ticket that the node gives at an input, where it is up
+  -- the ticket that the node gives at an input, if it is up
   abbrev pub ticket_at : Option (NodeLog A) → Input A → Option Ticket
   ticket_at None i = None
   ticket_at (Some log) i = if is_up (Some log) then ticket_of log i else None

@@ -60,7 +60,7 @@ pub record Sessions (A : Type 0) : Type 0 where
   pub waiting : Waiting
 
 module _ {A : Type 0} where
-  -- where the session stands; behind all where it isn't there
+  -- where the session stands; after all if it isn't there
   abbrev pub place_of : ℕ → List (ℕ × Connection A) → ℕ
   place_of session entries = position_or_len (λ s. session == s) (keys_of entries)
 
@@ -89,7 +89,7 @@ module _ {A : Type 0} where
     pub heard : slice_get w.heard node ≡ Some count
     pub among : has_identity mail_rules id (drop count (replayed log).replica.performed) ≡ true
 
-  -- each session but some is watched, and where its answer is there that may be, or its command is still unheard
+  -- each session but some is watched, and if its answer is there that may be, or its command is still unheard
   pub record IsBehind (but : ℕ → Type 0) (hosts : Hosts A) (entries : List (ℕ × Connection A)) (w : Waiting) : Type 0 where
     pub nodes : length w.heard ≡ length (network_of hosts).logs
     pub watched : (place : ℕ) (e : ℕ × Connection A) (id : CommandId) → slice_get entries place ≡ Some e → (but place → ⊥) → awaited_by e.1.standing ≡ Some id → IsWatched w place id
@@ -100,7 +100,7 @@ module _ {A : Type 0} where
   abbrev pub IsHeard : Hosts A → Waiting → ℕ → Type 0
   IsHeard hosts w node = (log : NodeLog A) → slice_get (network_of hosts).logs node ≡ Some log → is_up (Some log) ≡ true → slice_get w.heard node ≡ Some (length (replayed log).replica.performed)
 
-  -- each session that awaits an answer is watched, and where that is there, it may be; all that nodes have performed was heard
+  -- each session that awaits an answer is watched, and if that is there, it may be; all that nodes have performed was heard
   pub record IsUpToDate (hosts : Hosts A) (entries : List (ℕ × Connection A)) (w : Waiting) : Type 0 where
     pub nodes : length w.heard ≡ length (network_of hosts).logs
     pub watched : (place : ℕ) (e : ℕ × Connection A) (id : CommandId) → slice_get entries place ≡ Some e → awaited_by e.1.standing ≡ Some id → IsWatched w place id

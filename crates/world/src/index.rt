@@ -24,7 +24,7 @@ fn reach(place: usize) -> usize
     place & !(place + 1)
 }
 
-/// The first place behind the block of this one.
+/// The first place after the block of this one.
 pub(crate) fn block_end(place: usize) -> usize
     requires { place < 2 ^ 63 }
     ensures { result ≡ place + reach place + 1 }

@@ -1,4 +1,4 @@
-//! What comes next in a service where nobody says what does: an answer that is there is taken, or else a message arrives.
+//! What comes next in a service if nobody says what does: an answer that is there is taken, or else a message arrives.
 ghost use Rattle.std.specs.Prelude.{◌≡◌, ℕ, List, Some, None, true, false, slice_get, IfSome, IfNone};
 ghost use Rattle.maildrop.specs.CommandId.{CommandId};
 ghost use Rattle.world.specs.Connections.{service_of, connection_of, awaited_by, AreUntaken};

@@ -26,7 +26,7 @@ impl<A: Allocator> Model for SentMessages<A> {
     ghost view = { λ m. m.sent.items };
 }
 
-/// Adds messages that haven't arrived. After `Memory` some of them may stand behind the others.
+/// Adds messages that haven't arrived. After `Memory` some of them may stand after the others.
 fn add<A: Allocator + Copy>(
     sent: &mut Vec<Sent<A>, A>,
     envelopes: Envelopes<A>,
@@ -43,7 +43,7 @@ fn add<A: Allocator + Copy>(
     Ok(())
 }
 
-/// What arrives if the message does once more. `Memory` too where it has arrived as often as can be counted.
+/// What arrives if the message does once more. `Memory` too if it has arrived as often as can be counted.
 pub(crate) fn arriving<A: Allocator + Copy>(
     message: &Sent<A>,
 ) -> Result<Envelope<SharedCommand<A>, A>, Memory>
@@ -73,7 +73,7 @@ impl<A: Allocator + Copy> SentMessages<A> {
         &self.sent
     }
 
-    /// These are sent, behind the others. After `Memory` nothing has changed.
+    /// These are sent, after the others. After `Memory` nothing has changed.
     pub(crate) fn add_all(&mut self, envelopes: Envelopes<A>) -> Result<(), Memory>
         ensures ok { OnOk result (self.new ≡ self.old ++ newly_sent envelopes) }
         ensures err { OnErr result (self.new ≡ self.old) }

@@ -47,7 +47,7 @@ fn first_from<A: Allocator>(places: &BTreeSet<usize, A>, from: usize) -> Option<
     }
 }
 
-/// What was performed behind so many commands.
+/// What was performed after so many commands.
 fn behind<A: Allocator>(
     performed: &[(Slot, SharedCommand<A>)],
     count: usize,

@@ -25,7 +25,7 @@ pub struct Runs<A: Allocator = Global> {
 /// A service that begins so takes these events, one after another. The first that is refused is the answer, else what the
 /// run has brought. What each session was told is a prefix of what a POP3 server says that has the session's user's maildrop
 /// alone. What each node has performed is how the one decided order begins, and each command of that order was submitted.
-/// `Memory` is the answer too where there is none for a node, a session or the result.
+/// `Memory` is the answer too if there is none for a node, a session or the result.
 pub fn run<A: Allocator + Copy>(
     alloc: A,
     config: Config<A>,
@@ -111,7 +111,7 @@ impl<A: Allocator + Copy> World<A> {
         Ok(replies)
     }
 
-    /// What each node has performed, in the order of the nodes' numbers. `Memory` too where a node has stopped for want of it.
+    /// What each node has performed, in the order of the nodes' numbers. `Memory` too if a node has stopped for want of it.
     fn all_performed(
         &self,
         alloc: A,

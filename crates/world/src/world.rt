@@ -105,9 +105,9 @@ impl<A: Allocator + Copy> World<A> {
         Ok(())
     }
 
-    /// The bytes of all replies that a session got, its greeting first; None where no such session has connected. They
+    /// The bytes of all replies that a session got, its greeting first; None if no such session has connected. They
     /// are a prefix of what a POP3 server says that has the session's user's maildrop alone: to the session's greeting and
-    /// lines, where it performs the user's decided commands in order, each once.
+    /// lines, if it performs the user's decided commands in order, each once.
     pub fn replies(&self, session: SessionId) -> Option<&[u8]>
         ensures value { option_copied result ≡ option_map (λ c. c.replies) (client_of session self.now.world.service.clients) }
         ensures projected { (c : Client A) → client_of session self.now.world.service.clients ≡ Some c → IsProjected self.now.world.config self.now.world.service c }
