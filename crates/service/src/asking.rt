@@ -55,7 +55,7 @@ pub(crate) fn ask<R: Wait, N: ServedNode>(
 
 /// Waits for the outcome of an operation that was submitted, for as long as the node is up and the client of the connection is
 /// there.
-pub(crate) fn await_outcome<R: Wait, N: ServedNode>(
+fn await_outcome<R: Wait, N: ServedNode>(
     rt: &R,
     node: &N,
     stream: &OperatorStream,
@@ -71,6 +71,32 @@ pub(crate) fn await_outcome<R: Wait, N: ServedNode>(
         }
         if absence.look(stream) {
             node.forget(user, ticket);
+            return Err(Unanswered::Gone);
+        }
+    }
+    unreachable!()
+}
+
+/// Waits until the first of these operations has an outcome, and takes that and those after it that are there. They were
+/// submitted in this order, and `room` has room for one of each. Gives up if the node has stopped or the client has gone. The
+/// caller forgets the operations without an outcome.
+pub(crate) fn await_outcomes<R: Wait, N: ServedNode>(
+    rt: &R,
+    node: &N,
+    stream: &OperatorStream,
+    user: Name,
+    tickets: &[Ticket],
+    room: Vec<Outcome>,
+) -> Result<Vec<Outcome>, Unanswered> {
+    let mut absence = Absence::new();
+    let mut room = room;
+    for _ in rt.forever() {
+        match node.outcomes_within(user, tickets, Duration::from_millis(LOOK_MS), room) {
+            Ok(outcomes) if outcomes.is_empty() => room = outcomes,
+            Ok(outcomes) => return Ok(outcomes),
+            Err(_) => return Err(Unanswered::Stopped),
+        }
+        if absence.look(stream) {
             return Err(Unanswered::Gone);
         }
     }

@@ -4,7 +4,7 @@ ghost use Rattle.std.specs.Str.Lines.{lines};
 ghost use Rattle.service.specs.Keys.{key_at};
 ghost use Rattle.service.specs.Deliveries as spec;
 
-use crate::asking::{Unanswered, await_outcome};
+use crate::asking::{Unanswered, await_outcomes};
 use crate::served_node::{OperatorOp, ServedNode};
 use ballot::Memory;
 use maildrop::{Key, Name, Outcome, Text, TextBuilder, Ticket, next_line};
@@ -211,23 +211,56 @@ impl<R: Wait + Drop, N: ServedNode + Drop> Delivery<'_, R, N> {
         Ok(false)
     }
 
-    /// Waits for the outcome of the text that was submitted first, if there is one, and reports it. Returns whether the node
-    /// still runs: if it has stopped, `down` is reported.
+    /// The tickets of texts that were submitted, in the same order.
+    fn tickets_of(&self, submitted: &VecDeque<Submitted>) -> Result<Vec<Ticket>, Memory> {
+        let mut tickets = Vec::with_capacity(self.alloc, submitted.len())?;
+        for one in submitted {
+            tickets.push(one.ticket)?;
+        }
+        Ok(tickets)
+    }
+
+    /// Removes the texts that were submitted first, one for each of these outcomes, and writes a line about each. After `Memory`
+    /// the first lines are there, and all these texts are removed: their outcomes can't be taken again.
+    fn note_all(
+        &self,
+        outcomes: Vec<Outcome>,
+        submitted: &mut VecDeque<Submitted>,
+        delivered: &mut Delivered,
+        lines: &mut Vec<u8>,
+    ) -> Result<(), Memory> {
+        let mut written = Ok(());
+        for outcome in outcomes {
+            let Some(Submitted { ticket, octets }) = submitted.pop_front() else {
+                break;
+            };
+            delivered.note(&outcome, octets);
+            if written.is_ok() {
+                written = put_outcome(lines, &self.user, ticket, &outcome);
+            }
+        }
+        written
+    }
+
+    /// Waits for the outcome of the text that was submitted first, if there is one, and reports it, and those after it that are
+    /// there by then. Returns whether the node still runs: if it has stopped, `down` is reported.
     fn conclude(
         &self,
         submitted: &mut VecDeque<Submitted>,
         delivered: &mut Delivered,
     ) -> Result<bool, Fault> {
-        let Some(Submitted { ticket, octets }) = submitted.pop_front() else {
+        if submitted.is_empty() {
             return Ok(true);
-        };
-        match await_outcome(&self.rt, self.node, self.stream, self.user, ticket) {
-            Ok(outcome) => {
-                delivered.note(&outcome, octets);
+        }
+        let tickets = self.tickets_of(submitted)?;
+        let room = Vec::with_capacity(self.alloc, tickets.len())?;
+        match await_outcomes(&self.rt, self.node, self.stream, self.user, &tickets, room) {
+            Ok(outcomes) => {
                 let mut writer = self.stream;
-                let mut line = Vec::new(self.alloc);
-                put_outcome(&mut line, &self.user, ticket, &outcome)?;
-                say(&mut writer, line.as_slice())?;
+                let mut lines = Vec::new(self.alloc);
+                let noted = self.note_all(outcomes, submitted, delivered, &mut lines);
+                say(&mut writer, lines.as_slice())?;
+                noted?;
                 Ok(true)
             }
             Err(Unanswered::Stopped) => self.report_down(),
@@ -235,8 +268,8 @@ impl<R: Wait + Drop, N: ServedNode + Drop> Delivery<'_, R, N> {
         }
     }
 
-    /// Submits texts in order, as many at a time as the node takes, and reports each outcome as soon as it is there.
-    /// Returns whether the node still runs.
+    /// Submits texts in order, as many at a time as the node takes, and reports their outcomes. Returns whether the node still
+    /// runs.
     fn deliver_each(
         &self,
         texts: Vec<Text>,
@@ -260,11 +293,31 @@ impl<R: Wait + Drop, N: ServedNode + Drop> Delivery<'_, R, N> {
         Ok(true)
     }
 
-    /// Nobody awaits the outcomes of these texts any more.
-    fn forget_all(&self, submitted: VecDeque<Submitted>) {
+    /// Submits a text, and reports its outcome. Returns whether the node still runs.
+    fn deliver_text(
+        &self,
+        text: Text,
+        key: Option<Key>,
+        submitted: &mut VecDeque<Submitted>,
+        delivered: &mut Delivered,
+    ) -> Result<bool, Fault> {
+        Ok(self.submit(text, key, submitted)? && self.conclude(submitted, delivered)?)
+    }
+
+    /// Nobody awaits the outcomes of these texts any more. Reports the end of the answer if the node still runs.
+    fn finish(
+        &self,
+        submitted: VecDeque<Submitted>,
+        runs: Result<bool, Fault>,
+    ) -> Result<(), Fault> {
         for Submitted { ticket, octets: _ } in submitted {
             self.node.forget(self.user, ticket);
         }
+        if runs? {
+            let mut writer = self.stream;
+            return say(&mut writer, b"end\n");
+        }
+        Ok(())
     }
 
     /// Has the texts delivered in order. The key of each, if there are keys, is the prefix with the number of the text after
@@ -276,13 +329,8 @@ impl<R: Wait + Drop, N: ServedNode + Drop> Delivery<'_, R, N> {
         delivered: &mut Delivered,
     ) -> Result<(), Fault> {
         let mut submitted = VecDeque::new(self.alloc);
-        let told = self.deliver_each(texts, prefix, &mut submitted, delivered);
-        self.forget_all(submitted);
-        if told? {
-            let mut writer = self.stream;
-            return say(&mut writer, b"end\n");
-        }
-        Ok(())
+        let runs = self.deliver_each(texts, prefix, &mut submitted, delivered);
+        self.finish(submitted, runs)
     }
 
     /// Has one text delivered.
@@ -293,10 +341,7 @@ impl<R: Wait + Drop, N: ServedNode + Drop> Delivery<'_, R, N> {
         delivered: &mut Delivered,
     ) -> Result<(), Fault> {
         let mut submitted = VecDeque::new(self.alloc);
-        if self.submit(text, key, &mut submitted)? && self.conclude(&mut submitted, delivered)? {
-            let mut writer = self.stream;
-            return say(&mut writer, b"end\n");
-        }
-        Ok(())
+        let runs = self.deliver_text(text, key, &mut submitted, delivered);
+        self.finish(submitted, runs)
     }
 }

@@ -64,7 +64,7 @@ pub trait ServedNode {
     fn usage(&self) -> Result<Vec<(Name, Usage)>, Memory>;
 
     /// Submits an operation. Returns its ticket, or nothing if the node has stopped. The outcome is kept until
-    /// `outcome_within` takes it or `forget` lets it go.
+    /// `outcome_within` or `outcomes_within` takes it, or `forget` lets it go.
     fn submit(&self, user: Name, op: OperatorOp) -> Option<Ticket>;
 
     /// The outcome of an operation that was submitted here, which may be awaited at most this long, and once it is there for as
@@ -76,6 +76,18 @@ pub trait ServedNode {
         ticket: Ticket,
         time: Duration,
     ) -> Result<Option<Outcome>, DeskStopped>;
+
+    /// The outcomes of the first of these operations, which were submitted here in this order: as many as are there and the
+    /// vector `room` has room for. Only the first is awaited, at most this long. What outlives the process is written once for
+    /// all of them. An error if the node has stopped before the first was there, or a write has failed: then those that were
+    /// taken are gone.
+    fn outcomes_within(
+        &self,
+        user: Name,
+        tickets: &[Ticket],
+        time: Duration,
+        room: Vec<Outcome>,
+    ) -> Result<Vec<Outcome>, DeskStopped>;
 
     /// Nobody awaits the outcome of an operation any more.
     fn forget(&self, user: Name, ticket: Ticket);

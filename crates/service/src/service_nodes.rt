@@ -388,6 +388,36 @@ impl<D: Service, R: Wait + Clock + Copy, L: Link> ServedNode for ServiceDesk<D, 
         })
     }
 
+    fn outcomes_within(
+        &self,
+        user: Name,
+        tickets: &[Ticket],
+        time: Duration,
+        room: Vec<Outcome>,
+    ) -> Result<Vec<Outcome>, DeskStopped> {
+        let (mut outcomes, mut time) = (room, time);
+        for ticket in tickets {
+            if outcomes.len() == outcomes.capacity() {
+                break;
+            }
+            match self.desk.outcome_within(user, *ticket, time) {
+                Ok(Some(outcome)) => outcomes.push_reserved(outcome),
+                Ok(None) => break,
+                Err(stopped) if outcomes.is_empty() => return Err(stopped),
+                // Those before it were there. The next call reports that the node has stopped.
+                Err(_) => break,
+            }
+            time = Duration::ZERO;
+        }
+        if outcomes.is_empty() || self.journal.settle(&self.rt, &self.desk) {
+            return Ok(outcomes);
+        }
+        let _was_up = self.desk.crash();
+        Err(DeskStopped {
+            ticket: tickets.first().copied(),
+        })
+    }
+
     fn forget(&self, user: Name, ticket: Ticket) {
         self.desk.forget(user, ticket);
     }
