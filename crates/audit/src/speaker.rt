@@ -147,7 +147,7 @@ impl<A: Allocator + Copy> Speaker<A> {
         Ok(())
     }
 
-    /// Goes on as far as it ever does, if no node is told, or the one that is told is its own.
+    /// Goes on as far as it ever does if no node is given, or if the given one is the session's own.
     pub(crate) fn go_on_at(
         &mut self,
         node: Option<usize>,
