@@ -4,4 +4,5 @@ pub mod Tickets
 pub mod AsLogged
 pub mod Bests
 pub mod Zips
+pub mod Forked
 pub mod Jobs

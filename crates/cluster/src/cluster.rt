@@ -1,6 +1,6 @@
 //! A cluster of nodes, each with a thread of its own.
 ghost use Rattle.std.specs.Prelude.{◌≡◌, ◌≤◌, [], ◌∷◌, ◌++◌, false, None, Ok, Err, is_some, map, IsTrue, IfOk, OnOk, IfSome, length, vec_len, vec_capacity};
-ghost use Rattle.std.specs.List.{All};
+ghost use Rattle.std.specs.List.{All, AllZip};
 ghost use Rattle.ballot.specs.Nodes.{is_among};
 ghost use Rattle.maildrop.specs.Name.{are_different};
 ghost use Rattle.node.specs.Nodes.{opened};
@@ -111,6 +111,29 @@ fn new_node<D: Deployment, L: Link + Drop>(
 {
     let member = new_member(alloc, setup, me)?;
     Ok(NodeHandle::new(alloc, me, member, link)?)
+}
+
+/// The nodes of these links, as they begin, each with its link. They are opened side by side, each on a thread of its own if
+/// the system has one: to open a node takes time in proportion to the messages and keys that are kept.
+fn open_all<
+    D: Deployment + Send + Sync + 'static,
+    R: Threads + Sync,
+    L: Link + Drop + Send + Sync + 'static,
+>(
+    rt: &R,
+    alloc: Global,
+    setup: &Setup,
+    links: Vec<(NodeId, L)>,
+) -> Result<Vec<Result<NodeHandle<D, L>, StartError>>, StartError>
+    requires deployment { setup.now ≡ D.setup }
+    requires names { IsTrue (are_different setup.now.names) }
+    ensures { IfOk result (λ nodes. AllZip (λ link node. IfOk node (λ node. node ≡ link.0)) links.items nodes.items) }
+{
+    let open = |(me, link): (NodeId, L)| -> Result<NodeHandle<D, L>, StartError>
+        requires { (setup.now ≡ D.setup) × IsTrue (are_different setup.now.names) }
+        ensures { IfOk result (λ node. node ≡ me) }
+    { new_node(alloc, setup, me, link) };
+    Ok(thread::map_vec(rt, links, &open)?)
 }
 
 /// Opens an inbox for a node, and starts the thread that hears what comes there.
@@ -234,17 +257,15 @@ impl<
             ended: Vec::new(alloc),
             logs: Vec::new(alloc),
         };
-        for (me, link) in links {
-            cluster.start_node(setup, me, link)?;
+        for node in open_all(&rt, alloc, setup, links)? {
+            cluster.start_node(node?)?;
         }
         Ok(cluster)
     }
 
     /// Starts a node, which isn't here yet. Nothing comes to its inbox before the cluster has started.
-    fn start_node(&mut self, setup: &Setup, me: NodeId, link: L) -> Result<(), StartError>
-        requires deployment { setup.now ≡ D.setup }
-        requires names { IsTrue (are_different setup.now.names) }
-        ensures { OnOk result (self.new ≡ self.old ++ me ∷ []) }
+    fn start_node(&mut self, node: NodeHandle<D, L>) -> Result<(), StartError>
+        ensures { OnOk result (self.new ≡ self.old ++ node ∷ []) }
     {
         let count = self.nodes.len() + 1;
         self.retired.reserve(count)?;
@@ -252,7 +273,6 @@ impl<
         self.logs.reserve(count)?;
         self.threads.reserve(1)?;
         self.nodes.reserve(1)?;
-        let node = new_node(self.alloc, setup, me, link)?;
         self.threads
             .push_reserved(start_thread(self.rt, self.alloc, &self.hub, &node)?);
         self.nodes.push_reserved(node);
