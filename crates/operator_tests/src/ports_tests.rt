@@ -65,7 +65,8 @@ fn a_service_without_a_majority_goes_on_with_all_nodes(rt: HostRuntime) -> Resul
     Ok(())
 }
 
-/// After `stop` no POP3 client comes any more, and the operator's port answers until the last session has ended.
+/// After `stop` POP3 clients are refused, and the operator's port answers until the last session ends. No epoch begins, so `roll`
+/// is answered at once.
 const STOPPED: Scene = Scene {
     accounts: ACCOUNTS,
     mailbox: "",
@@ -75,6 +76,7 @@ const STOPPED: Scene = Scene {
         Refused(1),
         Refused(3),
         Shows("node 1 up "),
+        Ctl("roll", 3, "down\n"),
         Ctl("stop", 0, "stopping\n"),
         Says(0, "QUIT\r\n", "+OK signing off\r\n"),
         Ends(0),

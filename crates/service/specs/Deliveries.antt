@@ -1,8 +1,10 @@
 -- What becomes of the messages of a delivery.
-use Rattle.std.specs.Prelude.{ℕ, ◌+◌, ◌-◌, ◌^◌, min}
+use Rattle.std.specs.Prelude.{ℕ, ◌+◌, ◌-◌, ◌^◌, min, List, [], ◌∷◌, ◌++◌}
 use Rattle.maildrop.specs.declared.outcome.Outcome.{Outcome}
 use Rattle.maildrop.specs.declared.outcome.Outcome.TheVariants.{Stored}
+use Rattle.script.specs.Output.{outcome_line}
 use Rattle.service.specs.declared.delivery.Delivered.{Delivered}
+use Rattle.service.specs.declared.delivery.Submitted.{Submitted}
 
 abbrev pub none_delivered : Delivered
 none_delivered = record { stored = 0; octets = 0; refused = 0 }
@@ -17,3 +19,15 @@ delivered_with octets (Stored uid) delivered =
     record { stored = plus delivered.stored 1; octets = plus delivered.octets octets; refused = delivered.refused }
 delivered_with octets outcome delivered =
     record { stored = delivered.stored; octets = delivered.octets; refused = plus delivered.refused 1 }
+
+-- what is delivered after these outcomes, each of the text at the same place; the shorter list ends both
+abbrev pub delivered_after : {A : Type 0} → List (Outcome A) → List Submitted → Delivered → Delivered
+delivered_after [] texts delivered = delivered
+delivered_after (outcome ∷ outcomes) [] delivered = delivered
+delivered_after (outcome ∷ outcomes) (text ∷ texts) delivered = delivered_after outcomes texts (delivered_with text.octets outcome delivered)
+
+-- the lines about these outcomes, each of the text at the same place; the shorter list ends both
+abbrev pub outcome_lines : {A : Type 0} → List ℕ → List (Outcome A) → List Submitted → List ℕ
+outcome_lines user [] texts = []
+outcome_lines user (outcome ∷ outcomes) [] = []
+outcome_lines user (outcome ∷ outcomes) (text ∷ texts) = outcome_line user text.ticket outcome ++ outcome_lines user outcomes texts

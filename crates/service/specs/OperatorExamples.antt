@@ -1,6 +1,9 @@
 -- Worked examples of answers to operators, and of which locks are broken.
-use Rattle.std.specs.Prelude.{◌≡◌, refl, [], ◌∷◌, true, false, codes, None, Some}
+use Rattle.std.specs.Prelude.{◌≡◌, refl, List, [], ◌∷◌, true, false, codes, None, Some}
 use Rattle.std.specs.Fmt.{digits}
+use Rattle.maildrop.specs.declared.outcome.Outcome.TheVariants as outcome
+use Rattle.service.specs.Deliveries.{delivered_after, none_delivered, outcome_lines}
+use Rattle.service.specs.declared.delivery.Submitted.{Submitted}
 use Rattle.service.specs.Locks.{may_try, locks_of_down}
 use Rattle.service.specs.Maildrops.{lock_lines, user_lines}
 use Rattle.service.specs.Standings.{standing_line}
@@ -39,3 +42,17 @@ down = refl
 up : standing_line 1 (Some (record { up = true; active = true; slot_out = 12; waiting = false })) ≡ codes "node 1 up active slot 12\n"
 unfolding digits
 up = refl
+
+-- three texts of a file, of 4, 900 and 4 octets
+abbrev texts : List Submitted
+texts = record { ticket = record { node = 2; seq = 5 }; octets = 4 } ∷ record { ticket = record { node = 2; seq = 6 }; octets = 900 }
+    ∷ record { ticket = record { node = 2; seq = 7 }; octets = 4 } ∷ []
+
+-- the first two have outcomes: the first is stored, the second refused
+two_lines : (A : Type 0) → outcome_lines {A = A} (codes "bob") (outcome.Stored 1 ∷ outcome.TooLarge ∷ []) texts
+    ≡ codes "op bob 2/5 stored 1\nop bob 2/6 too large\n"
+unfolding digits
+two_lines A = refl
+
+one_delivered : (A : Type 0) → delivered_after {A = A} (outcome.Stored 1 ∷ outcome.TooLarge ∷ []) texts none_delivered ≡ record { stored = 1; octets = 4; refused = 1 }
+one_delivered A = refl

@@ -1,8 +1,9 @@
 //! Mail that an operator delivers.
-ghost use Rattle.std.specs.Prelude.{◌≡◌, ◌<◌, ◌≤◌, IfOk};
+ghost use Rattle.std.specs.Prelude.{◌≡◌, ◌++◌, ◌<◌, ◌≤◌, IfOk, OnOk, map, drop, length};
 ghost use Rattle.std.specs.Str.Lines.{lines};
 ghost use Rattle.service.specs.Keys.{key_at};
 ghost use Rattle.service.specs.Deliveries as spec;
+ghost use Rattle.service.specs.Deliveries.{outcome_lines, delivered_after};
 
 use crate::asking::{Unanswered, await_outcomes};
 use crate::served_node::{OperatorOp, ServedNode};
@@ -212,7 +213,9 @@ impl<R: Wait + Drop, N: ServedNode + Drop> Delivery<'_, R, N> {
     }
 
     /// The tickets of texts that were submitted, in the same order.
-    fn tickets_of(&self, submitted: &VecDeque<Submitted>) -> Result<Vec<Ticket>, Memory> {
+    fn tickets_of(&self, submitted: &VecDeque<Submitted>) -> Result<Vec<Ticket>, Memory>
+        ensures { IfOk result (λ tickets. tickets.items ≡ map (λ one. one.ticket) submitted.now.items) }
+    {
         let mut tickets = Vec::with_capacity(self.alloc, submitted.len())?;
         for one in submitted {
             tickets.push(one.ticket)?;
@@ -224,20 +227,26 @@ impl<R: Wait + Drop, N: ServedNode + Drop> Delivery<'_, R, N> {
     /// the first lines are there, and all these texts are removed: their outcomes can't be taken again.
     fn note_all(
         &self,
-        outcomes: Vec<Outcome>,
+        outcomes: &[Outcome],
         submitted: &mut VecDeque<Submitted>,
         delivered: &mut Delivered,
         lines: &mut Vec<u8>,
-    ) -> Result<(), Memory> {
+    ) -> Result<(), Memory>
+        ensures submitted { submitted.new.items ≡ drop (length outcomes.now) submitted.old.items }
+        ensures delivered { delivered.new ≡ delivered_after outcomes.now submitted.old.items delivered.old }
+        ensures lines { OnOk result (lines.new.items ≡ lines.old.items ++ outcome_lines self.now.user outcomes.now submitted.old.items) }
+    {
         let mut written = Ok(());
-        for outcome in outcomes {
+        let mut rest = outcomes;
+        while let Some((outcome, others)) = rest.split_first() {
             let Some(Submitted { ticket, octets }) = submitted.pop_front() else {
                 break;
             };
-            delivered.note(&outcome, octets);
+            delivered.note(outcome, octets);
             if written.is_ok() {
-                written = put_outcome(lines, &self.user, ticket, &outcome);
+                written = put_outcome(lines, &self.user, ticket, outcome);
             }
+            rest = others;
         }
         written
     }
@@ -258,7 +267,7 @@ impl<R: Wait + Drop, N: ServedNode + Drop> Delivery<'_, R, N> {
             Ok(outcomes) => {
                 let mut writer = self.stream;
                 let mut lines = Vec::new(self.alloc);
-                let noted = self.note_all(outcomes, submitted, delivered, &mut lines);
+                let noted = self.note_all(&outcomes, submitted, delivered, &mut lines);
                 say(&mut writer, lines.as_slice())?;
                 noted?;
                 Ok(true)

@@ -180,6 +180,11 @@ impl Progress {
         self.is_stopping || self.has_audited || (self.is_asked && !self.is_auditing)
     }
 
+    /// Whether the service stops or has ended.
+    fn is_over(&self) -> bool {
+        self.is_stopping || self.has_ended
+    }
+
     /// What is to be done.
     fn wake<R: Clock>(&mut self, rt: &R, limits: RollLimits) -> Wake {
         if self.is_stopping {
@@ -305,11 +310,11 @@ impl Rolls {
         true
     }
 
-    /// Waits until a node of a later epoch than this one leads. Returns false if the service ends instead.
+    /// Waits until a node of a later epoch leads. Returns false if the service stops or ends first.
     pub(crate) fn waits_for_next<R: Wait>(&self, rt: &R, epoch: u64) -> bool {
         let guard = self.progress.lock(rt);
         let progress = self.changes.wait_while(rt, guard, |progress| {
-            progress.led <= epoch && progress.joined < epoch && !progress.has_ended
+            progress.led <= epoch && progress.joined < epoch && !progress.is_over()
         });
         progress.led > epoch
     }
