@@ -17,6 +17,9 @@ use store::{DataFolder, Found, Report, StoreFault, check, read_newest};
 /// The line that begins each exported message.
 const FROM_LINE: &[u8] = b"From maildropd Thu Jan  1 00:00:00 1970";
 
+/// The unique id of a user's first message.
+const FIRST_UID: u64 = 1;
+
 /// The option of all three.
 const OPTIONS: &[Choice] = &[Choice {
     name: "data",
@@ -51,7 +54,7 @@ pub(crate) fn export_command<'a>(alloc: Global) -> Result<Command<'a>, Error> {
         .allow_hyphen_values(true)
         .action(ArgAction::Set);
     let export = Command::new(alloc, "export").about(
-        "Writes the mail that a data folder has of a user, as a mailbox file (mboxrd)",
+        "Writes the mail that a data folder has of a user, as a mailbox file (mboxrd). The status is 1 if the user never had mail",
     );
     Ok(with_options(alloc, export, OPTIONS)?.arg(name)?)
 }
@@ -150,13 +153,18 @@ pub(crate) fn run_export<R: AllocGlobal + Files<File = File> + Copy + Print + Ep
     matches: &ArgMatches<'_>,
 ) -> u8 {
     let path = text_of(matches, "data");
-    let Some(name) = Name::new(text_of(matches, "name").as_bytes()) else {
+    let word = text_of(matches, "name");
+    let Some(name) = Name::new(word.as_bytes()) else {
         return refuse(rt, Fault::Value);
     };
     let loaded = match read_newest(rt, rt.alloc(), path) {
         Ok(loaded) => loaded,
         Err(fault) => return refuse_folder(rt, path, fault),
     };
+    if loaded.kept.next_uid(&name) == FIRST_UID {
+        let _untold = eprintln!(rt; "maildropd: {path} never had mail for {word}");
+        return 1;
+    }
     match write_mailbox(rt, loaded.kept.messages(&name)) {
         Ok(()) => 0,
         Err(fault) => refuse(rt, fault),
