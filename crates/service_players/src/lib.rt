@@ -16,6 +16,6 @@ pub use nodes::{NodePlan, NodeSite, Nodes, nodes_beside_deaf, nodes_with, run_no
 pub use plays::{Row, STOP, Scene, play, play_after, play_at, play_epochs};
 pub use running::{
     Doors, Ended, Plan, Ports, Running, STARTS, Site, Told, at_one_port, at_port, at_socket, begun,
-    bounded, ctl_with, file, folder, free_ports, in_folder, options, over_ports, planned, remove,
+    ctl_with, file, folder, free_ports, in_folder, logged, options, over_ports, planned, remove,
     run, with_few_bytes,
 };

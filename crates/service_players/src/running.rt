@@ -252,16 +252,17 @@ pub fn in_folder<R: Net<Listener = TcpListener, Stream = TcpStream> + RandomSour
     Ok((plan, site))
 }
 
-/// The same service with a log of this path, whose sessions may be silent for a second.
-pub fn bounded<R: Net<Listener = TcpListener, Stream = TcpStream> + RandomSource + Files>(
+/// The same service with a log of this path, whose sessions may be silent for so many seconds, 0 for ever.
+pub fn logged<R: Net<Listener = TcpListener, Stream = TcpStream> + RandomSource + Files>(
     rt: &R,
     alloc: Global,
     accounts: &str,
     log: &str,
+    idle_seconds: u64,
 ) -> Result<(Plan, Site), Fail> {
     let log = String::from_str(alloc, log)?;
     let (mut plan, site) = planned(rt, alloc, accounts)?;
-    plan.idle_seconds = 1;
+    plan.idle_seconds = idle_seconds;
     plan.log = Some(log);
     Ok((plan, site))
 }
