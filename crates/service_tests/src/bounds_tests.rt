@@ -65,6 +65,8 @@ const CUT: Scene = Scene {
         Says(2, ALICE, EMPTY),
         Says(2, "QUIT\r\n", "+OK signing off\r\n"),
         Ends(2),
+        // No node hears what she asks there.
+        Says(1, "QUIT\r\n", ""),
         Ends(1),
         STOP,
     ],
