@@ -25,20 +25,11 @@ fn is_line(bytes: &[u8]) -> bool
     has_no_line_feed(bytes)
 }
 
-/// The octets of so many lines, as far as these bytes have them, each with its CR and LF.
-fn octets_ahead(bytes: &[u8], count: u32) -> usize {
-    let mut cursor = Cursor::new(bytes);
-    let mut octets = 0usize;
-    for _ in 0..count {
-        let Ok(len) = cursor.read_u32() else {
-            break;
-        };
-        let Ok(line) = cursor.read_bytes(len as usize) else {
-            break;
-        };
-        octets = octets.saturating_add(line.len()).saturating_add(2);
-    }
-    octets
+/// The most octets that so many lines have in these bytes: each has a length of four bytes here, and CR and LF there.
+fn most_octets(bytes: &[u8], count: u32) -> usize {
+    bytes
+        .len()
+        .saturating_sub((count as usize).saturating_mul(2))
 }
 
 impl<'a> Cursor<'a> {
@@ -55,7 +46,7 @@ impl<'a> Cursor<'a> {
         Ok(line)
     }
 
-    /// Reads so many lines. The count alone takes no memory: there is room at once for those that the bytes have.
+    /// Reads so many lines. The count alone takes no memory: there is room at once for as much as the bytes can have.
     fn read_lines<A: Allocator>(
         &mut self,
         alloc: A,
@@ -64,7 +55,7 @@ impl<'a> Cursor<'a> {
         ensures { GivesFrontAs (λ text. text.lines) result self.new (many_at line_at count self.old) }
     {
         let mut text = TextBuilder::new(alloc);
-        text.reserve(octets_ahead(self.rest(), count))?;
+        text.reserve(most_octets(self.rest(), count))?;
         for _ in 0..count {
             let line = self.read_line()?;
             text.push_line(line)?;

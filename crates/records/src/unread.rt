@@ -62,14 +62,23 @@ impl<A: Allocator + Copy> Unread<A> {
         self.passed = 0;
     }
 
+    /// Moves the bytes to the front, over what was passed. Takes time in proportion to what is kept.
+    fn move_to_front(&mut self)
+        ensures { self.new ≡ self.old }
+    {
+        let kept = self.bytes.len() - self.passed;
+        self.bytes.copy_within(self.passed.., 0);
+        self.bytes.truncate(kept);
+        self.passed = 0;
+    }
+
     /// Adds what comes next, in the room of what was passed too. After an error nothing has changed.
     pub(crate) fn add(&mut self, piece: &[u8]) -> Result<(), Memory>
         ensures value { OnOk result (self.new ≡ self.old ++ piece.now) }
         ensures kept { OnErr result (self.new ≡ self.old) }
     {
         if self.passed > 0 {
-            drop(self.bytes.drain(..self.passed));
-            self.passed = 0;
+            self.move_to_front();
         }
         self.bytes.extend_from_slice(piece)?;
         Ok(())
