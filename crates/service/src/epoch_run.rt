@@ -215,6 +215,10 @@ fn watch<R: System, W: Write, N: ServedNode>(
             if is_due || is_over {
                 return Ending::Rolled;
             }
+            // The sessions of those who aren't held back may have ended meanwhile.
+            if matches!(wake, Wake::Behind) && is_quiet(rt, ports, state) {
+                return Ending::Rolled;
+            }
             ports.resume_pop(rt);
         }
     }

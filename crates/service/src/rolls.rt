@@ -24,8 +24,8 @@ const LOOK_MS: u64 = 100;
 const LEAD_LOOK_MS: u64 = 2;
 
 /// Half of the milliseconds between the first two tries to find a moment without an open session. The time doubles with each
-/// try.
-const FIRST_RETRY_MS: u64 = 1_000;
+/// try. Meanwhile the epoch grows beyond its limit.
+const FIRST_RETRY_MS: u64 = 50;
 
 /// How many milliseconds lie between two such tries at most.
 const LAST_RETRY_MS: u64 = 30_000;
