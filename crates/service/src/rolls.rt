@@ -23,9 +23,12 @@ const LOOK_MS: u64 = 100;
 /// The same until its nodes lead.
 const LEAD_LOOK_MS: u64 = 2;
 
+/// The same while it has as much as a limit.
+const FULL_LOOK_MS: u64 = 10;
+
 /// Half of the milliseconds between the first two tries to find a moment without an open session. The time doubles with each
 /// try. Meanwhile the epoch grows beyond its limit.
-const FIRST_RETRY_MS: u64 = 50;
+const FIRST_RETRY_MS: u64 = 10;
 
 /// How many milliseconds lie between two such tries at most.
 const LAST_RETRY_MS: u64 = 30_000;
@@ -149,7 +152,9 @@ struct Progress {
     /// When this epoch began, unless the clock couldn't be read.
     began: Option<Instant>,
     load: EpochLoad,
-    /// When a moment without an open session was looked for last.
+    /// Whether a moment without an open session was looked for.
+    has_tried: bool,
+    /// When it was looked for last, unless the clock couldn't be read.
     tried: Option<Instant>,
     /// How many milliseconds after that it is looked for again.
     retry_ms: u64,
@@ -175,9 +180,28 @@ fn millis_since<R: Clock>(rt: &R, since: &Option<Instant>) -> u64 {
 }
 
 impl Progress {
+    /// Whether the epoch has as much as a limit, and no moment without an open session was looked for yet.
+    fn is_newly_full(&self, limits: RollLimits) -> bool {
+        !self.has_tried && has_reached(self.load, limits, 1)
+    }
+
     /// Whether there is something to do at once.
-    fn is_urgent(&self) -> bool {
-        self.is_stopping || self.has_audited || (self.is_asked && !self.is_auditing)
+    fn is_urgent(&self, limits: RollLimits) -> bool {
+        self.is_stopping
+            || self.has_audited
+            || (self.is_asked && !self.is_auditing)
+            || self.is_newly_full(limits)
+    }
+
+    /// After how many milliseconds the epoch is looked at again.
+    fn look_ms(&self, limits: RollLimits) -> u64 {
+        if self.led != self.epoch {
+            LEAD_LOOK_MS
+        } else if has_reached(self.load, limits, 1) {
+            FULL_LOOK_MS
+        } else {
+            LOOK_MS
+        }
     }
 
     /// Whether the service stops or has ended.
@@ -206,6 +230,7 @@ impl Progress {
         match when_due(self.load, limits, millis_since(rt, &self.began)) {
             Due::Forced => Wake::Roll,
             Due::Quiet if millis_since(rt, &self.tried) >= self.retry_ms => {
+                self.has_tried = true;
                 self.tried = Instant::now(rt).ok();
                 self.retry_ms = self.retry_ms.saturating_mul(2).min(LAST_RETRY_MS);
                 Wake::Quiet
@@ -247,6 +272,7 @@ impl Rolls {
                 joined: 0,
                 began: None,
                 load: EpochLoad::new(),
+                has_tried: false,
                 tried: None,
                 retry_ms: 0,
                 is_asked: false,
@@ -266,6 +292,7 @@ impl Rolls {
         progress.epoch = progress.epoch.saturating_add(1);
         progress.began = Instant::now(rt).ok();
         progress.load = EpochLoad::new();
+        progress.has_tried = false;
         progress.tried = None;
         progress.retry_ms = FIRST_RETRY_MS;
         progress.is_asked = false;
@@ -373,32 +400,42 @@ impl Rolls {
         self.changes.notify_all();
     }
 
+    /// From how much on an epoch ends.
+    fn limits(&self) -> RollLimits {
+        self.limits.unwrap_or(RollLimits {
+            sessions: 0,
+            bytes: 0,
+        })
+    }
+
     /// A session that asked for something has ended, and left so many bytes.
     pub(crate) fn end_session<R: Wait>(&self, rt: &R, bytes: u64) {
-        self.progress.lock(rt).load.end_session(bytes);
+        let mut guard = self.progress.lock(rt);
+        let progress = &mut *guard;
+        progress.load.end_session(bytes);
+        if progress.is_newly_full(self.limits()) {
+            self.changes.notify_all();
+        }
     }
 
     /// So many messages were stored or refused, of so many octets together.
     pub(crate) fn store<R: Wait>(&self, rt: &R, messages: u64, octets: u64) {
-        self.progress.lock(rt).load.store(messages, octets);
+        let mut guard = self.progress.lock(rt);
+        let progress = &mut *guard;
+        progress.load.store(messages, octets);
+        if progress.is_newly_full(self.limits()) {
+            self.changes.notify_all();
+        }
     }
 
     /// Waits until there is something to do for the epochs, or some time has passed.
     pub(crate) fn wait<R: Wait + Clock>(&self, rt: &R) -> Wake {
+        let limits = self.limits();
         let guard = self.progress.lock(rt);
-        let look_ms = if guard.led == guard.epoch {
-            LOOK_MS
-        } else {
-            LEAD_LOOK_MS
-        };
-        let look = Duration::from_millis(look_ms);
+        let look = Duration::from_millis(guard.look_ms(limits));
         let (mut guard, _) = self
             .changes
-            .wait_timeout_while(rt, guard, look, |progress| !progress.is_urgent());
-        let limits = self.limits.unwrap_or(RollLimits {
-            sessions: 0,
-            bytes: 0,
-        });
+            .wait_timeout_while(rt, guard, look, |progress| !progress.is_urgent(limits));
         let progress = &mut *guard;
         progress.wake(rt, limits)
     }
