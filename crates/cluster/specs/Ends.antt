@@ -7,12 +7,13 @@ use Rattle.maildrop.specs.Office.{kept_of}
 use Rattle.node.specs.Replay.{replayed}
 use Rattle.node.specs.declared.log.NodeLog.{NodeLog}
 use Rattle.cluster.specs.declared.ended_node.EndedNode.{EndedNode}
-use Rattle.cluster.specs.declared.ended_node.EndedNode.TheVariants.{Whole, Log}
+use Rattle.cluster.specs.declared.ended_node.EndedNode.TheVariants.{Whole, Closed, Log}
 use Rattle.cluster.specs.declared.setup.Setup.{Setup}
 
 -- the log of a node that has ended
 abbrev pub log_of : EndedNode → NodeLog Global
 log_of (Whole node) = node.log
+log_of (Closed log) = log
 log_of (Log log) = log
 
 -- what is kept of the maildrops to which a log leads

@@ -11,7 +11,7 @@ ghost use Rattle.cluster.specs.declared.setup.Setup.{Setup};
 use crate::ended_node::EndedNode;
 use ballot::Memory;
 use maildrop::Kept;
-use node::{Node, NodeLog, Stopped, replay};
+use node::{ClosedNode, Node, NodeLog, Stopped, replay};
 use std::alloc::Global;
 
 /// What a log leads to: what is kept of the maildrops, and how many commands were performed.
@@ -32,14 +32,15 @@ pub(crate) fn is_known(stopped: Option<Stopped>) -> bool
     }
 }
 
-/// The log of a node, and what it leaves, which the log leads to if the node is known. Takes no memory.
-fn close(node: Node) -> (NodeLog, Left)
+/// What is left of a node, and what its log leads to if the node is known. Takes no memory, and the same time however much
+/// was performed.
+fn close(node: Node) -> (ClosedNode, Left)
     ensures log { result.0 ≡ node.log }
     ensures left { IsKnown node.stopped → IsEndOf node.log result.1 }
 {
     let performed = node.performed().len();
-    let (log, kept) = node.close();
-    (log, Left { kept, performed })
+    let (closed, kept) = node.close();
+    (closed, Left { kept, performed })
 }
 
 /// What a log leads to, by a node that takes its inputs. Takes memory.
@@ -49,8 +50,8 @@ fn replay_end(alloc: Global, log: &NodeLog) -> Result<Left, Memory>
 {
     match replay(alloc, log) {
         Ok(Some(node)) => {
-            let (again, left) = close(node);
-            drop(again);
+            let (closed, left) = close(node);
+            drop(closed);
             Ok(left)
         }
         _ => Err(Memory),
@@ -108,8 +109,8 @@ fn next_best_known(best: Option<Left>, node: Node) -> (Option<Left>, EndedNode)
     ensures best { (logs : List (NodeLog Global)) → IsBestOf logs best → IsBestOf (logs ++ node.log ∷ []) result.0 }
 {
     if has_more(&best, node.performed().len()) {
-        let (log, left) = close(node);
-        (Some(left), EndedNode::Log(log))
+        let (closed, left) = close(node);
+        (Some(left), EndedNode::Closed(closed))
     } else {
         (best, EndedNode::Whole(node))
     }

@@ -2,13 +2,15 @@
 ghost use Rattle.std.specs.Prelude.{◌≡◌};
 ghost use Rattle.cluster.specs.Ends.{log_of};
 
-use node::{Node, NodeLog};
+use node::{ClosedNode, Node, NodeLog};
 
-/// A node that has ended. To let a node go takes time in proportion to what it has performed, so most are whole until their
-/// logs are needed.
+/// A node that has ended. To let a node go takes time in proportion to what it has performed, so that is left to whoever
+/// needs the log.
 #[derive(Drop)]
 pub enum EndedNode {
     Whole(Node),
+    /// Its maildrops were taken out.
+    Closed(ClosedNode),
     Log(NodeLog),
 }
 
@@ -19,6 +21,7 @@ impl EndedNode {
     {
         match self {
             EndedNode::Whole(node) => node.into_log(),
+            EndedNode::Closed(node) => node.into_log(),
             EndedNode::Log(log) => log,
         }
     }

@@ -2,6 +2,7 @@
 //! step, and all that it is follows from the inputs that it took: its log.
 #![tactic(auto)]
 
+mod closed_node;
 mod input;
 mod laws;
 mod log;
@@ -13,6 +14,7 @@ mod step;
 mod stopped;
 mod tickets;
 
+pub use closed_node::ClosedNode;
 pub use input::{Input, SharedOp};
 pub use laws::{
     answers_are_of_submits, answers_are_outcomes, answers_come_when_performed, answers_stay,

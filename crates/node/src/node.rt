@@ -14,6 +14,7 @@ ghost use Rattle.node.specs.Tickets.{CanStop};
 ghost use Rattle.node.specs.Nodes as spec;
 ghost use Rattle.node.specs.Replay as replay;
 
+use crate::closed_node::ClosedNode;
 use crate::input::Input;
 use crate::log::{NodeLog, Opening};
 use crate::outputs::Outputs;
@@ -196,13 +197,22 @@ impl<A: Allocator + Copy> Node<A> {
         self.log
     }
 
-    /// The log, and what is kept of the maildrops: each as the node has it, without its limits and with an open lock. What
-    /// is kept is what the log leads to, unless the node has stopped without memory: it is then unknown. Takes no memory.
-    pub fn close(self) -> (NodeLog<A>, Kept<A>)
+    /// What is kept of the maildrops, each as the node has it, without its limits and with an open lock, and what is left of
+    /// the node. What is kept is what the log leads to, unless the node has stopped without memory: it is then unknown. Takes
+    /// no memory, and the same time however much was performed.
+    pub fn close(self) -> (ClosedNode<A>, Kept<A>)
         ensures log { result.0 ≡ self.log }
         ensures kept { IsKnown self.stopped → result.1 ≡ kept_of (replayed self.log).replica.machine }
     {
-        (self.log, self.roles.into_office().close())
+        let Node {
+            log,
+            roles,
+            given: _,
+            stopped: _,
+            alloc: _,
+        } = self;
+        let (office, roles) = roles.into_parts();
+        (ClosedNode::new(log, roles), office.close())
     }
 
     /// Its number.

@@ -14,7 +14,7 @@ use acceptor::Acceptor;
 use ballot::{Envelope, Items, Memory, Message, NodeId, Outgoing, Sends, Slot};
 use leader::Leader;
 use maildrop::{CommandId, Office, Outcome, SharedCommand};
-use replica::Replica;
+use replica::{Remainder, Replica};
 use std::alloc::{Allocator, Global};
 use std::marker::Model;
 
@@ -25,6 +25,14 @@ pub(crate) struct Roles<A: Allocator + Copy = Global> {
     leader: Leader<SharedCommand<A>, A>,
     replica: Replica<Office<A>, A>,
     alloc: A,
+}
+
+/// What is left of the roles whose maildrops were taken out: nothing can be asked of it.
+#[derive(Drop)]
+pub(crate) struct RolesLeft<A: Allocator + Copy = Global> {
+    acceptor: Acceptor<SharedCommand<A>, A>,
+    leader: Leader<SharedCommand<A>, A>,
+    replica: Remainder<Office<A>, A>,
 }
 
 impl<A: Allocator + Copy> Model for Roles<A> {
@@ -181,11 +189,23 @@ impl<A: Allocator + Copy> Roles<A> {
         self.replica.machine()
     }
 
-    /// The maildrops of all users, without the roles.
-    pub(crate) fn into_office(self) -> Office<A>
-        ensures { IfSome self (λ n. result ≡ n.replica.machine) }
+    /// The maildrops of all users, and what is left of the roles.
+    pub(crate) fn into_parts(self) -> (Office<A>, RolesLeft<A>)
+        ensures { IfSome self (λ n. result.0 ≡ n.replica.machine) }
     {
-        self.replica.into_machine()
+        let Roles {
+            acceptor,
+            leader,
+            replica,
+            alloc: _,
+        } = self;
+        let (office, replica) = replica.into_parts();
+        let left = RolesLeft {
+            acceptor,
+            leader,
+            replica,
+        };
+        (office, left)
     }
 
     /// The first slot that isn't decided.

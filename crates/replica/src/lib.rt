@@ -10,6 +10,7 @@ mod moves;
 mod performed;
 mod performing;
 mod proposing;
+mod remainder;
 mod replica;
 mod state;
 
@@ -19,4 +20,5 @@ pub use laws::{
     repeated_decisions_do_nothing, replicas_perform_the_front, requests_are_awaited,
     taken_answers_change_nothing_else,
 };
+pub use remainder::Remainder;
 pub use replica::Replica;

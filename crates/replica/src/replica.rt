@@ -5,6 +5,7 @@ ghost use Rattle.ballot.specs.declared.slot.TheConstants.{LAST_SLOT};
 
 use crate::decisions::Decisions;
 use crate::performed::Performed;
+use crate::remainder::Remainder;
 use crate::state::State;
 use crate::{awaiting, moves, proposing};
 use ballot::{Cluster, LAST_SLOT, Machine, Memory, NodeId, Payload, Sends, Slot};
@@ -131,12 +132,33 @@ impl<M: Machine, A: Allocator + Copy> Replica<M, A> {
         &self.state.machine
     }
 
-    /// The machine, which has performed these commands, without the replica. Unknown once the replica is spent. Takes no
-    /// memory.
-    pub fn into_machine(self) -> M
-        ensures { IfSome self (λ r. result ≡ r.machine) }
+    /// The machine, which has performed these commands, and what is left of the replica. The machine is unknown once the
+    /// replica is spent. Takes no memory, and the same time however much was performed.
+    pub fn into_parts(self) -> (M, Remainder<M, A>)
+        ensures { IfSome self (λ r. result.0 ≡ r.machine) }
     {
-        self.state.machine
+        let State {
+            me: _,
+            cluster: _,
+            window: _,
+            slot_in: _,
+            slot_out: _,
+            machine,
+            requests,
+            proposals,
+            decisions,
+            performed,
+            awaited,
+            alloc: _,
+        } = self.state;
+        let remainder = Remainder {
+            requests,
+            proposals,
+            decisions,
+            performed,
+            awaited,
+        };
+        (machine, remainder)
     }
 
     /// The first slot that isn't decided, 1 to 2^63: all below it are performed.
