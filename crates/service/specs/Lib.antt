@@ -16,6 +16,7 @@ pub mod Locks
 pub mod OperatorExamples
 pub mod Paces
 pub mod Rolls
+pub mod Wakes
 pub mod Stats
 pub mod Epochs
 pub mod EpochEnds

@@ -18,7 +18,7 @@ use crate::life::ServiceLife;
 use crate::majority::crash_all;
 use crate::options::{OnFault, Settings};
 use crate::past::Past;
-use crate::rolls::Wake;
+use crate::progress::Wake;
 use crate::serve::FIRST_LEADER;
 use crate::served_node::ServedNode;
 use crate::served_sessions::ServedSessions;

@@ -30,6 +30,7 @@ mod pace;
 mod past;
 mod peers;
 mod pop;
+mod progress;
 mod rolls;
 mod serve;
 mod serve_node;

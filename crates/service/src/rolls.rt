@@ -2,8 +2,9 @@
 ghost use Rattle.std.specs.Prelude.{◌≡◌};
 ghost use Rattle.service.specs.Rolls as spec;
 
+use crate::progress::{Progress, Wake, millis_since};
 use std::sync::{Condvar, Mutex, Wait};
-use std::time::{Clock, Duration, Instant};
+use std::time::{Clock, Duration};
 
 /// How many times as much as its limit an epoch may have before it ends although sessions are open.
 const FORCED: u64 = 5;
@@ -16,22 +17,6 @@ const COMMAND_BYTES: u64 = 2_700;
 
 /// How many bytes are kept for a message that a login lists, about.
 const LISTED_BYTES: u64 = 25;
-
-/// After how many milliseconds the epoch is looked at again.
-const LOOK_MS: u64 = 100;
-
-/// The same until its nodes lead.
-const LEAD_LOOK_MS: u64 = 2;
-
-/// The same while it has as much as a limit.
-const FULL_LOOK_MS: u64 = 10;
-
-/// Half of the milliseconds between the first two tries to find a moment without an open session. The time doubles with each
-/// try. Meanwhile the epoch grows beyond its limit.
-const FIRST_RETRY_MS: u64 = 10;
-
-/// How many milliseconds lie between two such tries at most.
-const LAST_RETRY_MS: u64 = 30_000;
 
 /// From how many sessions on, and from how many bytes kept for its audit on, an epoch ends: 0 for any number.
 #[derive(Clone, Copy, Debug, PartialEq, Eq)]
@@ -60,7 +45,7 @@ pub(crate) enum Due {
 
 impl EpochLoad {
     /// Of an epoch that begins.
-    fn new() -> Self
+    pub(crate) fn new() -> Self
         ensures { result ≡ spec.no_load }
     {
         EpochLoad {
@@ -104,14 +89,14 @@ fn reaches(count: u64, limit: u64, times: u64) -> bool
 }
 
 /// Whether an epoch has at least so many times as much as one of its limits.
-fn has_reached(load: EpochLoad, limits: RollLimits, times: u64) -> bool
+pub(crate) fn has_reached(load: EpochLoad, limits: RollLimits, times: u64) -> bool
     ensures { result ≡ spec.has_reached load limits times }
 {
     reaches(load.sessions, limits.sessions, times) || reaches(load.bytes, limits.bytes, times)
 }
 
 /// Whether an epoch of this age is to end.
-fn when_due(load: EpochLoad, limits: RollLimits, age_ms: u64) -> Due
+pub(crate) fn when_due(load: EpochLoad, limits: RollLimits, age_ms: u64) -> Due
     ensures { result ≡ spec.when_due load limits age_ms }
 {
     if has_reached(load, limits, FORCED) && age_ms >= FORCED_AGE_MS {
@@ -120,123 +105,6 @@ fn when_due(load: EpochLoad, limits: RollLimits, age_ms: u64) -> Due
         Due::Quiet
     } else {
         Due::No
-    }
-}
-
-/// What wakes the thread that looks after the epochs.
-#[derive(Clone, Copy, Debug, PartialEq, Eq)]
-pub(crate) enum Wake {
-    /// The service stops.
-    Stop,
-    /// The audit of the epoch before this one has ended.
-    Audited,
-    /// The epoch has as much as a limit, and the audit of the one before it goes on.
-    Behind,
-    /// The epoch is to end, and its sessions with it.
-    Roll,
-    /// The epoch is to end if no session is open.
-    Quiet,
-    /// Time has passed.
-    Look,
-}
-
-/// How far the epochs of a service have come.
-#[derive(Drop)]
-struct Progress {
-    /// The number of this epoch, counted from 1.
-    epoch: u64,
-    /// The last epoch of which a node led.
-    led: u64,
-    /// The last epoch whose operators are waited for.
-    joined: u64,
-    /// When this epoch began, unless the clock couldn't be read.
-    began: Option<Instant>,
-    load: EpochLoad,
-    /// Whether a moment without an open session was looked for.
-    has_tried: bool,
-    /// When it was looked for last, unless the clock couldn't be read.
-    tried: Option<Instant>,
-    /// How many milliseconds after that it is looked for again.
-    retry_ms: u64,
-    /// Whether an operator, or want of a majority, asks for the end of this epoch.
-    is_asked: bool,
-    /// Whether the audit of the epoch before this one goes on.
-    is_auditing: bool,
-    /// Whether it has ended, and nobody was told so yet.
-    has_audited: bool,
-    is_stopping: bool,
-    has_ended: bool,
-}
-
-/// How many milliseconds have passed since then. Any number if the clock can't be read.
-fn millis_since<R: Clock>(rt: &R, since: &Option<Instant>) -> u64 {
-    match since {
-        Some(since) => match since.elapsed(rt) {
-            Ok(time) => u64::try_from(time.as_millis()).unwrap_or(u64::MAX),
-            Err(_) => u64::MAX,
-        },
-        None => u64::MAX,
-    }
-}
-
-impl Progress {
-    /// Whether the epoch has as much as a limit, and no moment without an open session was looked for yet.
-    fn is_newly_full(&self, limits: RollLimits) -> bool {
-        !self.has_tried && has_reached(self.load, limits, 1)
-    }
-
-    /// Whether there is something to do at once.
-    fn is_urgent(&self, limits: RollLimits) -> bool {
-        self.is_stopping
-            || self.has_audited
-            || (self.is_asked && !self.is_auditing)
-            || self.is_newly_full(limits)
-    }
-
-    /// After how many milliseconds the epoch is looked at again.
-    fn look_ms(&self, limits: RollLimits) -> u64 {
-        if self.led != self.epoch {
-            LEAD_LOOK_MS
-        } else if has_reached(self.load, limits, 1) {
-            FULL_LOOK_MS
-        } else {
-            LOOK_MS
-        }
-    }
-
-    /// Whether the service stops or has ended.
-    fn is_over(&self) -> bool {
-        self.is_stopping || self.has_ended
-    }
-
-    /// What is to be done.
-    fn wake<R: Clock>(&mut self, rt: &R, limits: RollLimits) -> Wake {
-        if self.is_stopping {
-            return Wake::Stop;
-        }
-        if self.has_audited {
-            self.has_audited = false;
-            return Wake::Audited;
-        }
-        if self.is_auditing && has_reached(self.load, limits, 1) {
-            return Wake::Behind;
-        }
-        if self.is_auditing {
-            return Wake::Look;
-        }
-        if self.is_asked {
-            return Wake::Roll;
-        }
-        match when_due(self.load, limits, millis_since(rt, &self.began)) {
-            Due::Forced => Wake::Roll,
-            Due::Quiet if millis_since(rt, &self.tried) >= self.retry_ms => {
-                self.has_tried = true;
-                self.tried = Instant::now(rt).ok();
-                self.retry_ms = self.retry_ms.saturating_mul(2).min(LAST_RETRY_MS);
-                Wake::Quiet
-            }
-            _ => Wake::Look,
-        }
     }
 }
 
@@ -266,21 +134,7 @@ impl Rolls {
     pub(crate) fn new(limits: Option<RollLimits>) -> Self {
         Rolls {
             limits,
-            progress: Mutex::new(Progress {
-                epoch: 0,
-                led: 0,
-                joined: 0,
-                began: None,
-                load: EpochLoad::new(),
-                has_tried: false,
-                tried: None,
-                retry_ms: 0,
-                is_asked: false,
-                is_auditing: false,
-                has_audited: false,
-                is_stopping: false,
-                has_ended: false,
-            }),
+            progress: Mutex::new(Progress::new()),
             changes: Condvar::new(),
         }
     }
@@ -289,13 +143,7 @@ impl Rolls {
     pub(crate) fn begin<R: Wait + Clock>(&self, rt: &R) -> u64 {
         let mut guard = self.progress.lock(rt);
         let progress = &mut *guard;
-        progress.epoch = progress.epoch.saturating_add(1);
-        progress.began = Instant::now(rt).ok();
-        progress.load = EpochLoad::new();
-        progress.has_tried = false;
-        progress.tried = None;
-        progress.retry_ms = FIRST_RETRY_MS;
-        progress.is_asked = false;
+        progress.begin(rt);
         progress.epoch
     }
 

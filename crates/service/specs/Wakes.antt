@@ -1,0 +1,103 @@
+-- What is to be done for the epochs of a service, by how far they have come.
+use Rattle.std.specs.Prelude.{◌≡◌, refl, ℕ, ◌+◌, ◌*◌, ◌==◌, ◌&&◌, ◌||◌, not, Bool, true, false, None, min, nat_le, if◌then◌else◌}
+use Rattle.service.specs.Rolls.{highest, no_load, has_reached, when_due}
+use Rattle.service.specs.declared.progress.Progress.{Progress}
+use Rattle.service.specs.declared.progress.Wake.{Wake}
+use Rattle.service.specs.declared.progress.Wake.TheVariants.{Stop, Audited, Behind, Roll, Quiet, Look}
+use Rattle.service.specs.declared.rolls.Due.{Due}
+use Rattle.service.specs.declared.rolls.Due.TheVariants as due
+use Rattle.service.specs.declared.rolls.RollLimits.{RollLimits}
+
+abbrev pub next_epoch : ℕ → ℕ
+next_epoch epoch = min (epoch + 1) highest
+
+-- each try to find a moment without an open session comes twice as late, at most half a minute after the one before
+abbrev pub next_retry : ℕ → ℕ
+next_retry ms = min (min (ms * 2) highest) 30000
+
+-- the epoch has as much as a limit, and no such moment was looked for
+abbrev pub is_newly_full : Progress → RollLimits → Bool
+is_newly_full p limits = not p.has_tried && has_reached p.load limits 1
+
+-- what doesn't wait for the next look
+abbrev pub is_urgent : Progress → RollLimits → Bool
+is_urgent p limits = p.is_stopping || p.has_audited || (p.is_asked && not p.is_auditing) || is_newly_full p limits
+
+-- the next look comes after 2 ms until a node leads, after 10 at a limit, else after 100
+abbrev pub look_ms : Progress → RollLimits → ℕ
+look_ms p limits = if not (p.led == p.epoch) then 2 else if has_reached p.load limits 1 then 10 else 100
+
+-- what is to be done for an epoch that nobody asks to end
+abbrev pub by_due : Due → Bool → Wake
+by_due due.Forced is_time = Roll
+by_due due.Quiet is_time = if is_time then Quiet else Look
+by_due due.No is_time = Look
+
+-- What is to be done in an epoch of this age, if a moment without an open session was looked for so long ago. An epoch doesn't end
+-- while the one before it is audited.
+abbrev pub wake_at : Progress → RollLimits → (age_ms tried_ms : ℕ) → Wake
+wake_at p limits age_ms tried_ms =
+    if p.is_stopping then Stop
+    else if p.has_audited then Audited
+    else if p.is_auditing then (if has_reached p.load limits 1 then Behind else Look)
+    else if p.is_asked then Roll
+    else by_due (when_due p.load limits age_ms) (nat_le p.retry_ms tried_ms)
+
+module _ where
+  abbrev limits : RollLimits
+  limits = record { sessions = 10; bytes = 0 }
+
+  -- the third epoch has ten sessions
+  abbrev full : Progress
+  full = record {
+    epoch = 3;
+    led = 3;
+    joined = 1;
+    began = None;
+    load = record { sessions = 10; bytes = 0 };
+    has_tried = false;
+    tried = None;
+    retry_ms = 10;
+    is_asked = false;
+    is_auditing = false;
+    has_audited = false;
+    is_stopping = false;
+    has_ended = false;
+  }
+
+  -- it is to end at once if no session is open
+  at_once : is_urgent full limits ≡ true
+  at_once = refl
+
+  first_try : wake_at full limits 500 18446744073709551615 ≡ Quiet
+  first_try = refl
+
+  -- a session was open; 10 ms later it is looked for again, and then 20 ms after that
+  not_again : is_urgent (record full { has_tried = true }) limits ≡ false
+  not_again = refl
+
+  soon : wake_at (record full { has_tried = true }) limits 500 9 ≡ Look
+  soon = refl
+
+  second_try : wake_at (record full { has_tried = true }) limits 500 10 ≡ Quiet
+  second_try = refl
+
+  twice : next_retry 10 ≡ 20
+  twice = refl
+
+  most : next_retry 16000 ≡ 30000
+  most = refl
+
+  -- an operator's roll waits for the audit
+  asked_early : wake_at (record full { load = no_load; is_asked = true; is_auditing = true }) limits 500 0 ≡ Look
+  asked_early = refl
+
+  asked : wake_at (record full { load = no_load; is_asked = true }) limits 500 0 ≡ Roll
+  asked = refl
+
+  -- sessions come faster than they are audited
+  behind : wake_at (record full { is_auditing = true }) limits 500 0 ≡ Behind
+  behind = refl
+
+  quick : look_ms (record full { led = 2 }) limits ≡ 2
+  quick = refl
