@@ -1,4 +1,5 @@
 //! Services that run while a test looks on.
+ghost use Rattle.std.specs.Prelude.{◌≡◌, ◌↔◌, Some, IsTrue};
 
 use crate::clients::{PATIENCE, local};
 use ctl::{CtlOptions, ctl_run};
@@ -500,7 +501,10 @@ pub fn ctl_with<R: Net<Listener = TcpListener, Stream = TcpStream> + Files + Epr
 }
 
 /// The options of `maildropd ctl` at a port, with these words.
-pub fn at_port<'a>(port: u16, words: &'a [&'a str]) -> CtlOptions<'a> {
+pub fn at_port<'a>(port: u16, words: &'a [&'a str]) -> CtlOptions<'a>
+    ensures port { result.port ≡ Some port }
+    ensures words { result.words.now ≡ words.now }
+{
     CtlOptions {
         port: Some(u64::from(port)),
         socket: None,
@@ -521,7 +525,9 @@ pub fn ctl<R: Net<Listener = TcpListener, Stream = TcpStream> + Files + Eprint>(
 
 impl Told {
     /// Whether it has this status and these lines.
-    pub fn is(&self, status: u8, lines: &[u8]) -> bool {
+    pub fn is(&self, status: u8, lines: &[u8]) -> bool
+        ensures { IsTrue result ↔ ((self.now.status ≡ status) × (self.now.lines.items ≡ lines.now)) }
+    {
         self.status == status && self.lines.as_slice() == lines
     }
 }
