@@ -4,8 +4,8 @@ ghost use Rattle.cluster.specs.Ends.{log_of};
 
 use node::{ClosedNode, Node, NodeLog};
 
-/// A node that has ended. To let a node go takes time in proportion to what it has performed, so that is left to whoever
-/// needs the log.
+/// A node that has ended. To free a node takes time in proportion to what it has performed. Whoever takes its log frees it,
+/// unless it stopped without memory: then only its log is left.
 #[derive(Drop)]
 pub enum EndedNode {
     Whole(Node),

@@ -15,13 +15,15 @@ pub struct ClosedNode<A: Allocator + Copy = Global> {
 }
 
 impl<A: Allocator + Copy> Model for ClosedNode<A> {
+    ghost use Rattle.node.specs.declared.log.NodeLog.{NodeLog};
+
     ghost Value = { NodeLog A };
 
     ghost view = { λ n. n.log };
 }
 
 impl<A: Allocator + Copy> ClosedNode<A> {
-    /// What a node of this log leaves.
+    /// A closed node with this log.
     pub(crate) fn new(log: NodeLog<A>, roles: RolesLeft<A>) -> Self
         ensures { result ≡ log }
     {

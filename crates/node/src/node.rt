@@ -197,8 +197,8 @@ impl<A: Allocator + Copy> Node<A> {
         self.log
     }
 
-    /// What is kept of the maildrops, each as the node has it, without its limits and with an open lock, and what is left of
-    /// the node. What is kept is what the log leads to, unless the node has stopped without memory: it is then unknown. Takes
+    /// Returns what is left of the node, and what is kept of the maildrops: each as the node has it, without its limits and
+    /// with an open lock. That is what the log leads to, unless the node has stopped without memory: then it is unknown. Takes
     /// no memory, and the same time however much was performed.
     pub fn close(self) -> (ClosedNode<A>, Kept<A>)
         ensures log { result.0 ≡ self.log }

@@ -27,7 +27,7 @@ pub(crate) struct Roles<A: Allocator + Copy = Global> {
     alloc: A,
 }
 
-/// What is left of the roles whose maildrops were taken out: nothing can be asked of it.
+/// What is left of the roles after the maildrops were taken out. It answers nothing.
 #[derive(Drop)]
 pub(crate) struct RolesLeft<A: Allocator + Copy = Global> {
     acceptor: Acceptor<SharedCommand<A>, A>,
