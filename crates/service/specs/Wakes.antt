@@ -1,5 +1,6 @@
 -- What is to be done for the epochs of a service, by how far they have come.
-use Rattle.std.specs.Prelude.{◌≡◌, refl, ℕ, ◌+◌, ◌*◌, ◌==◌, ◌&&◌, ◌||◌, not, Bool, true, false, None, min, nat_le, if◌then◌else◌}
+use Rattle.std.specs.Prelude.{◌≡◌, refl, ℕ, ◌+◌, ◌*◌, ◌==◌, ◌&&◌, ◌||◌, not, Bool, true, false, Option, None, min, nat_le, if◌then◌else◌}
+use Rattle.std.specs.declared.time.Instant.{Instant}
 use Rattle.service.specs.Rolls.{highest, no_load, has_reached, when_due}
 use Rattle.service.specs.declared.progress.Progress.{Progress}
 use Rattle.service.specs.declared.progress.Wake.{Wake}
@@ -11,30 +12,30 @@ use Rattle.service.specs.declared.rolls.RollLimits.{RollLimits}
 abbrev pub next_epoch : ℕ → ℕ
 next_epoch epoch = min (epoch + 1) highest
 
--- each try to find a moment without an open session comes twice as late, at most half a minute after the one before
+-- the wait until the next try to find a moment without an open session doubles, up to half a minute
 abbrev pub next_retry : ℕ → ℕ
 next_retry ms = min (min (ms * 2) highest) 30000
 
--- the epoch has as much as a limit, and no such moment was looked for
+-- the epoch has as much as a limit, and no moment without an open session was looked for yet
 abbrev pub is_newly_full : Progress → RollLimits → Bool
 is_newly_full p limits = not p.has_tried && has_reached p.load limits 1
 
--- what doesn't wait for the next look
+-- there is something to do at once
 abbrev pub is_urgent : Progress → RollLimits → Bool
 is_urgent p limits = p.is_stopping || p.has_audited || (p.is_asked && not p.is_auditing) || is_newly_full p limits
 
--- the next look comes after 2 ms until a node leads, after 10 at a limit, else after 100
+-- the next look comes after 2 ms until a node leads, after 10 ms at a limit, else after 100 ms
 abbrev pub look_ms : Progress → RollLimits → ℕ
 look_ms p limits = if not (p.led == p.epoch) then 2 else if has_reached p.load limits 1 then 10 else 100
 
--- what is to be done for an epoch that nobody asks to end
+-- what is to be done for an epoch that nobody asks to end, and whether it is time for the next try
 abbrev pub by_due : Due → Bool → Wake
 by_due due.Forced is_time = Roll
 by_due due.Quiet is_time = if is_time then Quiet else Look
 by_due due.No is_time = Look
 
--- What is to be done in an epoch of this age, if a moment without an open session was looked for so long ago. An epoch doesn't end
--- while the one before it is audited.
+-- What is to be done in an epoch of this age, if the last try was so long ago. Unless the service stops, an epoch ends only after
+-- the audit of the one before.
 abbrev pub wake_at : Progress → RollLimits → (age_ms tried_ms : ℕ) → Wake
 wake_at p limits age_ms tried_ms =
     if p.is_stopping then Stop
@@ -42,6 +43,29 @@ wake_at p limits age_ms tried_ms =
     else if p.is_auditing then (if has_reached p.load limits 1 then Behind else Look)
     else if p.is_asked then Roll
     else by_due (when_due p.load limits age_ms) (nat_le p.retry_ms tried_ms)
+
+-- what is noted of it: the verdict that is reported, or the try, and when it was
+abbrev pub after_wake : Wake → Option Instant → Progress → Progress
+after_wake Audited tried p = record p { has_audited = false }
+after_wake Quiet tried p = record p { has_tried = true; tried = tried; retry_ms = next_retry p.retry_ms }
+after_wake _ tried p = p
+
+abbrev pub before_all : Progress
+before_all = record {
+  epoch = 0;
+  led = 0;
+  joined = 0;
+  began = None;
+  load = no_load;
+  has_tried = false;
+  tried = None;
+  retry_ms = 0;
+  is_asked = false;
+  is_auditing = false;
+  has_audited = false;
+  is_stopping = false;
+  has_ended = false;
+}
 
 module _ where
   abbrev limits : RollLimits
@@ -72,17 +96,20 @@ module _ where
   first_try : wake_at full limits 500 18446744073709551615 ≡ Quiet
   first_try = refl
 
-  -- a session was open; 10 ms later it is looked for again, and then 20 ms after that
-  not_again : is_urgent (record full { has_tried = true }) limits ≡ false
+  -- a session was open: after 20 ms it is looked for again, then after 40 ms
+  abbrev tried : Progress
+  tried = record full { has_tried = true; retry_ms = next_retry full.retry_ms }
+
+  not_again : is_urgent tried limits ≡ false
   not_again = refl
 
-  soon : wake_at (record full { has_tried = true }) limits 500 9 ≡ Look
+  soon : wake_at tried limits 500 19 ≡ Look
   soon = refl
 
-  second_try : wake_at (record full { has_tried = true }) limits 500 10 ≡ Quiet
+  second_try : wake_at tried limits 500 20 ≡ Quiet
   second_try = refl
 
-  twice : next_retry 10 ≡ 20
+  twice : next_retry tried.retry_ms ≡ 40
   twice = refl
 
   most : next_retry 16000 ≡ 30000

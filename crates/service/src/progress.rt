@@ -1,6 +1,6 @@
 //! How far the epochs of a service have come, and what is to be done for them.
-ghost use Rattle.std.specs.Prelude.{◌≡◌, true, false, None};
-ghost use Rattle.service.specs.Rolls.{no_load};
+ghost use Rattle.std.specs.Prelude.{◌≡◌, ◌||◌, ℕ, true, false, None};
+ghost use Rattle.service.specs.Rolls.{highest, no_load};
 ghost use Rattle.service.specs.Wakes as spec;
 
 use crate::rolls::{Due, EpochLoad, RollLimits, has_reached, when_due};
@@ -67,8 +67,10 @@ pub(crate) struct Progress {
     pub has_ended: bool,
 }
 
-/// How many milliseconds have passed since then. Any number if the clock can't be read.
-pub(crate) fn millis_since<R: Clock>(rt: &R, since: &Option<Instant>) -> u64 {
+/// How many milliseconds have passed since then. 2^64 - 1 if there is no such moment, or the clock can't be read.
+pub(crate) fn millis_since<R: Clock>(rt: &R, since: &Option<Instant>) -> u64
+    ensures { since.now ≡ None → result ≡ highest }
+{
     match since {
         Some(since) => match since.elapsed(rt) {
             Ok(time) => u64::try_from(time.as_millis()).unwrap_or(u64::MAX),
@@ -79,8 +81,10 @@ pub(crate) fn millis_since<R: Clock>(rt: &R, since: &Option<Instant>) -> u64 {
 }
 
 impl Progress {
-    /// Before the first epoch.
-    pub(crate) fn new() -> Self {
+    /// The state before the first epoch.
+    pub(crate) fn new() -> Self
+        ensures { result ≡ spec.before_all }
+    {
         Progress {
             epoch: 0,
             led: 0,
@@ -155,11 +159,14 @@ impl Progress {
     }
 
     /// Whether the service stops or has ended.
-    pub(crate) fn is_over(&self) -> bool {
+    pub(crate) fn is_over(&self) -> bool
+        ensures { result ≡ self.now.is_stopping || self.now.has_ended }
+    {
         self.is_stopping || self.has_ended
     }
 
-    /// What is to be done in an epoch of this age, if a moment without an open session was looked for so long ago.
+    /// What is to be done in an epoch of this age, if the last try to find a moment without an open session was `tried_ms`
+    /// milliseconds ago.
     fn wake_at(&self, limits: RollLimits, age_ms: u64, tried_ms: u64) -> Wake
         ensures { result ≡ spec.wake_at self.now limits age_ms tried_ms }
     {
@@ -197,8 +204,12 @@ impl Progress {
         self.retry_ms = self.retry_ms.saturating_mul(2).min(LAST_RETRY_MS);
     }
 
-    /// What is to be done, which the caller does.
-    pub(crate) fn wake<R: Clock>(&mut self, rt: &R, limits: RollLimits) -> Wake {
+    /// Returns what the caller is to do now, and notes that it was told.
+    pub(crate) fn wake<R: Clock>(&mut self, rt: &R, limits: RollLimits) -> Wake
+        // By the age of the epoch and of the last try, as the clock has them.
+        ensures due { (age_ms tried_ms : ℕ) × (result ≡ spec.wake_at self.old limits age_ms tried_ms) }
+        ensures noted { self.new ≡ spec.after_wake result self.new.tried self.old }
+    {
         let age_ms = millis_since(rt, &self.began);
         let tried_ms = millis_since(rt, &self.tried);
         let wake = self.wake_at(limits, age_ms, tried_ms);

@@ -1,5 +1,5 @@
 //! Services that run while a test looks on.
-ghost use Rattle.std.specs.Prelude.{◌≡◌, ◌↔◌, Some, IsTrue};
+ghost use Rattle.std.specs.Prelude.{◌≡◌, ◌↔◌, Some, None, false, IsTrue};
 
 use crate::clients::{PATIENCE, local};
 use ctl::{CtlOptions, ctl_run};
@@ -502,8 +502,9 @@ pub fn ctl_with<R: Net<Listener = TcpListener, Stream = TcpStream> + Files + Epr
 
 /// The options of `maildropd ctl` at a port, with these words.
 pub fn at_port<'a>(port: u16, words: &'a [&'a str]) -> CtlOptions<'a>
-    ensures port { result.port ≡ Some port }
+    ensures port { (result.port ≡ Some port) × (result.socket ≡ None) }
     ensures words { result.words.now ≡ words.now }
+    ensures waits { result.waits ≡ false }
 {
     CtlOptions {
         port: Some(u64::from(port)),
