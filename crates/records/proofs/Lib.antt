@@ -6,3 +6,4 @@ pub mod Files
 pub mod Readers
 pub mod Endings
 pub mod WholeFiles
+pub mod Salts

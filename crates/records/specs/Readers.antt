@@ -1,5 +1,5 @@
 -- What a reader keeps of a file that comes by pieces.
-use Rattle.std.specs.Prelude.{◌≡◌, ℕ, ◌+◌, ◌<◌, ◌≤◌, ◌^◌, List, [], ◌++◌, length, drop, None, false, nat_lt, if◌then◌else◌}
+use Rattle.std.specs.Prelude.{◌≡◌, ℕ, ◌+◌, ◌<◌, ◌≤◌, ◌^◌, List, [], ◌++◌, length, drop, Option, Some, None, false, nat_lt, if◌then◌else◌}
 use Rattle.records.specs.declared.ending.Ending.{Ending}
 use Rattle.records.specs.declared.head.TheConstants.{HEAD}
 use Rattle.records.specs.declared.phase.Phase.{Phase}
@@ -80,6 +80,14 @@ IsEmptyOf Other place kept = Unit {0}
 -- no whole record is left to be handed out
 pub record IsDrained (k : Kept) : Type 0 where
   pub none_left : IsEmptyOf k.phase k.place k.bytes
+
+-- the salt, while records are read or a whole one is searched for
+abbrev pub salt_in : Phase → Option ℕ
+salt_in Head = None
+salt_in (Records salt) = Some salt
+salt_in (Search salt bad) = Some salt
+salt_in (Damaged bad) = None
+salt_in Other = None
 
 -- what is kept of bytes that a head has come of, or that begin otherwise
 abbrev pub begun : List ℕ → Kept

@@ -1,7 +1,7 @@
 //! Reads files of records that come by pieces.
 ghost use Rattle.std.specs.Prelude.{◌≡◌, ◌++◌, ◌∷◌, [], ◌+◌, ◌-◌, ◌<◌, ◌≤◌, ◌^◌, ℕ, List, length, drop, nat_lt, if◌then◌else◌, false, IfOk, OnOk, OnErr, IfNone, IfSome, IsOk, None, option_to_list, option_map};
 ghost use Rattle.records.specs.Reading as spec;
-ghost use Rattle.records.specs.Readers.{HasRead, IsDrained, IsEndOf, begun, taken_in};
+ghost use Rattle.records.specs.Readers.{HasRead, IsDrained, IsEndOf, begun, salt_in, taken_in};
 
 use crate::ending::Ending;
 use crate::ends::{ending_of, records_end};
@@ -179,6 +179,17 @@ impl<A: Allocator + Copy> Reader<A> {
                 Ok(None)
             }
             Phase::Head | Phase::Damaged(_) | Phase::Other => Ok(None),
+        }
+    }
+
+    /// The salt of the file: `None` before its head has come whole, or once the reader knows that the file is damaged or no
+    /// segment.
+    pub fn salt(&self) -> Option<u64>
+        ensures { result ≡ salt_in self.now.phase }
+    {
+        match self.phase {
+            Phase::Records(salt) | Phase::Search(salt, _) => Some(salt),
+            Phase::Head | Phase::Damaged(_) | Phase::Other => None,
         }
     }
 
