@@ -72,7 +72,7 @@ impl EpochJournal {
         }
     }
 
-    /// Whether a write has failed. Nothing is written any more then.
+    /// Whether a write has failed. No answer waits for a write any more then.
     pub(crate) fn has_failed<R: Wait>(&self, rt: &R) -> bool {
         match &self.journal {
             None => false,

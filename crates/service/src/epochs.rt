@@ -91,7 +91,7 @@ fn next_accounts<R: System + Files<File = File>>(
     }
 }
 
-/// Runs the next epoch with these accounts, once the maildrops with which it opens are written.
+/// Runs the next epoch with these accounts, once the segment for its changes is open.
 fn run_next<R: System + Files<File = File>, W: Write>(
     rt: R,
     alloc: Global,

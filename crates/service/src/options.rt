@@ -84,7 +84,8 @@ pub struct ServeOptions<'a> {
     pub delivery_bytes: u64,
     /// After how many sessions an epoch ends: at most 2^40, and 0 for any number.
     pub epoch_sessions: u64,
-    /// After how many bytes that are kept for its audit an epoch ends: at most 2^40, and 0 for any number.
+    /// After how many bytes that are kept for its audit an epoch ends: at most 2^40, and 0 for any number. A start goes on in a
+    /// segment only if no more were added to it.
     pub epoch_bytes: u64,
     /// How many keys of deliveries a maildrop has at most when an epoch begins, the last ones: at most 2^40.
     pub keys: u64,

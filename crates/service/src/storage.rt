@@ -1,6 +1,7 @@
 //! Where mail is kept beyond the process.
 ghost use Rattle.std.specs.Prelude.{◌≡◌, [], false, is_some, IfOk, IsTrue};
 ghost use Rattle.maildrop.specs.Name.{are_different};
+ghost use Rattle.store.specs.Whole.{IsRunning};
 
 use crate::epoch_journal::EpochJournal;
 use crate::options::ServeOptions;
@@ -12,13 +13,18 @@ use std::alloc::Global;
 use std::fs::File;
 use std::random::RandomSource;
 use std::rt::Files;
-use store::{DataFolder, Journal, StoreFault, SyncMode};
+use store::{
+    CleanSegment, DataFolder, FileDevice, Journal, Loaded, StoreFault, SyncMode, keeps_keys,
+};
 
 /// The folder in which a service keeps mail, if it keeps mail beyond the process.
 #[derive(Drop)]
 pub(crate) struct Storage<R: Files<File = File>> {
     folder: Option<DataFolder<R>>,
     keep: usize,
+    /// The segment that was read, unless too much was added to it. The first epoch may go on in it, as it opens with what was
+    /// read.
+    read: Option<CleanSegment>,
 }
 
 /// A storage that was opened, and the maildrops that it had.
@@ -59,24 +65,29 @@ impl<R: System + Files<File = File> + Drop> Storage<R> {
     ) -> Result<OpenedStorage<R>, Fault>
         ensures { IfOk result (λ opened. is_some options.now.data ≡ false → opened.kept ≡ []) }
     {
-        let (folder, kept) = match options.data {
-            None => (None, Kept::new(alloc)),
+        let (folder, kept, read) = match options.data {
+            None => (None, Kept::new(alloc), None),
             Some(path) => {
-                let (folder, kept) = read_folder(&rt, alloc, path, options.sync)?;
-                (Some(folder), kept)
+                let (folder, loaded) = read_folder(&rt, alloc, path, options.sync)?;
+                (
+                    Some(folder),
+                    loaded.kept,
+                    short(loaded.clean, options.epoch_bytes),
+                )
             }
         };
         Ok(OpenedStorage {
             storage: Storage {
                 folder,
                 keep: options.keep as usize,
+                read,
             },
             kept: Shared::new(alloc, kept)?,
         })
     }
 
-    /// An epoch opens with this setup: all its maildrops are written to a new segment, and then old ones are removed. Returns
-    /// the journal of what follows.
+    /// An epoch opens with this setup. The first one goes on in the segment that was read, if it can. Otherwise all maildrops are
+    /// written to a new segment. Then old segments are removed. Returns the journal of what follows.
     pub(crate) fn begin_epoch(
         &mut self,
         rt: &R,
@@ -88,13 +99,9 @@ impl<R: System + Files<File = File> + Drop> Storage<R> {
         let Some(folder) = &mut self.folder else {
             return Ok(EpochJournal::none());
         };
-        let salt = random_salt(rt)?;
         let kept = setup.kept.get();
         let ledger = Ledger::open(alloc, setup.names.get(), kept, setup.limits, setup.keys)?;
-        let (device, place) = match folder.make_next(kept, setup.keys, salt) {
-            Ok(segment) => segment,
-            Err(fault) => return Err(fault_of_store(fault)),
-        };
+        let (device, salt, place) = open_segment(rt, folder, self.read.take(), kept, setup.keys)?;
         // A segment that can't be removed is tried again at the next epoch.
         let _removed = folder.drop_old(self.keep);
         let journal = Journal::new(alloc, ledger, device, salt, place);
@@ -102,19 +109,56 @@ impl<R: System + Files<File = File> + Drop> Storage<R> {
     }
 }
 
-/// Opens a folder, and reads the maildrops that it has.
+/// The segment, if at most `epoch_bytes` bytes were added after its snapshot, or any number if that is 0. So a start reads at
+/// most a snapshot, so many bytes, and what one more epoch changes.
+fn short(segment: Option<CleanSegment>, epoch_bytes: u64) -> Option<CleanSegment> {
+    let segment = segment?;
+    if epoch_bytes > 0 && segment.added() > epoch_bytes {
+        return None;
+    }
+    Some(segment)
+}
+
+/// The file that an epoch writes its changes to, with its salt and its size. It is that of the segment that was read, if this can
+/// be written and has no keys that the epoch doesn't open with, and that of a new segment otherwise.
+fn open_segment<R: System + Files<File = File>>(
+    rt: &R,
+    folder: &mut DataFolder<R>,
+    read: Option<CleanSegment>,
+    kept: &Kept,
+    keys: usize,
+) -> Result<(FileDevice, u64, u64), Fault>
+    ensures synced { IfOk result (λ r. r.0.history.calls.synced ≡ r.0.history.calls.seen) }
+    ensures running { IfOk result (λ r. IsRunning r.1 r.2 r.0.history.calls.synced) }
+{
+    if let Some(segment) = read {
+        if keeps_keys(kept, keys) {
+            // A file that can't be written any more is left behind.
+            if let Ok(file) = folder.go_on(segment) {
+                return Ok(file);
+            }
+        }
+    }
+    let salt = random_salt(rt)?;
+    match folder.make_next(kept, keys, salt) {
+        Ok((device, size)) => Ok((device, salt, size)),
+        Err(fault) => Err(fault_of_store(fault)),
+    }
+}
+
+/// Opens a folder, and reads its newest segment.
 fn read_folder<R: System + Files<File = File>>(
     rt: &R,
     alloc: Global,
     path: &str,
     sync: SyncMode,
-) -> Result<(DataFolder<R>, Kept), Fault> {
+) -> Result<(DataFolder<R>, Loaded), Fault> {
     let folder = match DataFolder::open(rt, alloc, path, sync) {
         Ok(folder) => folder,
         Err(fault) => return Err(fault_of_store(fault)),
     };
     match folder.load_newest() {
-        Ok(loaded) => Ok((folder, loaded.kept)),
+        Ok(loaded) => Ok((folder, loaded)),
         Err(fault) => Err(fault_of_store(fault)),
     }
 }

@@ -12,9 +12,9 @@ use Rattle.ledger.specs.Payloads.{entry, begin_payload, opened_payload}
 use Rattle.ledger.specs.Taking.{entry_bytes}
 use Rattle.ledger.specs.declared.entry.Entry.{Entry}
 use Rattle.store.specs.declared.batch.TheConstants.{FRAME}
-use Rattle.store.specs.Loading.{entry_payload}
+use Rattle.store.specs.Whole.{entry_payload, IsRunning, running_payloads}
 use Rattle.store.specs.Restarts.{user_entries, snapshot_entries}
-use Rattle.store.specs.Running.{IsRunning, Addition, IsAddition, IsEntry, running_payloads}
+use Rattle.store.specs.Running.{Addition, IsAddition, IsEntry}
 use Rattle.store.specs.Segments.{grown, user_payloads, names_in, with_last_keys, snapshot_payloads}
 use Rattle.store.proofs.Spelled.{spell_length, grown-append, grown_is, file_is, map_twice}
 

@@ -34,9 +34,9 @@ use Rattle.ledger.specs.declared.entry.Record.{Record}
 use Rattle.ledger.specs.declared.entry.Record.TheVariants as said
 use Rattle.ledger.proofs.Enough.{enough, snapshot_whole}
 use Rattle.ledger.proofs.Taking.{added}
-use Rattle.store.specs.Loading.{IsReadBack, HasLoaded, IsSegment, entry_payload, kept_by, kept_step, loading_of}
+use Rattle.store.specs.Whole.{entry_payload, running_payloads}
+use Rattle.store.specs.Loading.{IsReadBack, HasLoaded, IsSegment, kept_by, kept_step, loading_of}
 use Rattle.store.specs.Restarts.{WrittenEpoch, CanBeWritten, IsRestart, file_after, kept_after, payloads_after, payloads_between, snapshot_entries, user_entries, users_in, users_through}
-use Rattle.store.specs.Running.{running_payloads}
 use Rattle.store.specs.Segments.{names_in, snapshot_payloads, with_last_keys}
 use Rattle.store.specs.declared.loading.Loaded.{Loaded}
 use Rattle.store.proofs.Additions.{snapshot_said}
@@ -44,15 +44,15 @@ use Rattle.store.proofs.Additions.{snapshot_said}
 -- ---- payloads are read in one way
 
 module _ {X : Type 0} (P : X → Type 0) where
-  all_split : (xs ys : List X) → AllByRecursion P (xs ++ ys) → AllByRecursion P xs × AllByRecursion P ys
+  pub all_split : (xs ys : List X) → AllByRecursion P (xs ++ ys) → AllByRecursion P xs × AllByRecursion P ys
   all_split [] ys all = (tt, all)
   all_split (x ∷ xs) ys all = let rest = all_split xs ys all.1 in ((all.0, rest.0), rest.1)
 
-  all_join : (xs ys : List X) → AllByRecursion P xs → AllByRecursion P ys → AllByRecursion P (xs ++ ys)
+  pub all_join : (xs ys : List X) → AllByRecursion P xs → AllByRecursion P ys → AllByRecursion P (xs ++ ys)
   all_join [] ys a b = b
   all_join (x ∷ xs) ys a b = (a.0, all_join xs ys a.1 b)
 
-  all_take : (k : ℕ) (xs : List X) → AllByRecursion P xs → AllByRecursion P (take k xs)
+  pub all_take : (k : ℕ) (xs : List X) → AllByRecursion P xs → AllByRecursion P (take k xs)
   all_take zero xs all = tt
   all_take (suc k) [] all = tt
   all_take (suc k) (x ∷ xs) all = (all.0, all_take k xs all.1)
@@ -73,7 +73,7 @@ no_entry x is same = other x (record_in opened_payload) refl (ap (λ p. record_i
 heads : {X : Type 0} {x y : X} {xs ys : List X} → x ∷ xs ≡ y ∷ ys → x ≡ y
 heads e = cc
 
-tails : {X : Type 0} {x y : X} {xs ys : List X} → x ∷ xs ≡ y ∷ ys → xs ≡ ys
+pub tails : {X : Type 0} {x y : X} {xs ys : List X} → x ∷ xs ≡ y ∷ ys → xs ≡ ys
 tails e = cc
 
 same_entries : (xs ys : List (Entry Global)) → AllByRecursion IsReadBack xs → AllByRecursion IsReadBack ys → map entry_payload xs ≡ map entry_payload ys → xs ≡ ys
@@ -83,7 +83,7 @@ same_entries (x ∷ xs) [] is also same = absurd (cc)
 same_entries (x ∷ xs) (y ∷ ys) is also same =
     ap (λ (e : Entry Global). e ∷ xs) (same_entry x y is.0 also.0 (heads same)) ∙ ap (λ (es : List (Entry Global)). y ∷ es) (same_entries xs ys is.1 also.1 (tails same))
 
-same_parts : (xs ys us vs : List (Entry Global)) → AllByRecursion IsReadBack xs → AllByRecursion IsReadBack ys → AllByRecursion IsReadBack us → AllByRecursion IsReadBack vs
+pub same_parts : (xs ys us vs : List (Entry Global)) → AllByRecursion IsReadBack xs → AllByRecursion IsReadBack ys → AllByRecursion IsReadBack us → AllByRecursion IsReadBack vs
     → map entry_payload xs ++ opened_payload ∷ map entry_payload us ≡ map entry_payload ys ++ opened_payload ∷ map entry_payload vs → (xs ≡ ys) × (us ≡ vs)
 same_parts [] [] us vs x y a b same = (refl, same_entries us vs a b (tails same))
 same_parts [] (e ∷ ys) us vs x y a b same = absurd (no_entry e y.0 (heads same))
@@ -94,7 +94,7 @@ same_parts (e ∷ xs) (f ∷ ys) us vs x y a b same =
 
 -- ---- what entries make of a maildrop
 
-kept_by-append : (name : List ℕ) (kept : KeptMaildrop Global) (xs ys : List (Entry Global)) → kept_by name kept (xs ++ ys) ≡ kept_by name (kept_by name kept xs) ys
+pub kept_by-append : (name : List ℕ) (kept : KeptMaildrop Global) (xs ys : List (Entry Global)) → kept_by name kept (xs ++ ys) ≡ kept_by name (kept_by name kept xs) ys
 kept_by-append name kept [] ys = refl
 kept_by-append name kept (x ∷ xs) ys = kept_by-append name (kept_step name kept x) xs ys
 
@@ -207,16 +207,21 @@ commands_kept e name ds (Some m) is =
     let opened_is : closed m ≡ with_last_keys e.keys (kept_for name e.kept) = ap closed (opened_so e.limits e.keys e.kept name e.names m is) in
     ap (λ (k : KeptMaildrop Global). changed_by k (written_of m own)) (sym opened_is) ∙ enough m own
 
+-- what entries of its commands make of what an epoch opened with
+pub further_kept : (e : WrittenEpoch) (name : List ℕ) (ds : List (Decided Global)) → kept_by name (with_last_keys e.keys (kept_for name e.kept)) (entries_of (users_in e) ds) ≡ kept_after e ds name
+further_kept e name ds =
+    let opening = with_last_keys e.keys (kept_for name e.kept) in
+    kept_by_changes name opening (entries_of (users_in e) ds)
+    ∙ ap (λ (cs : List (Change Global)). changed_by opening cs) (added name (users_in e) ds)
+    ∙ commands_kept e name ds (maildrop_of name (users_in e)) refl
+
 all_kept : (e : WrittenEpoch) (name : List ℕ) (ds : List (Decided Global)) → are_different (names_in e.kept) ≡ true
     → kept_by name nothing_kept (snapshot_entries e.keys e.kept ++ entries_of (users_in e) ds) ≡ kept_after e ds name
 all_kept e name ds different =
-    let opening = with_last_keys e.keys (kept_for name e.kept) in
     let entries = entries_of (users_in e) ds in
     kept_by-append name nothing_kept (snapshot_entries e.keys e.kept) entries
     ∙ ap (λ (k : KeptMaildrop Global). kept_by name k entries) (snapshot_kept e.keys e.kept name different)
-    ∙ kept_by_changes name opening entries
-    ∙ ap (λ (cs : List (Change Global)). changed_by opening cs) (added name (users_in e) ds)
-    ∙ commands_kept e name ds (maildrop_of name (users_in e)) refl
+    ∙ further_kept e name ds
 
 -- ---- a front of the entries is that of a front of the commands
 
@@ -227,7 +232,7 @@ entries-append users (d ∷ ds) es =
     ap (λ (l : List (Entry Global)). first ++ l) (entries-append (users_after users d.command) ds es)
     ∙ sym (append_assoc first (entries_of (users_after users d.command) ds) (entries_of (users_through (users_after users d.command) ds) es))
 
-record FrontOf (users : List (User Global)) (ds : List (Decided Global)) (entries : List (Entry Global)) : Type 0 where
+pub record FrontOf (users : List (User Global)) (ds : List (Decided Global)) (entries : List (Entry Global)) : Type 0 where
   pub front : List (Decided Global)
   pub rest : List (Decided Global)
   pub parts : ds ≡ front ++ rest
@@ -253,12 +258,12 @@ next_front users d ds k (Some e) is later =
       entries_are = ap (λ (l : List (Entry Global)). e ∷ l) f.entries_are ∙ ap (λ (o : Option (Entry Global)). option_to_list o ++ entries_of (users_after users d.command) f.front) (sym is);
     }
 
-front_of : (users : List (User Global)) (ds : List (Decided Global)) (k : ℕ) → FrontOf users ds (take k (entries_of users ds))
+pub front_of : (users : List (User Global)) (ds : List (Decided Global)) (k : ℕ) → FrontOf users ds (take k (entries_of users ds))
 front_of users ds zero = record { front = []; rest = ds; parts = refl; entries_are = refl }
 front_of users [] (suc k) = record { front = []; rest = []; parts = refl; entries_are = refl }
 front_of users (d ∷ ds) (suc k) = next_front users d ds k (entry_in_slot users d.slot d.command) refl (λ j. front_of (users_after users d.command) ds j)
 
-take-map : {X Y : Type 0} (f : X → Y) (k : ℕ) (xs : List X) → take k (map f xs) ≡ map f (take k xs)
+pub take-map : {X Y : Type 0} (f : X → Y) (k : ℕ) (xs : List X) → take k (map f xs) ≡ map f (take k xs)
 take-map f zero xs = refl
 take-map f (suc k) [] = refl
 take-map f (suc k) (x ∷ xs) = ap (λ l. f x ∷ l) (take-map f k xs)
@@ -322,7 +327,7 @@ after_crash e synced later left loaded can is segment =
     restart_of e synced later segment.payloads loaded can segment.taken read.0
 
 -- a cut after records leaves them whole
-whole_in-more : (ps qs : List (List ℕ)) (n : ℕ) → size_of ps ≤ n → take (whole_in n (ps ++ qs)) (ps ++ qs) ≡ ps ++ take (whole_in (n - size_of ps) qs) qs
+pub whole_in-more : (ps qs : List (List ℕ)) (n : ℕ) → size_of ps ≤ n → take (whole_in n (ps ++ qs)) (ps ++ qs) ≡ ps ++ take (whole_in (n - size_of ps) qs) qs
 whole_in-more [] qs n long = ap (λ (m : ℕ). take (whole_in m qs) qs) (omega arith)
 whole_in-more (p ∷ ps) qs n long =
     let m = n - (FRAME + length p) in

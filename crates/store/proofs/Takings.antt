@@ -8,7 +8,7 @@ use Rattle.maildrop.specs.declared.command.Command.{Command}
 use Rattle.records.specs.Spelling.{size_of, spelled}
 use Rattle.records.proofs.Files.{size-append, spelled-append}
 use Rattle.ledger.specs.Taking.{Decided, LedgerState, entries_of}
-use Rattle.store.specs.Loading.{entry_payload}
+use Rattle.store.specs.Whole.{entry_payload}
 use Rattle.store.specs.Restarts.{users_through}
 use Rattle.store.specs.Running.{Addition, HaveTaken, decided_of, payloads_of, with_payloads}
 use Rattle.store.proofs.Restarts.{entries-append}

@@ -5,13 +5,18 @@ use Rattle.std.specs.Str.{bytes_eq}
 use Rattle.std.specs.declared.alloc.Global.{Global}
 use Rattle.maildrop.specs.Kept.{KeptMaildrop, KeptTable, kept_for, nothing_kept}
 use Rattle.maildrop.specs.Changes.{changed}
-use Rattle.ledger.specs.Payloads.{payload, begin_payload, opened_payload}
+use Rattle.ledger.specs.Payloads.{begin_payload, opened_payload}
 use Rattle.ledger.specs.Reading.{record_in}
 use Rattle.ledger.specs.declared.entry.Entry.{Entry}
 use Rattle.ledger.specs.declared.entry.Record.TheVariants as said
 use Rattle.records.specs.Files.{IsReadAs, IsUndamaged}
 use Rattle.records.specs.Readers.{HasRead}
 use Rattle.records.specs.Readers as readers
+use Rattle.records.specs.Spelling.{file_of}
+use Rattle.records.specs.declared.ending.Ending.{Ending}
+use Rattle.records.specs.declared.ending.Ending.TheVariants.{Clean}
+use Rattle.store.specs.Segments.{ReadSegment}
+use Rattle.store.specs.Whole.{entry_payload}
 use Rattle.store.specs.declared.fault.StoreFault.{StoreFault}
 use Rattle.store.specs.declared.fault.StoreFault.TheVariants as fault
 use Rattle.store.specs.declared.loading.Loaded.{Loaded}
@@ -26,9 +31,6 @@ pub record Loading (A : Type 0) : Type 0 where
   pub changes : ℕ
 
 module _ {A : Type 0} where
-  abbrev pub entry_payload : Entry A → List ℕ
-  entry_payload entry = payload entry.slot entry.name entry.change
-
   -- an entry is what its payload says
   abbrev pub IsReadBack : Entry A → Type 0
   IsReadBack entry = record_in (entry_payload entry) ≡ Ok (said.Entry entry)
@@ -71,6 +73,14 @@ module _ {A : Type 0} where
     pub remaining_is : remaining ≡ Some rest
     pub step : IsInStep front reader l
 
+-- A file with these bytes was read to its end, which is this one, and all of its records were taken. If it is clean, the bytes
+-- are a head with its salt and these records.
+pub record IsReadBy (salt : Option ℕ) (ending : Ending) (bytes : List ℕ) (l : Loading Global) : Type 0 where
+  pub payloads : List (List ℕ)
+  pub loaded : HasLoaded payloads l
+  pub read : IsReadAs bytes payloads ending
+  pub clean : (s size : ℕ) → salt ≡ Some s → ending ≡ Clean size → (bytes ≡ file_of s payloads) × (size ≡ length bytes)
+
 -- what was loaded, as a loader has it in the end
 abbrev pub loading_of : Loaded → Loading Global
 loading_of loaded = record { number = loaded.number; stage = Running; kept = loaded.kept; changes = loaded.changes }
@@ -83,6 +93,14 @@ pub record IsSegment (number : ℕ) (bytes : List ℕ) (loaded : Loaded) : Type 
   pub undamaged : IsUndamaged loaded.ending
   pub taken : HasLoaded payloads (loading_of loaded)
   pub number_is : loaded.number ≡ number
+
+-- The segment of which this was loaded was read to the end of its last record: its bytes are the head with this salt and the
+-- records whose changes were loaded, up to this size.
+pub record IsCleanOf (loaded : Loaded) (clean : ReadSegment) : Type 0 where
+  pub number_is : clean.number ≡ loaded.number
+  pub segment : IsSegment loaded.number clean.bytes loaded
+  pub bytes_are : clean.bytes ≡ file_of clean.salt segment.payloads
+  pub size_is : clean.size ≡ length clean.bytes
 
 -- a fault that says where a segment is damaged is one of the segment with this number
 abbrev pub NamesSegment : ℕ → StoreFault → Type 0

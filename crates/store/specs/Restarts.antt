@@ -9,13 +9,14 @@ use Rattle.maildrop.specs.Maildrop.{closed}
 use Rattle.maildrop.specs.Name.{are_different}
 use Rattle.maildrop.specs.Office.{User, maildrop_of, commands_of, opened_user, users_after}
 use Rattle.maildrop.specs.Reopening.{after_steps}
-use Rattle.records.specs.Spelling.{ArePayloads, file_of}
+use Rattle.records.specs.Spelling.{ArePayloads, file_of, spelled}
 use Rattle.ledger.specs.Changes.{performing, snapshot_of}
 use Rattle.ledger.specs.Payloads.{entry}
 use Rattle.ledger.specs.Taking.{Decided, commands_in, entries_of}
 use Rattle.ledger.specs.declared.entry.Entry.{Entry}
-use Rattle.store.specs.Loading.{IsReadBack, entry_payload}
-use Rattle.store.specs.Segments.{names_in, snapshot_payloads, with_last_keys}
+use Rattle.store.specs.Whole.{entry_payload}
+use Rattle.store.specs.Loading.{IsCleanOf, IsReadBack}
+use Rattle.store.specs.Segments.{ReadSegment, keeps_keys, names_in, snapshot_payloads, with_last_keys}
 use Rattle.store.specs.declared.loading.Loaded.{Loaded}
 
 -- an epoch: the number and the salt of its segment, and what it opened with
@@ -62,6 +63,21 @@ pub record CanBeWritten (e : WrittenEpoch) (decided : List (Decided Global)) : T
   pub different : IsTrue (are_different (names_in e.kept))
   pub payloads_fit : ArePayloads (payloads_after e decided)
   pub read_back : AllByRecursion IsReadBack (snapshot_entries e.keys e.kept ++ entries_of (users_in e) decided)
+
+-- An epoch that goes on in a segment that was read: it opens with all that was loaded of it. What the laws ask of its commands
+-- is as above.
+pub record GoesOn (e : WrittenEpoch) (loaded : Loaded) (read : ReadSegment) (decided : List (Decided Global)) : Type 0 where
+  pub clean : IsCleanOf loaded read
+  pub salt_is : e.salt ≡ read.salt
+  pub kept_is : e.kept ≡ loaded.kept
+  pub keys_stay : IsTrue (keeps_keys e.keys e.kept)
+  pub salt_fits : e.salt < 2 ^ 64
+  pub payloads_fit : ArePayloads (payloads_between e [] decided)
+  pub read_back : AllByRecursion IsReadBack (entries_of (users_in e) decided)
+
+-- the file of such an epoch after these commands
+abbrev pub file_further : WrittenEpoch → ReadSegment → List (Decided Global) → List ℕ
+file_further e read decided = read.bytes ++ spelled e.salt read.size (payloads_between e [] decided)
 
 -- What is kept under a name after commands. If it is the name of a user of the epoch: what is kept of the user's maildrop after
 -- those of the commands that are the user's. If not: what was kept under it before the epoch, with the last keys.

@@ -2,7 +2,8 @@
 ghost use Rattle.std.specs.Prelude.{◌≡◌, ◌<◌, ◌+◌, ◌%◌, ◌^◌, ◌⊎◌, ◌∷◌, [], true, false, List, ℕ, IfOk, IfSome};
 ghost use Rattle.std.specs.declared.alloc.Global.{Global};
 ghost use Rattle.maildrop.specs.declared.command.Command.{Command};
-ghost use Rattle.store.specs.Running.{HaveTaken, IsRunning, IsWhole, TakesSuch, decided_of};
+ghost use Rattle.store.specs.Whole.{IsRunning, IsWhole};
+ghost use Rattle.store.specs.Running.{HaveTaken, TakesSuch, decided_of};
 
 use crate::device::Device;
 use crate::pending::Pending;

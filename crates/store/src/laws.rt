@@ -1,11 +1,12 @@
 //! Laws of what a restart finds. Each is a function that does nothing: its contract is the law.
-ghost use Rattle.std.specs.Prelude.{ℕ, List, ◌++◌, ◌+◌, ◌≤◌, length, take};
+ghost use Rattle.std.specs.Prelude.{ℕ, List, [], ◌++◌, ◌+◌, ◌≤◌, length, take};
 ghost use Rattle.std.specs.declared.alloc.Global.{Global};
 ghost use Rattle.ledger.specs.Taking.{Decided};
 ghost use Rattle.records.specs.Files.{IsLeft};
 ghost use Rattle.records.specs.Spelling.{size_of};
 ghost use Rattle.store.specs.Loading.{IsSegment};
-ghost use Rattle.store.specs.Restarts.{WrittenEpoch, CanBeWritten, IsRestart, file_after, payloads_after, payloads_between};
+ghost use Rattle.store.specs.Restarts.{WrittenEpoch, CanBeWritten, GoesOn, IsRestart, file_after, file_further, payloads_after, payloads_between};
+ghost use Rattle.store.specs.Segments.{ReadSegment};
 ghost use Rattle.store.specs.declared.loading.Loaded.{Loaded};
 
 use crate::batch::HEAD;
@@ -27,5 +28,19 @@ pub fn a_restart_finds_what_was_synced()
         CanBeWritten e (synced ++ later) →
         length (file_after e synced) ≤ n →
         IsSegment e.number (take n (file_after e (synced ++ later))) loaded →
+        IsRestart e synced later loaded }
+{}
+
+/// The same of an epoch that goes on in a segment that was read (`DataFolder::go_on`), as the first one of a process may.
+pub fn a_restart_finds_what_was_added()
+    ensures crash { (e : WrittenEpoch) (base : Loaded) (read : ReadSegment) (synced later : List (Decided Global)) (left : List ℕ) (loaded : Loaded) →
+        GoesOn e base read (synced ++ later) →
+        IsLeft e.salt (read.size + size_of (payloads_between e [] synced)) (payloads_between e synced later) left →
+        IsSegment e.number (file_further e read synced ++ left) loaded →
+        IsRestart e synced later loaded }
+    ensures cut { (e : WrittenEpoch) (base : Loaded) (read : ReadSegment) (synced later : List (Decided Global)) (n : ℕ) (loaded : Loaded) →
+        GoesOn e base read (synced ++ later) →
+        length (file_further e read synced) ≤ n →
+        IsSegment e.number (take n (file_further e read (synced ++ later))) loaded →
         IsRestart e synced later loaded }
 {}

@@ -1,7 +1,7 @@
 //! A segment whose epoch runs.
 ghost use Rattle.std.specs.Prelude.{◌≡◌, ◌++◌, true, false};
 ghost use Rattle.store.specs.Device.{BeginsWith};
-ghost use Rattle.store.specs.Running.{IsRunning, IsWhole};
+ghost use Rattle.store.specs.Whole.{IsRunning, IsWhole};
 
 use crate::device::Device;
 use crate::growing::Growing;
@@ -20,7 +20,7 @@ pub(crate) struct Running<D: Device> {
 
 impl<D: Device> Model for Running<D> {
     ghost use Rattle.store.specs.Growing.{GrowingFile};
-    ghost use Rattle.store.specs.Running.{IsRunning};
+    ghost use Rattle.store.specs.Whole.{IsRunning};
 
     ghost Value = { GrowingFile D };
 

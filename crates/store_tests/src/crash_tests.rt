@@ -117,6 +117,9 @@ fn what_was_settled_outlives_a_crash(rt: HostRuntime) -> Result<(), Fail> {
                 Err(_) => return Err(Fail::new("not loaded")),
             }
         }
+        // No epoch goes on in a file of which a call has failed.
+        let loaded = folder.load_newest()?;
+        check(loaded.clean.is_some() == (changes == 5), "clean or not")?;
     }
     Ok(())
 }

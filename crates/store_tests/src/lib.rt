@@ -9,3 +9,5 @@ mod crash_tests;
 mod failing;
 #[cfg(test)]
 mod folder_tests;
+#[cfg(test)]
+mod go_on_tests;

@@ -1,5 +1,5 @@
 use Rattle.std.proofs.Common.{◌∙◌, ◌++◌, ℕ, List, ap, sym, subst}
-use Rattle.store.specs.Running.{IsRunning}
+use Rattle.store.specs.Whole.{IsRunning}
 use Rattle.store.proofs.Additions.{running_grows}
 use Rattle.store.proofs.running.Running.commit.Goals as goal
 
