@@ -6,7 +6,7 @@
 //! bytes of SipHash-1-3 over the salt, the record's place in the file and the bytes. Places count from the first byte of
 //! the file, so the first record stands at 16. Numbers are unsigned, the most significant byte first.
 //!
-//! `put_head` and `append` write. A `Reader` is given the file by pieces. It keeps the bytes that it has not
+//! `put_head` and `append` write, and `seal`, which copies no payload. A `Reader` is given the file by pieces. It keeps the bytes that it has not
 //! passed: fewer than the largest record has, once `next` has answered `None`.
 //!
 //! A file may end inside a record, as a write leaves it that was cut short. Such a file is cut. If a record is bad, the
@@ -31,6 +31,6 @@ pub use laws::{
     a_crash_leaves_what_was_synced, a_cut_file_is_read_to_the_cut, a_file_grows_by_records,
     a_file_is_read_back, a_file_is_read_in_one_way, damage_is_told_from_a_torn_end,
 };
-pub use place::LARGEST_PAYLOAD;
+pub use place::{LARGEST_PAYLOAD, RECORD_HEAD};
 pub use reader::Reader;
-pub use writing::{append, put_head};
+pub use writing::{append, put_head, seal};

@@ -10,7 +10,7 @@ use crate::sum::sum_of;
 pub const LARGEST_PAYLOAD: usize = 1_073_745_920;
 
 /// How many bytes the head of a record has.
-const RECORD_HEAD: usize = 12;
+pub const RECORD_HEAD: usize = 12;
 
 /// How many bytes a sum has.
 const SUM: usize = 8;
