@@ -1,12 +1,14 @@
 //! The journal of an epoch: writes what the epoch's commands change into its segment, and answers once it is on the disk.
-ghost use Rattle.std.specs.Prelude.{◌≡◌, ◌<◌, ◌+◌, ◌%◌, ◌^◌, ◌⊎◌, ◌∷◌, [], true, false, List, ℕ, IfOk, IfSome};
+ghost use Rattle.std.specs.Prelude.{◌≡◌, ◌<◌, ◌+◌, ◌%◌, ◌^◌, ◌⊎◌, ◌++◌, ◌∷◌, [], true, false, List, ℕ, length, IfOk, IfSome};
 ghost use Rattle.std.specs.declared.alloc.Global.{Global};
 ghost use Rattle.maildrop.specs.declared.command.Command.{Command};
-ghost use Rattle.store.specs.Whole.{IsRunning, IsWhole};
-ghost use Rattle.store.specs.Running.{HaveTaken, TakesSuch, decided_of};
+ghost use Rattle.store.specs.Whole.{IsEnded, IsNumbered, IsWhole};
+ghost use Rattle.store.specs.Running.{HaveTaken, IsAddition, TakesSuch, decided_of};
 
-use crate::device::Device;
-use crate::pending::Pending;
+use crate::device::{Device, DeviceError};
+use crate::file_device::FileDevice;
+use crate::opened::{EndedSegment, OpenedSegment};
+use crate::pending::{Closed, Pending};
 use crate::running::Running;
 use ballot::{Memory, Slot};
 use ledger::Ledger;
@@ -30,9 +32,9 @@ pub trait Performer {
 struct State {
     alloc: Global,
     ledger: Ledger,
-    /// The records that nobody is writing yet.
+    /// The entries that nobody is writing yet.
     pending: Pending,
-    /// How many times records were added to those that are pending.
+    /// How many times entries were added to those that are pending.
     added: u64,
     /// How many of these times are on the disk.
     synced: u64,
@@ -51,14 +53,14 @@ pub struct Journal<D: Device> {
 }
 
 impl State {
-    /// Takes the next command, and adds the record of what it changes to those that are pending.
+    /// Takes the next command, and adds what it changes to the entries that are pending.
     fn take(&mut self, slot: u64, command: &SharedCommand) -> bool
         ensures taken { result ≡ true → HaveTaken (decided_of ((slot, command.now) ∷ [])) self.old.ledger self.old.pending self.new.ledger self.new.pending }
         ensures rest { self.new ≡ record self.old { ledger = self.new.ledger; pending = self.new.pending } }
     {
         let mut payload = Vec::new(self.alloc);
         match self.ledger.take(slot, command.get(), &mut payload) {
-            Ok(true) => self.pending.add(&payload).is_ok(),
+            Ok(true) => self.pending.add(&payload, self.added).is_ok(),
             Ok(false) => true,
             Err(_) => false,
         }
@@ -83,8 +85,8 @@ impl State {
     fn take_performed<P: Performer>(&mut self, performer: &P) -> bool
         ensures taken { result ≡ true → TakesSuch (P.performed performer.now self.old.ledger.taken) self.old.ledger self.old.pending self.new.ledger self.new.pending }
 
-        // The records that it adds are counted as one time, if there are any.
-        ensures counted { result ≡ true → self.old.pending.place < self.new.pending.place → self.new.added ≡ (self.old.added + 1) % 2 ^ 64 }
+        // The entries that it adds are counted as one time, if there are any.
+        ensures counted { result ≡ true → length self.old.pending < length self.new.pending → self.new.added ≡ (self.old.added + 1) % 2 ^ 64 }
         ensures uncounted { result ≡ true → self.new.pending ≡ self.old.pending → self.new.added ≡ self.old.added }
         ensures all_counted { result ≡ true → self.new.added ≡ self.old.added → self.new.pending ≡ self.old.pending }
         ensures none_counted { result ≡ false → self.new.added ≡ self.old.added }
@@ -104,12 +106,12 @@ impl State {
         let Ok(Some(commands)) = performer.performed_after(self.ledger.taken()) else {
             return false;
         };
-        let (_, _, before) = self.pending.places();
+        let before = self.pending.size();
         if !self.take_all(&commands) {
             self.has_failed = true;
             return false;
         }
-        let (_, _, now) = self.pending.places();
+        let now = self.pending.size();
         if now > before {
             self.added = self.added.wrapping_add(1);
         }
@@ -118,16 +120,17 @@ impl State {
 }
 
 impl State {
-    /// The records that are pending. The caller writes them, and nobody else does meanwhile.
-    fn begin_write(&mut self) -> Pending
-        ensures taken { result ≡ self.old.pending }
+    /// The oldest batch that is pending, with the time up to which all is in it or was taken before. The caller writes it, and
+    /// nobody else does meanwhile.
+    fn begin_write(&mut self) -> Closed
+        ensures taken { self.old.pending ≡ result.batch ++ self.new.pending }
+        ensures entries { IsAddition result.batch }
         ensures ledger { self.new.ledger ≡ self.old.ledger }
-        ensures left { self.new.pending ≡ record { salt = self.old.pending.salt; start = self.old.pending.place; place = self.old.pending.place; bytes = [] } }
         ensures busy { self.new.is_busy ≡ true }
         ensures rest { self.new ≡ record self.old { pending = self.new.pending; is_busy = self.new.is_busy } }
     {
         self.is_busy = true;
-        self.pending.take(self.alloc)
+        self.pending.take(self.added)
     }
 
     /// All that was added up to this time is on the disk, or the write has failed.
@@ -148,29 +151,26 @@ impl State {
 }
 
 impl<D: Device> Journal<D> {
-    /// The journal of an epoch that begins with this ledger. Its records go into a file with this salt and this size, all of
-    /// which is on the disk.
-    pub fn new(alloc: Global, ledger: Ledger, device: D, salt: u64, place: u64) -> Self
-        requires synced { D.synced device ≡ D.seen device }
-        requires running { IsRunning salt place (D.synced device) }
-    {
+    /// The journal of an epoch that begins with this ledger. Its entries are added to this segment.
+    pub fn new(alloc: Global, ledger: Ledger, segment: OpenedSegment<D>) -> Self {
         Journal {
             state: Mutex::new(State {
                 alloc,
                 ledger,
-                pending: Pending::new(alloc, salt, place),
+                pending: Pending::new(alloc),
                 added: 0,
                 synced: 0,
                 is_busy: false,
                 has_failed: false,
             }),
             written: Condvar::new(),
-            file: Mutex::new(Running::new(device, salt, place)),
+            file: Mutex::new(Running::new(segment)),
         }
     }
 
     /// Takes the commands that the performer returns, and waits until what they and those taken before them change is on the
-    /// disk. A thread that finds no other one writing writes for all that wait. If nothing is left to write it doesn't wait.
+    /// disk. A thread that finds no other one writing writes for all that wait, one batch after another. If nothing is left to
+    /// write it doesn't wait.
     ///
     /// False if the performer answers `None` or `Memory`, or if a command couldn't be taken or a write has failed, in this call
     /// or before. After the last two it is false for good.
@@ -191,10 +191,10 @@ impl<D: Device> Journal<D> {
                 state = self.written.wait(rt, state);
                 continue;
             }
-            let upto = state.added;
-            let records = state.begin_write();
+            let oldest = state.begin_write();
+            let upto = oldest.upto;
             drop(state);
-            let is_written = self.file.lock(rt).commit(&records);
+            let is_written = self.file.lock(rt).commit(oldest.batch);
             state = self.state.lock(rt);
             state.end_write(upto, is_written);
             self.written.notify_all();
@@ -210,8 +210,31 @@ impl<D: Device> Journal<D> {
         self.file.into_inner().into_device()
     }
 
+    /// Ends the segment, once no thread has the journal: adds an empty batch, waits until it is on the disk, and returns the
+    /// file, and what `DataFolder::note_clean` notes. Nothing more can be written then. If that fails, or if a call of `settle`
+    /// has failed, the segment isn't ended.
+    pub fn finish(self) -> Result<(D, EndedSegment), DeviceError>
+    where
+        D: Drop,
+        ensures ended { IfOk result (λ r. IsEnded (D.synced r.0)) }
+        ensures numbered { IfOk result (λ r. IsNumbered r.1.number r.1.salt r.1.size (D.synced r.0)) }
+    {
+        let state = self.state.into_inner();
+        if state.has_failed {
+            return Err(DeviceError);
+        }
+        self.file.into_inner().finish(state.alloc)
+    }
+
     /// Whether a call of `settle` has failed.
     pub fn has_failed<R: Wait>(&self, rt: &R) -> bool {
         self.state.lock(rt).has_failed
+    }
+}
+
+impl Journal<FileDevice> {
+    /// Whether a write was refused since another process uses the file or the folder. `has_failed` answers true then.
+    pub fn is_in_use<R: Wait>(&self, rt: &R) -> bool {
+        self.file.lock(rt).device().is_in_use()
     }
 }

@@ -1,72 +1,136 @@
-//! Records of an epoch that are to be added to its segment.
-ghost use Rattle.std.specs.Prelude.{◌≡◌, ◌∷◌, [], OnOk, OnErr};
-ghost use Rattle.store.specs.Running.{Addition, IsAddition, IsEntry, with_payloads};
+//! Entries of an epoch that are to be added to its segment, in batches.
+ghost use Rattle.std.specs.Prelude.{◌≡◌, ◌++◌, ◌∷◌, [], length, OnOk, OnErr};
+ghost use Rattle.store.specs.Running.{IsAddition, IsEntry, with_payloads};
 
-use crate::batch::Batch;
 use crate::fault::StoreFault;
+use batches::Batch;
 use std::alloc::Global;
+use std::collections::VecDeque;
 use std::marker::Model;
 use std::mem;
 
-/// Records of entries that are to be added to a file with this salt, in which they begin and end at these places.
+/// From so many bytes on a batch takes no more entries: 16 MiB. A longer entry has a batch of its own.
+const FULL: usize = 1 << 24;
+
+/// How many bytes stand before an entry in a batch.
+const LENGTH: usize = 4;
+
+/// A batch that takes no more entries.
+#[derive(Drop)]
+pub(crate) struct Closed {
+    pub batch: Batch,
+    /// All entries that were added up to this time are in it, or in batches before it.
+    pub upto: u64,
+}
+
+/// Entries that are to be added to a file, in batches. Contracts see the contents of these, one after another.
 #[derive(Drop)]
 pub(crate) struct Pending {
-    batch: Batch,
-    start: u64,
+    alloc: Global,
+    /// Batches that take no more entries, the oldest first.
+    closed: VecDeque<Closed>,
+    /// The batch that takes entries.
+    last: Batch,
+    /// How many bytes the contents have.
+    size: u64,
 }
 
 impl Model for Pending {
-    ghost use Rattle.store.specs.Running.{Addition, IsAddition};
+    ghost use Rattle.std.specs.Prelude.{ℕ, List, ◌++◌};
+    ghost use Rattle.store.specs.Running.{ArePending, contents_in};
 
-    ghost Value = { Addition };
+    ghost Value = { List ℕ };
 
-    ghost view = { λ p. record { salt = p.batch.salt; start = p.start; place = p.batch.place; bytes = p.batch.bytes } };
+    ghost view = { λ p. contents_in p.closed.items ++ p.last };
 
-    ghost invariant = { λ p. IsAddition (record { salt = p.batch.salt; start = p.start; place = p.batch.place; bytes = p.batch.bytes }) };
+    ghost invariant = { λ p. ArePending p.closed.items p.last p.size };
 }
 
 impl Pending {
-    /// No records yet, after a file of this size. Takes no memory.
-    pub(crate) fn new(alloc: Global, salt: u64, place: u64) -> Self
-        ensures { result ≡ record { salt = salt; start = place; place = place; bytes = [] } }
+    /// No entries yet. Takes no memory.
+    pub(crate) fn new(alloc: Global) -> Self
+        ensures { result ≡ [] }
     {
         Pending {
-            batch: Batch::new(alloc, salt, place),
-            start: place,
+            alloc,
+            closed: VecDeque::new(alloc),
+            last: Batch::new(alloc),
+            size: 0,
         }
     }
 
-    /// The bytes of the records.
-    pub(crate) fn get(&self) -> &[u8]
-        ensures bytes { result.now ≡ self.now.bytes }
-        ensures are { IsAddition self.now }
+    /// How many bytes the contents have.
+    pub(crate) fn size(&self) -> u64
+        ensures { result ≡ length self.now }
     {
-        self.batch.get()
+        self.size
     }
 
-    /// Of what file they are, and where they begin and end in it.
-    pub(crate) fn places(&self) -> (u64, u64, u64)
-        ensures { result ≡ (self.now.salt, self.now.start, self.now.place) }
+    /// Closes the batch that takes entries. All entries up to this time are in it, or in batches before it.
+    fn close(&mut self, upto: u64) -> Result<(), StoreFault>
+        ensures { self.new ≡ self.old }
     {
-        (self.batch.salt(), self.start, self.batch.place())
+        let batch = mem::replace(&mut self.last, Batch::new(self.alloc));
+        match self.closed.push_back(Closed { batch, upto }) {
+            Ok(()) => Ok(()),
+            Err(failed) => {
+                self.last = failed.value.batch;
+                Err(StoreFault::Memory)
+            }
+        }
     }
 
-    /// Adds the record of an entry. After an error nothing has changed.
-    pub(crate) fn add(&mut self, payload: &[u8]) -> Result<(), StoreFault>
+    /// Whether another batch should take an entry of this size.
+    fn is_full(&self, size: usize) -> bool {
+        !self.last.is_empty() && self.last.size().saturating_add(size) > FULL
+    }
+
+    /// Adds an entry to the batch that takes entries. After an error nothing has changed: `Memory`, or `Write` if it has no room.
+    fn put(&mut self, payload: &[u8]) -> Result<(), StoreFault>
         requires { IsEntry payload.now }
         ensures added { OnOk result (self.new ≡ with_payloads self.old (payload.now ∷ [])) }
         ensures kept { OnErr result (self.new ≡ self.old) }
     {
-        self.batch.add(payload)?;
+        if !self.last.has_room(payload.len()) {
+            return Err(StoreFault::Write);
+        }
+        let Some(size) = self.size.checked_add((LENGTH + payload.len()) as u64) else {
+            return Err(StoreFault::Write);
+        };
+        self.last.add(payload)?;
+        self.size = size;
         Ok(())
     }
 
-    /// Takes all records out. Others can be added after them.
-    pub(crate) fn take(&mut self, alloc: Global) -> Pending
-        ensures taken { result ≡ self.old }
-        ensures left { self.new ≡ record { salt = self.old.salt; start = self.old.place; place = self.old.place; bytes = [] } }
+    /// Adds an entry. All entries up to this time were added before. After an error nothing has changed: `Memory`, or `Write` if
+    /// no batch has room for it.
+    pub(crate) fn add(&mut self, payload: &[u8], upto: u64) -> Result<(), StoreFault>
+        requires { IsEntry payload.now }
+        ensures added { OnOk result (self.new ≡ with_payloads self.old (payload.now ∷ [])) }
+        ensures kept { OnErr result (self.new ≡ self.old) }
     {
-        let (salt, _, place) = self.places();
-        mem::replace(self, Pending::new(alloc, salt, place))
+        if self.is_full(payload.len()) {
+            self.close(upto)?;
+        }
+        self.put(payload)
+    }
+
+    /// Takes the oldest batch out. If it is the one that takes entries, all entries up to this time are in it or in batches
+    /// before it.
+    pub(crate) fn take(&mut self, upto: u64) -> Closed
+        ensures parts { self.old ≡ result.batch ++ self.new }
+        ensures entries { IsAddition result.batch }
+    {
+        match self.closed.pop_front() {
+            Some(closed) => {
+                self.size -= closed.batch.size() as u64;
+                closed
+            }
+            None => {
+                let batch = mem::replace(&mut self.last, Batch::new(self.alloc));
+                self.size = 0;
+                Closed { batch, upto }
+            }
+        }
     }
 }

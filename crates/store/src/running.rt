@@ -1,11 +1,14 @@
 //! A segment whose epoch runs.
-ghost use Rattle.std.specs.Prelude.{◌≡◌, ◌++◌, true, false};
+ghost use Rattle.std.specs.Prelude.{◌≡◌, ◌++◌, [], true, false, IfOk};
 ghost use Rattle.store.specs.Device.{BeginsWith};
-ghost use Rattle.store.specs.Whole.{IsRunning, IsWhole};
+ghost use Rattle.store.specs.Running.{IsAddition, IsCommitted};
+ghost use Rattle.store.specs.Whole.{IsEnded, IsNumbered, IsWhole};
 
-use crate::device::Device;
+use crate::device::{Device, DeviceError};
 use crate::growing::Growing;
-use crate::pending::Pending;
+use crate::opened::{EndedSegment, OpenedSegment};
+use batches::Batch;
+use std::alloc::Global;
 use std::marker::Model;
 
 /// The file of a segment whose epoch runs. The bytes that are on the disk for good are its whole snapshot and whole entries.
@@ -13,57 +16,96 @@ use std::marker::Model;
 #[derive(Drop)]
 pub(crate) struct Running<D: Device> {
     file: Growing<D>,
+    number: u64,
     salt: u64,
     /// How many bytes are on the disk.
     size: u64,
 }
 
 impl<D: Device> Model for Running<D> {
-    ghost use Rattle.store.specs.Growing.{GrowingFile};
-    ghost use Rattle.store.specs.Whole.{IsRunning};
+    ghost use Rattle.store.specs.Growing.{RunningFile};
+    ghost use Rattle.store.specs.Whole.{IsNumbered};
 
-    ghost Value = { GrowingFile D };
+    ghost Value = { RunningFile D };
 
-    ghost view = { λ r. r.file };
+    ghost view = { λ r. record { number = r.number; salt = r.salt; size = r.size; file = r.file } };
 
-    ghost invariant = { λ r. IsRunning r.salt r.size (D.synced r.file.device) };
+    ghost invariant = { λ r. IsNumbered r.number r.salt r.size (D.synced r.file.device) };
 }
 
 impl<D: Device> Running<D> {
-    /// A file with this salt, and so many bytes, all of which are on the disk.
-    pub(crate) fn new(device: D, salt: u64, size: u64) -> Self
-        requires synced { D.synced device ≡ D.seen device }
-        requires running { IsRunning salt size (D.synced device) }
-        ensures { result ≡ record { device = device; failed = false } }
+    /// The file of a segment that is open to append.
+    pub(crate) fn new(segment: OpenedSegment<D>) -> Self
+        ensures { result ≡ record { number = segment.number; salt = segment.salt; size = segment.size; file = record { device = segment.device; failed = false } } }
     {
+        let parts = segment.into_parts();
         Running {
-            file: Growing::new(device),
-            salt,
-            size,
+            file: Growing::new(parts.device),
+            number: parts.number,
+            salt: parts.salt,
+            size: parts.size,
         }
     }
 
-    /// Adds records, and waits until they are on the disk. False if they aren't of this file or the file has failed.
-    pub(crate) fn commit(&mut self, records: &Pending) -> bool
-        ensures kept { result ≡ true → D.synced self.new.device ≡ D.synced self.old.device ++ records.now.bytes }
-        ensures none_lost { result ≡ false → D.synced self.new.device ≡ D.synced self.old.device }
+    /// Adds a batch of entries, and waits until it is on the disk. False if memory ran out or the file has failed.
+    pub(crate) fn commit(&mut self, batch: Batch) -> bool
+        requires { IsAddition batch }
+        ensures kept { result ≡ true → IsCommitted self.old.salt (D.synced self.old.file.device) batch (D.synced self.new.file.device) }
+        ensures none_lost { result ≡ false → D.synced self.new.file.device ≡ D.synced self.old.file.device }
     {
-        let (salt, start, place) = records.places();
-        if salt != self.salt || start != self.size {
+        let Ok(bytes) = batch.into_record(self.salt, self.size) else {
             return false;
-        }
-        match self.file.commit(records.get()) {
+        };
+        let Some(size) = self.size.checked_add(bytes.len() as u64) else {
+            return false;
+        };
+        match self.file.commit(&bytes) {
             Ok(()) => {
-                self.size = place;
+                self.size = size;
                 true
             }
             Err(_) => false,
         }
     }
 
+    /// What there is of the segment once it is ended.
+    fn ended(&self) -> EndedSegment
+        ensures number { result.number ≡ self.now.number }
+        ensures salt { result.salt ≡ self.now.salt }
+        ensures size { result.size ≡ self.now.size }
+        ensures numbered { IsNumbered self.now.number self.now.salt self.now.size (D.synced self.now.file.device) }
+    {
+        EndedSegment::new(self.number, self.salt, self.size)
+    }
+
+    /// Ends the segment: adds an empty batch, waits until it is on the disk, and returns the file, and what can be noted of it.
+    /// So damage of a batch that has entries isn't taken for a torn end. If that fails the file has failed.
+    pub(crate) fn finish(mut self, alloc: Global) -> Result<(D, EndedSegment), DeviceError>
+    where
+        D: Drop,
+        ensures added { IfOk result (λ r. IsCommitted self.salt (D.synced self.file.device) [] (D.synced r.0)) }
+        ensures ended { IfOk result (λ r. IsEnded (D.synced r.0)) }
+        ensures numbered { IfOk result (λ r. IsNumbered r.1.number r.1.salt r.1.size (D.synced r.0)) }
+    {
+        // Only a proof reads it, and what its clause says.
+        let _before = self.ended();
+        if !self.commit(Batch::new(alloc)) {
+            return Err(DeviceError);
+        }
+        let ended = self.ended();
+        Ok((self.file.into_device(), ended))
+    }
+
+    /// The file, to look at.
+    pub(crate) fn device(&self) -> &D
+        ensures { result.now ≡ self.now.file.device }
+    {
+        self.file.device()
+    }
+
     /// The file.
     pub(crate) fn into_device(self) -> D
-        ensures device { result ≡ self.device }
+        ensures device { result ≡ self.file.device }
         ensures whole { IsWhole (D.synced result) }
     {
         self.file.into_device()
