@@ -4,7 +4,7 @@ use Rattle.std.specs.Net.Addr.{ipv4_octets}
 use Rattle.std.specs.declared.net.ip_addr.IpAddr.{IpAddr}
 use Rattle.std.specs.declared.net.ip_addr.IpAddr.TheVariants.{V4, V6}
 use Rattle.ports.specs.declared.fault.Fault.{Fault}
-use Rattle.ports.specs.declared.fault.Fault.TheVariants.{Value, Account, NameTwice, Listen, ListenSocket, Reach, ReachSocket, StartedBefore, Mark, Log, InUse, NotBegun, NotEmpty, Damaged, NoMajority, Memory, Read, Write}
+use Rattle.ports.specs.declared.fault.Fault.TheVariants.{Value, Account, NameTwice, Listen, ListenSocket, Reach, ReachSocket, StartedBefore, Mark, Log, InUse, NotBegun, NotEmpty, Damaged, Missing, NoteDamaged, NoMajority, Memory, Read, Write}
 
 abbrev pub status_at : Fault → ℕ
 status_at Value = 2
@@ -21,6 +21,8 @@ status_at InUse = 1
 status_at NotBegun = 1
 status_at NotEmpty = 1
 status_at (Damaged segment at) = 1
+status_at (Missing segment) = 1
+status_at NoteDamaged = 1
 status_at NoMajority = 1
 status_at Memory = 1
 status_at Read = 1
@@ -41,10 +43,15 @@ is_of_folder InUse = true
 is_of_folder NotBegun = true
 is_of_folder NotEmpty = true
 is_of_folder (Damaged segment at) = true
+is_of_folder (Missing segment) = true
+is_of_folder NoteDamaged = true
 is_of_folder fault = false
 
 damaged_folder : is_of_folder (Damaged 3 120) ≡ true
 damaged_folder = refl
+
+missing_segment : is_of_folder (Missing 3) ≡ true
+missing_segment = refl
 
 no_memory_of_a_folder : is_of_folder Memory ≡ false
 no_memory_of_a_folder = refl

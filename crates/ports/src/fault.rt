@@ -40,7 +40,7 @@ pub enum Fault {
     /// The log can't be opened.
     #[error("cannot open the log")]
     Log,
-    /// Another process uses the data folder. The text goes after the folder's path, as those of the next three.
+    /// Another process uses the data folder. The text goes after the folder's path, as those of the next five.
     #[error(" is in use")]
     InUse,
     /// There is no data folder, or none that was begun.
@@ -52,6 +52,12 @@ pub enum Fault {
     /// The segment of this number is damaged at this byte.
     #[error("/{0:08}.log is damaged at byte {1}")]
     Damaged(u64, u64),
+    /// The segment of this number is noted as the newest, and isn't there.
+    #[error("/{0:08}.log is missing")]
+    Missing(u64),
+    /// The note of the last clean end can't be read back.
+    #[error("/clean is damaged")]
+    NoteDamaged,
     /// Fewer than a majority of the nodes were up for longer than the options allow.
     #[error("no majority")]
     NoMajority,
@@ -71,7 +77,12 @@ impl Fault {
     {
         matches!(
             self,
-            Fault::InUse | Fault::NotBegun | Fault::NotEmpty | Fault::Damaged(_, _)
+            Fault::InUse
+                | Fault::NotBegun
+                | Fault::NotEmpty
+                | Fault::Damaged(_, _)
+                | Fault::Missing(_)
+                | Fault::NoteDamaged
         )
     }
 
@@ -92,6 +103,8 @@ impl Fault {
             | Fault::NotBegun
             | Fault::NotEmpty
             | Fault::Damaged(_, _)
+            | Fault::Missing(_)
+            | Fault::NoteDamaged
             | Fault::NoMajority
             | Fault::Memory
             | Fault::Read

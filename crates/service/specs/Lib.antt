@@ -21,3 +21,4 @@ pub mod Stats
 pub mod Epochs
 pub mod EpochEnds
 pub mod Lives
+pub mod Storages

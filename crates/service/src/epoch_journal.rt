@@ -3,9 +3,10 @@
 use crate::brand::Service;
 use ballot::Memory;
 use cluster::{Link, NodeDesk, Performed};
+use ports::Fault;
 use std::alloc::Global;
 use std::sync::{Arc, Wait};
-use store::{FileDevice, Journal, Performer};
+use store::{EndedSegment, FileDevice, Journal, Performer};
 
 /// How many messages of a file are under way at a time if each of them waits for the disk.
 const UNDER_WAY: usize = 10;
@@ -77,6 +78,35 @@ impl EpochJournal {
         match &self.journal {
             None => false,
             Some(journal) => journal.has_failed(rt),
+        }
+    }
+
+    /// The fault of a write, if one has failed. The service ends because of it.
+    pub(crate) fn written<R: Wait>(&self, rt: &R) -> Result<(), Fault> {
+        match &self.journal {
+            Some(journal) if journal.has_failed(rt) => {
+                if journal.is_in_use(rt) {
+                    Err(Fault::InUse)
+                } else {
+                    Err(Fault::Write)
+                }
+            }
+            _ => Ok(()),
+        }
+    }
+
+    /// Ends the segment of the journal, which no other thread has any more. Returns nothing if nothing is written.
+    pub(crate) fn finish(self) -> Result<Option<EndedSegment>, Fault> {
+        let Some(shared) = self.journal else {
+            return Ok(None);
+        };
+        let Some(journal) = Arc::into_inner(shared) else {
+            // What another thread may still write can't be noted.
+            return Err(Fault::Write);
+        };
+        match journal.finish() {
+            Ok((_, ended)) => Ok(Some(ended)),
+            Err(_) => Err(Fault::Write),
         }
     }
 

@@ -11,7 +11,7 @@ ghost use Rattle.service.specs.Verdicts.{CanServe};
 ghost use Rattle.service.specs.declared.epoch_run.Ending.TheVariants.{Rolled};
 
 use crate::brand::Service;
-use crate::draining::wait_for_deliveries;
+use crate::draining::{wait_for_deliveries, wait_for_last_deliveries};
 use crate::epoch::EndedEpoch;
 use crate::epoch_journal::EpochJournal;
 use crate::life::ServiceLife;
@@ -71,8 +71,8 @@ pub(crate) struct EpochEnd {
     pub operators: Vec<JoinHandle<()>>,
     /// The fault after which nobody was served.
     pub served: Result<(), Fault>,
-    /// Whether no write has failed that mail was to outlive the process by.
-    pub is_written: bool,
+    /// The fault of a write that mail was to outlive the process by.
+    pub written: Result<(), Fault>,
 }
 
 /// Writes the line about an epoch of this number.
@@ -386,6 +386,10 @@ fn serve_nodes<
         rt, alloc, settings, ports, &state, sessions, &desks, past, writer,
     );
     let stopped = service_nodes.stop();
+    if journal.is_kept() && life.rolls().is_stopping(&rt) {
+        // A write that they wait for may still fail, which is then why the service ends.
+        wait_for_last_deliveries(&rt, &state);
+    }
     Ok(NodesEnd {
         stopped,
         operators,
@@ -517,6 +521,6 @@ pub(crate) fn run_epoch<D: Service + Send + Sync + 'static, R: System, W: Write>
         left,
         operators,
         served,
-        is_written: !journal.has_failed(&rt),
+        written: journal.written(&rt),
     })
 }

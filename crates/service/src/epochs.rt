@@ -85,7 +85,7 @@ fn next_accounts<R: System + Files<File = File>>(
     match read {
         Ok(accounts) => accounts,
         Err(fault) => {
-            note_fault(rt, alloc, life.log(), fault);
+            note_fault(rt, alloc, life.log(), None, fault);
             last
         }
     }
@@ -138,7 +138,7 @@ fn run_one<R: System + Files<File = File>, W: Write>(
         left,
         operators: theirs,
         served,
-        is_written,
+        written,
     } = run_next(
         rt, alloc, settings, ports, life, accounts, storage, past, writer,
     )?;
@@ -152,17 +152,17 @@ fn run_one<R: System + Files<File = File>, W: Write>(
         // The ports stayed closed to them, so they answer nobody, and the next try has the number of this epoch.
         join_all(&rt, theirs);
     }
-    add_or_end(rt, alloc, life, is_over, is_written, served, left, past)
+    add_or_end(rt, alloc, life, is_over, written, served, left, past)
 }
 
-/// Adds an epoch to those that have ended, or returns it if the service is over, as it is after a write that failed. An epoch in which nobody was served is
-/// dropped, and its fault is returned.
+/// Adds an epoch to those that have ended, or returns it if the service is over, as it is after a write that failed. An epoch in
+/// which nobody was served is dropped, and its fault is returned.
 fn add_or_end<R: System>(
     rt: R,
     alloc: Global,
     life: &Arc<ServiceLife>,
     is_over: bool,
-    is_written: bool,
+    written: Result<(), Fault>,
     served: Result<(), Fault>,
     left: Option<EpochLeft>,
     past: &mut Past,
@@ -176,11 +176,11 @@ fn add_or_end<R: System>(
     ensures last { IfOk result (λ found. IfSome found (λ last. (past.new ≡ past.old) × (last.ended ≡ option_map (λ left. left.epoch) left))) }
 {
     served?;
-    let fault = if is_written { None } else { Some(Fault::Write) };
+    let fault = written.err();
     let Some(EpochLeft { epoch, kept }) = left else {
         return Ok(Some(LastEpoch { ended: None, fault }));
     };
-    if !is_written {
+    if fault.is_some() {
         return Ok(Some(LastEpoch {
             ended: Some(epoch),
             fault,

@@ -1,5 +1,5 @@
 //! `maildropd serve`: nodes, sessions and an operator's port in one process.
-ghost use Rattle.std.specs.Prelude.{◌≡◌, ◌≤◌, ◌++◌, ◌∷◌, [], ◌⊎◌, Ok, Some, true, false, is_some, IsTrue, IsErrOf, IfOk, IfErr, IfSome, OnOk, map, if◌then◌else◌};
+ghost use Rattle.std.specs.Prelude.{◌≡◌, ◌≤◌, ◌++◌, ◌∷◌, [], ◌⊎◌, Ok, None, Some, true, false, is_some, IsTrue, IsErrOf, IfOk, IfErr, IfSome, OnOk, map, if◌then◌else◌};
 ghost use Rattle.std.specs.Io.KnownBytes.{Appends};
 ghost use Rattle.service.specs.Options as spec;
 ghost use Rattle.service.specs.Faults as faults;
@@ -19,7 +19,7 @@ use crate::epochs::{LastEpoch, PastOperators, run_epochs};
 use crate::life::ServiceLife;
 use crate::options::{ServeOptions, Settings, settings_of};
 use crate::past::Past;
-use crate::storage::{OpenedStorage, Storage};
+use crate::storage::{OpenedStorage, Storage, Torn};
 use crate::threads::{Ports, join_all};
 use crate::verdict::Verdict;
 use apop::{Accounts, AccountsError};
@@ -138,14 +138,39 @@ pub(crate) fn life_of<R: System + Files<File = File>>(
     Ok(Arc::new(alloc, life)?)
 }
 
-/// Notes a fault in the log. Without memory for its text nothing is noted.
-pub(crate) fn note_fault<R: Wait + Clock>(rt: &R, alloc: Global, log: &EventLog, fault: Fault) {
-    if let Ok(text) = format!(in alloc; "{fault}") {
+/// Notes a fault in the log, those of a data folder after its path. Without memory for its text nothing is noted.
+pub(crate) fn note_fault<R: Wait + Clock>(
+    rt: &R,
+    alloc: Global,
+    log: &EventLog,
+    folder: Option<&str>,
+    fault: Fault,
+) {
+    let text = match folder {
+        Some(path) if fault.is_of_folder() => format!(in alloc; "{path}{fault}"),
+        _ => format!(in alloc; "{fault}"),
+    };
+    if let Ok(text) = text {
         log.fault(rt, text.as_str());
     }
 }
 
-/// Judges the last epoch of a service, and announces the verdict on it, or the first one that isn't that all was in order.
+/// Counts the bytes that a start has dropped of the folder's newest segment, and reports them in the log, or on standard error
+/// if there is no log.
+fn tell_torn<R: Wait + Clock + Eprint>(rt: &R, life: &ServiceLife, folder: &str, torn: Torn) {
+    let Torn { segment, at, bytes } = torn;
+    life.counters().torn(rt, bytes);
+    if life.log().is_kept() {
+        life.log().torn(rt, segment, at, bytes);
+    } else {
+        let _untold = eprintln!(rt;
+            "maildropd: {folder}/{segment:08}.log: {bytes} bytes are dropped from byte {at} on"
+        );
+    }
+}
+
+/// Judges the last epoch of a service, and announces the verdict on it, or the first one that isn't that all was in order. After
+/// a write that failed nothing is announced.
 fn judge<R: System>(
     rt: &R,
     alloc: Global,
@@ -163,20 +188,45 @@ fn judge<R: System>(
 {
     let LastEpoch { ended, fault } = last;
     let left = left_by(alloc, ended);
-    let announcement = Announcement::audited(past.first_bad(), &left);
-    life.announcements().announce(rt, announcement);
+    if !matches!(&fault, Some(Fault::Write) | Some(Fault::InUse)) {
+        let announcement = Announcement::audited(past.first_bad(), &left);
+        life.announcements().announce(rt, announcement);
+    }
     let fault = match fault {
         None if life.stages().lacks_majority(rt) => Some(Fault::NoMajority),
         fault => fault,
     };
-    if let Some(fault) = fault {
-        note_fault(rt, alloc, life.log(), fault);
-    }
     RunEnd {
         left,
         epochs: past.told(),
         is_good: past.is_good(),
         fault,
+    }
+}
+
+/// The threads of a service that go on over its epochs.
+#[derive(Drop)]
+struct LifeThreads {
+    /// Those that take connections.
+    takers: Vec<JoinHandle<()>>,
+    /// Those of the operators of epochs that have ended.
+    operators: PastOperators,
+}
+
+impl LifeThreads {
+    /// Of a service that begins. Takes no memory.
+    fn new(alloc: Global) -> Self {
+        LifeThreads {
+            takers: Vec::new(alloc),
+            operators: PastOperators::new(alloc),
+        }
+    }
+
+    /// Waits for all, once the service has ended.
+    fn join<R: System>(self, rt: &R) {
+        let LifeThreads { takers, operators } = self;
+        join_all(rt, takers);
+        operators.join(rt);
     }
 }
 
@@ -189,19 +239,18 @@ fn run_life<R: System + Files<File = File>, W: Write>(
     ports: &Ports,
     life: &Arc<ServiceLife>,
     accounts: Arc<Accounts>,
-    opened: OpenedStorage<R>,
-    takers: &mut Vec<JoinHandle<()>>,
-    operators: &mut PastOperators,
+    kept: Shared<Kept>,
+    storage: &mut Storage<R>,
+    threads: &mut LifeThreads,
     writer: &mut W,
 ) -> Result<RunEnd, Fault>
-    requires opened { is_some options.now.data ≡ false → opened.kept ≡ [] }
+    requires kept { is_some options.now.data ≡ false → kept ≡ [] }
     ensures told { IfOk result (λ end. end.is_good ≡ true → Appends (W.contents writer.old) (W.contents writer.new) (epoch_lines end.epochs)) }
     ensures legal { IfOk result (λ end. end.left.verdict ≡ Legal → end.is_good ≡ true → FoundLegal settings.now.cluster settings.now.window settings.now.limits settings.now.keys (is_some options.now.data)
         end.epochs end.left.logs.items end.left.transcripts.items end.left.greeted) }
 {
-    let OpenedStorage { mut storage, kept } = opened;
     let mut past = Past::new(kept)?;
-    ports.start_taking(rt, life, takers)?;
+    ports.start_taking(rt, life, &mut threads.takers)?;
     let ran = run_epochs(
         rt,
         alloc,
@@ -210,8 +259,8 @@ fn run_life<R: System + Files<File = File>, W: Write>(
         ports,
         life,
         accounts,
-        operators,
-        &mut storage,
+        &mut threads.operators,
+        storage,
         &mut past,
         writer,
     );
@@ -222,6 +271,27 @@ fn run_life<R: System + Files<File = File>, W: Write>(
             let _unreported = past.collect(&rt);
             Err(fault)
         }
+    }
+}
+
+/// Ends the storage of a service whose threads have ended, unless it has ended by a fault: then nothing is noted, and the next
+/// start makes a new segment.
+fn end_storage<R: System + Files<File = File> + Drop>(
+    rt: &R,
+    storage: Storage<R>,
+    end: &Result<RunEnd, Fault>,
+) -> Result<(), Fault> {
+    match end {
+        Ok(_) => storage.end(rt),
+        Err(_) => Ok(()),
+    }
+}
+
+/// Why a service has ended: the fault of its storage's end, or else the one that was there before.
+fn last_fault(ended: Result<(), Fault>, fault: Option<Fault>) -> Option<Fault> {
+    match ended {
+        Ok(()) => fault,
+        Err(found) => Some(found),
     }
 }
 
@@ -241,9 +311,13 @@ fn run_service<R: System + Files<File = File>, W: Write>(
     ensures legal { IfOk result (λ end. end.left.verdict ≡ Legal → end.is_good ≡ true → FoundLegal settings.now.cluster settings.now.window settings.now.limits settings.now.keys (is_some options.now.data)
         end.epochs end.left.logs.items end.left.transcripts.items end.left.greeted) }
 {
+    let OpenedStorage {
+        mut storage,
+        kept,
+        torn: _,
+    } = opened;
     let ports = Ports::open(&rt, alloc, settings, options.ctl_socket)?;
-    let mut takers = Vec::new(alloc);
-    let mut operators = PastOperators::new(alloc);
+    let mut threads = LifeThreads::new(alloc);
     let end = run_life(
         rt,
         alloc,
@@ -252,23 +326,39 @@ fn run_service<R: System + Files<File = File>, W: Write>(
         &ports,
         life,
         accounts,
-        opened,
-        &mut takers,
-        &mut operators,
+        kept,
+        &mut storage,
+        &mut threads,
         writer,
     );
     ports.close(&rt);
     life.end(&rt);
-    join_all(&rt, takers);
-    operators.join(&rt);
+    threads.join(&rt);
+    let ended = end_storage(&rt, storage, &end);
     if let Some(path) = options.ctl_socket {
         remove_socket(&rt, path);
     }
-    end
+    match end {
+        Ok(end) => Ok(RunEnd {
+            left: end.left,
+            epochs: end.epochs,
+            is_good: end.is_good,
+            fault: last_fault(ended, end.fault),
+        }),
+        Err(fault) => Err(fault),
+    }
+}
+
+/// Why a service has ended, unless an operator stopped it.
+fn fault_after(end: &Result<RunEnd, Fault>) -> Option<Fault> {
+    match end {
+        Ok(end) => end.fault,
+        Err(fault) => Some(*fault),
+    }
 }
 
 /// Runs a service with these settings.
-fn run_with<R: System + Files<File = File>, W: Write>(
+fn run_with<R: System + Files<File = File> + Eprint, W: Write>(
     rt: R,
     alloc: Global,
     options: &ServeOptions<'_>,
@@ -283,16 +373,19 @@ fn run_with<R: System + Files<File = File>, W: Write>(
     let life = life_of(&rt, alloc, options, settings, &accounts)?;
     let accounts = Arc::new(alloc, accounts)?;
     let opened = Storage::open(rt, alloc, options)?;
+    if let (Some(folder), Some(torn)) = (options.data, opened.torn) {
+        tell_torn(&rt, &life, folder, torn);
+    }
     let end = run_service(
         rt, alloc, options, settings, &life, accounts, opened, writer,
     );
-    if let Err(fault) = &end {
-        note_fault(&rt, alloc, life.log(), *fault);
+    if let Some(fault) = fault_after(&end) {
+        note_fault(&rt, alloc, life.log(), options.data, fault);
     }
     end
 }
 
-fn run<R: System + Files<File = File>, W: Write>(
+fn run<R: System + Files<File = File> + Eprint, W: Write>(
     rt: R,
     alloc: Global,
     options: &ServeOptions<'_>,
@@ -339,6 +432,7 @@ fn status_after(status: u8, is_good: bool) -> u8
 fn report<W: Write>(alloc: Global, writer: &mut W, end: &RunEnd) -> Result<u8, Fault>
     ensures status { IfOk result (λ status. status ≡ (if end.now.is_good then verdicts.status_of end.now.left.verdict else 1)) }
     ensures written { OnOk result (Appends (W.contents writer.old) (W.contents writer.new) (verdicts.text_of end.now.left.verdict ++ 10 ∷ [])) }
+    ensures faultless { OnOk result (end.now.fault ≡ None) }
 {
     let told = tell(alloc, writer, &end.left.verdict);
     match end.fault {
@@ -364,10 +458,17 @@ pub struct ServiceEnd {
 }
 
 /// Writes the verdict on a service that has ended, or reports why it ended on standard error.
-fn tell_end<R: Eprint, W: Write>(rt: &R, alloc: Global, writer: &mut W, end: RunEnd) -> ServiceEnd
+fn tell_end<R: Eprint, W: Write>(
+    rt: &R,
+    alloc: Global,
+    writer: &mut W,
+    folder: Option<&str>,
+    end: RunEnd,
+) -> ServiceEnd
     ensures statuses { result.status ≤ 2 }
     ensures legal { result.status ≡ 0 → end.left.verdict ≡ Legal }
     ensures good { result.status ≡ 0 → end.is_good ≡ true }
+    ensures faultless { result.status ≡ 0 → end.fault ≡ None }
     ensures epochs { result.status ≡ 0 → result.epochs ≡ end.epochs }
     ensures told { result.status ≡ 0 → Appends (W.contents writer.old) (W.contents writer.new) (verdicts.text_of Legal ++ 10 ∷ []) }
     ensures logs { result.status ≡ 0 → result.logs.items ≡ end.left.logs.items }
@@ -382,7 +483,7 @@ fn tell_end<R: Eprint, W: Write>(rt: &R, alloc: Global, writer: &mut W, end: Run
             transcripts: end.left.transcripts,
             greeted: end.left.greeted,
         },
-        Err(fault) => fail(rt, alloc, None, fault),
+        Err(fault) => fail(rt, alloc, folder, fault),
     }
 }
 
@@ -438,7 +539,7 @@ pub fn serve_run<R: System + Files<File = File> + Eprint, W: Write>(
         result.epochs result.logs.items result.transcripts.items result.greeted }
 {
     match run(rt, alloc, options, writer) {
-        Ok(end) => tell_end(&rt, alloc, writer, end),
+        Ok(end) => tell_end(&rt, alloc, writer, options.data, end),
         Err(fault) => fail(&rt, alloc, options.data, fault),
     }
 }

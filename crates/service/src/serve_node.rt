@@ -152,7 +152,7 @@ fn run_node<D: Service + Send + Sync + 'static, R: System + Files<File = File>>(
         end => end,
     };
     if let Err(fault) = &end {
-        note_fault(&rt, alloc, life.log(), *fault);
+        note_fault(&rt, alloc, life.log(), None, *fault);
     }
     end
 }

@@ -1,7 +1,7 @@
 //! Where mail is kept beyond the process.
 ghost use Rattle.std.specs.Prelude.{◌≡◌, [], false, is_some, IfOk, IsTrue};
 ghost use Rattle.maildrop.specs.Name.{are_different};
-ghost use Rattle.store.specs.Whole.{IsRunning};
+ghost use Rattle.service.specs.Storages as spec;
 
 use crate::epoch_journal::EpochJournal;
 use crate::options::ServeOptions;
@@ -14,7 +14,8 @@ use std::fs::File;
 use std::random::RandomSource;
 use std::rt::Files;
 use store::{
-    CleanSegment, DataFolder, FileDevice, Journal, Loaded, StoreFault, SyncMode, keeps_keys,
+    CleanSegment, DataFolder, FileDevice, Journal, Loaded, OpenedSegment, StoreFault, SyncMode,
+    keeps_keys,
 };
 
 /// The folder in which a service keeps mail, if it keeps mail beyond the process.
@@ -25,6 +26,19 @@ pub(crate) struct Storage<R: Files<File = File>> {
     /// The segment that was read, unless too much was added to it. The first epoch may go on in it, as it opens with what was
     /// read.
     read: Option<CleanSegment>,
+    /// The journal of the last epoch that was begun.
+    journal: EpochJournal,
+}
+
+/// What a start has dropped behind the last whole batch of a segment.
+#[derive(Clone, Copy, Debug, PartialEq, Eq)]
+pub(crate) struct Torn {
+    /// The number of the segment.
+    pub segment: u64,
+    /// Where its last whole batch ends.
+    pub at: u64,
+    /// How many bytes followed it.
+    pub bytes: u64,
 }
 
 /// A storage that was opened, and the maildrops that it had.
@@ -32,6 +46,7 @@ pub(crate) struct Storage<R: Files<File = File>> {
 pub(crate) struct OpenedStorage<R: Files<File = File>> {
     pub storage: Storage<R>,
     pub kept: Shared<Kept>,
+    pub torn: Option<Torn>,
 }
 
 /// Why a folder can't be used.
@@ -41,6 +56,8 @@ pub fn fault_of_store(fault: StoreFault) -> Fault {
         StoreFault::NotBegun => Fault::NotBegun,
         StoreFault::NotEmpty => Fault::NotEmpty,
         StoreFault::Damaged { segment, at } => Fault::Damaged(segment, at),
+        StoreFault::Missing { segment } => Fault::Missing(segment),
+        StoreFault::NoteDamaged => Fault::NoteDamaged,
         StoreFault::Memory => Fault::Memory,
         StoreFault::Read => Fault::Read,
         StoreFault::Write => Fault::Write,
@@ -65,15 +82,20 @@ impl<R: System + Files<File = File> + Drop> Storage<R> {
     ) -> Result<OpenedStorage<R>, Fault>
         ensures { IfOk result (λ opened. is_some options.now.data ≡ false → opened.kept ≡ []) }
     {
-        let (folder, kept, read) = match options.data {
-            None => (None, Kept::new(alloc), None),
+        let (folder, kept, read, torn) = match options.data {
+            None => (None, Kept::new(alloc), None, None),
             Some(path) => {
                 let (folder, loaded) = read_folder(&rt, alloc, path, options.sync)?;
-                (
-                    Some(folder),
-                    loaded.kept,
-                    short(loaded.clean, options.epoch_bytes),
-                )
+                let torn = torn_of(&loaded);
+                let Loaded {
+                    number: _,
+                    kept,
+                    ending: _,
+                    dropped: _,
+                    changes: _,
+                    clean,
+                } = loaded;
+                (Some(folder), kept, short(clean, options.epoch_bytes), torn)
             }
         };
         Ok(OpenedStorage {
@@ -81,8 +103,10 @@ impl<R: System + Files<File = File> + Drop> Storage<R> {
                 folder,
                 keep: options.keep as usize,
                 read,
+                journal: EpochJournal::none(),
             },
             kept: Shared::new(alloc, kept)?,
+            torn,
         })
     }
 
@@ -99,13 +123,52 @@ impl<R: System + Files<File = File> + Drop> Storage<R> {
         let Some(folder) = &mut self.folder else {
             return Ok(EpochJournal::none());
         };
+        // Once a newer segment is there, nothing may be noted of the last epoch's.
+        self.journal = EpochJournal::none();
         let kept = setup.kept.get();
         let ledger = Ledger::open(alloc, setup.names.get(), kept, setup.limits, setup.keys)?;
-        let (device, salt, place) = open_segment(rt, folder, self.read.take(), kept, setup.keys)?;
+        let segment = open_segment(rt, folder, self.read.take(), kept, setup.keys)?;
         // A segment that can't be removed is tried again at the next epoch.
         let _removed = folder.drop_old(self.keep);
-        let journal = Journal::new(alloc, ledger, device, salt, place);
-        Ok(EpochJournal::of(alloc, journal)?)
+        let journal = EpochJournal::of(alloc, Journal::new(alloc, ledger, segment))?;
+        self.journal = journal.share()?;
+        Ok(journal)
+    }
+
+    /// Ends the segment of the last epoch, and notes that, once no thread has its journal any more. Then the folder's lock is given
+    /// back. If a write fails or has failed that is the fault, and nothing is noted. Without a folder there is nothing to end.
+    pub(crate) fn end(self, rt: &R) -> Result<(), Fault> {
+        let Storage {
+            folder,
+            keep: _,
+            read: _,
+            journal,
+        } = self;
+        journal.written(rt)?;
+        let Some(mut folder) = folder else {
+            return Ok(());
+        };
+        match journal.finish()? {
+            None => Ok(()),
+            Some(ended) => match folder.note_clean(&ended) {
+                Ok(()) => Ok(()),
+                Err(fault) => Err(fault_of_store(fault)),
+            },
+        }
+    }
+}
+
+/// What was dropped of a segment that was read.
+fn torn_of(loaded: &Loaded) -> Option<Torn>
+    ensures { result ≡ spec.torn_of loaded.now }
+{
+    match loaded.dropped {
+        None => None,
+        Some(dropped) => Some(Torn {
+            segment: loaded.number,
+            at: dropped.at,
+            bytes: dropped.bytes,
+        }),
     }
 }
 
@@ -119,29 +182,28 @@ fn short(segment: Option<CleanSegment>, epoch_bytes: u64) -> Option<CleanSegment
     Some(segment)
 }
 
-/// The file that an epoch writes its changes to, with its salt and its size. It is that of the segment that was read, if this can
-/// be written and has no keys that the epoch doesn't open with, and that of a new segment otherwise.
+/// The segment that an epoch writes its changes to. It is the one that was read, if this can be written and has no keys that the
+/// epoch doesn't open with, and a new one otherwise.
 fn open_segment<R: System + Files<File = File>>(
     rt: &R,
     folder: &mut DataFolder<R>,
     read: Option<CleanSegment>,
     kept: &Kept,
     keys: usize,
-) -> Result<(FileDevice, u64, u64), Fault>
-    ensures synced { IfOk result (λ r. r.0.history.calls.synced ≡ r.0.history.calls.seen) }
-    ensures running { IfOk result (λ r. IsRunning r.1 r.2 r.0.history.calls.synced) }
+) -> Result<OpenedSegment<FileDevice>, Fault>
+    ensures { IfOk result (λ segment. spec.IsOpened read kept.now keys segment) }
 {
     if let Some(segment) = read {
         if keeps_keys(kept, keys) {
             // A file that can't be written any more is left behind.
-            if let Ok(file) = folder.go_on(segment) {
-                return Ok(file);
+            if let Ok(opened) = folder.go_on(segment) {
+                return Ok(opened);
             }
         }
     }
     let salt = random_salt(rt)?;
     match folder.make_next(kept, keys, salt) {
-        Ok((device, size)) => Ok((device, salt, size)),
+        Ok(opened) => Ok(opened),
         Err(fault) => Err(fault_of_store(fault)),
     }
 }

@@ -60,6 +60,11 @@ with_break text user node = text ++ codes "event=break user=" ++ user ++ codes "
 abbrev pub with_roll : List ℕ → ℕ → List ℕ
 with_roll text epoch = text ++ codes "event=roll epoch=" ++ decimal epoch ++ codes "\n"
 
+-- a start dropped so many bytes of a segment, those from this place on
+abbrev pub with_torn : List ℕ → (segment at bytes : ℕ) → List ℕ
+with_torn text segment at bytes =
+    text ++ codes "event=torn segment=" ++ decimal segment ++ codes " at=" ++ decimal at ++ codes " bytes=" ++ decimal bytes ++ codes "\n"
+
 -- an event that has only a name
 abbrev pub with_event : List ℕ → List ℕ → List ℕ
 with_event text name = text ++ codes "event=" ++ name ++ codes "\n"

@@ -15,6 +15,7 @@ no_counts = record {
   octets_stored = 0;
   bytes_read = 0;
   bytes_written = 0;
+  torn_bytes = 0;
 }
 
 -- a session has ended
@@ -34,6 +35,10 @@ after_delivery messages octets counts = record counts {
   messages_stored = added counts.messages_stored messages;
   octets_stored = added counts.octets_stored octets;
 }
+
+-- the start dropped so many bytes of the data folder's newest segment
+abbrev pub after_torn : ℕ → Counts → Counts
+after_torn bytes counts = record counts { torn_bytes = added counts.torn_bytes bytes }
 
 -- a line after a text
 abbrev pub with_line : List ℕ → List ℕ → ℕ → List ℕ
@@ -56,11 +61,12 @@ with_messages text counts =
 
 abbrev pub with_rest : List ℕ → Stats → List ℕ
 with_rest text stats =
-    with_line (with_line (with_line (with_line text
+    with_line (with_line (with_line (with_line (with_line text
     (codes "bytes_read ") stats.counts.bytes_read)
     (codes "bytes_written ") stats.counts.bytes_written)
     (codes "slots ") stats.slots)
-    (codes "uptime_seconds ") stats.uptime_seconds
+    (codes "uptime_seconds ") stats.uptime_seconds)
+    (codes "torn_bytes ") stats.counts.torn_bytes
 
 -- what an operator is told
 abbrev pub text_of : Stats → List ℕ

@@ -9,7 +9,7 @@ use std::alloc::Global;
 use std::sync::{Mutex, Wait};
 use std::time::{Clock, Instant};
 
-/// What is counted of the sessions that have ended, and of deliveries.
+/// What is counted of the sessions that have ended, of deliveries, and of the start.
 #[derive(Clone, Copy, Debug, PartialEq, Eq)]
 pub struct Counts {
     /// Sessions that have ended.
@@ -28,6 +28,8 @@ pub struct Counts {
     pub bytes_read: u64,
     /// Bytes that were written to the clients of these sessions.
     pub bytes_written: u64,
+    /// Bytes that the start dropped of the data folder's newest segment.
+    pub torn_bytes: u64,
 }
 
 impl Counts {
@@ -44,6 +46,7 @@ impl Counts {
             octets_stored: 0,
             bytes_read: 0,
             bytes_written: 0,
+            torn_bytes: 0,
         }
     }
 
@@ -65,6 +68,13 @@ impl Counts {
     {
         self.messages_stored = self.messages_stored.saturating_add(messages);
         self.octets_stored = self.octets_stored.saturating_add(octets);
+    }
+
+    /// The start dropped so many bytes.
+    fn tear(&mut self, bytes: u64)
+        ensures { self.new ≡ spec.after_torn bytes self.old }
+    {
+        self.torn_bytes = self.torn_bytes.saturating_add(bytes);
     }
 }
 
@@ -100,14 +110,15 @@ fn put_messages(text: &mut Vec<u8>, counts: &Counts) -> Result<(), Memory>
     put_number_line(text, b"octets_stored ", counts.octets_stored)
 }
 
-/// Adds the lines that speak of bytes, slots and time.
+/// Adds the lines that speak of bytes, slots and time, and of what the start dropped.
 fn put_rest(text: &mut Vec<u8>, stats: &Stats) -> Result<(), Memory>
     ensures { OnOk result (text.new.items ≡ spec.with_rest text.old.items stats.now) }
 {
     put_number_line(text, b"bytes_read ", stats.counts.bytes_read)?;
     put_number_line(text, b"bytes_written ", stats.counts.bytes_written)?;
     put_number_line(text, b"slots ", stats.slots)?;
-    put_number_line(text, b"uptime_seconds ", stats.uptime_seconds)
+    put_number_line(text, b"uptime_seconds ", stats.uptime_seconds)?;
+    put_number_line(text, b"torn_bytes ", stats.counts.torn_bytes)
 }
 
 impl Stats {
@@ -149,6 +160,11 @@ impl Counters {
     /// A delivery stored so many messages, of so many octets together.
     pub fn stored<R: Wait>(&self, rt: &R, messages: u64, octets: u64) {
         self.counts.lock(rt).store(messages, octets);
+    }
+
+    /// The start dropped so many bytes of the data folder's newest segment.
+    pub fn torn<R: Wait>(&self, rt: &R, bytes: u64) {
+        self.counts.lock(rt).tear(bytes);
     }
 
     /// What operators get, if so many sessions are open and this is the slot of the node that is furthest.

@@ -132,6 +132,15 @@ pub(crate) fn put_roll(text: &mut Vec<u8>, epoch: u64) -> Result<(), Memory>
     put_number_line(text, b"event=roll epoch=", epoch)
 }
 
+/// Adds the line of a start that dropped so many bytes of a segment, those from this place on.
+pub(crate) fn put_torn(text: &mut Vec<u8>, segment: u64, at: u64, bytes: u64) -> Result<(), Memory>
+    ensures { OnOk result (text.new.items ≡ spec.with_torn text.old.items segment at bytes) }
+{
+    put_labelled(text, b"event=torn segment=", segment)?;
+    put_labelled(text, b" at=", at)?;
+    put_number_line(text, b" bytes=", bytes)
+}
+
 /// Adds the line of an event that has only a name.
 pub(crate) fn put_event(text: &mut Vec<u8>, name: &[u8]) -> Result<(), Memory>
     ensures { OnOk result (text.new.items ≡ spec.with_event text.old.items name.now) }

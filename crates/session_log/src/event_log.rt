@@ -1,8 +1,9 @@
 //! The log: a line for each event.
+ghost use Rattle.std.specs.Prelude.{◌≡◌};
 
 use crate::event_lines::{
     put_broken, put_crash, put_delivery, put_event, put_fault, put_refused, put_roll, put_session,
-    put_time,
+    put_time, put_torn,
 };
 use crate::facts::{Ending, SessionFacts};
 use crate::open_sessions::peer_text;
@@ -80,6 +81,13 @@ impl EventLog {
             is_kept,
             target: Mutex::new(target),
         }
+    }
+
+    /// Whether there is one. It may have been given up.
+    pub fn is_kept(&self) -> bool
+        ensures { result ≡ self.now.is_kept }
+    {
+        self.is_kept
     }
 
     /// A session at a node has ended.
@@ -162,6 +170,14 @@ impl EventLog {
     pub fn roll<R: Wait + Clock>(&self, rt: &R, epoch: u64) {
         if let Some(mut line) = self.begin(rt) {
             let put = put_roll(&mut line, epoch);
+            self.end(rt, line, put);
+        }
+    }
+
+    /// A start has dropped so many bytes of a segment, those from this place on.
+    pub fn torn<R: Wait + Clock>(&self, rt: &R, segment: u64, at: u64, bytes: u64) {
+        if let Some(mut line) = self.begin(rt) {
+            let put = put_torn(&mut line, segment, at, bytes);
             self.end(rt, line, put);
         }
     }

@@ -11,8 +11,8 @@ returns-in-Ok-clause-told g c well =
     let past : PastValue = c.run_epochs-ran.new.past in
     let before = g.W.Write.contents c.args.writer.now in
     let after = g.W.Write.contents c.run_epochs-ran.new.writer in
-    let told : TellsOn before after (no_past c.args.opened.kept) past = subst (λ p. TellsOn before after p past) c.in_ok-past.ensures c.in-Ok.ensures.told in
-    subst (λ n. Appends before after (epoch_lines n)) (sym so.told) (told_since before after c.args.opened.kept past told (sym so.good ∙ well)).0
+    let told : TellsOn before after (no_past c.args.kept) past = subst (λ p. TellsOn before after p past) c.in_ok-past.ensures c.in-Ok.ensures.told in
+    subst (λ n. Appends before after (epoch_lines n)) (sym so.told) (told_since before after c.args.kept past told (sym so.good ∙ well)).0
 
 pub returns-in-Ok-clause-legal : goal.returns-in-Ok-clause-legal
 returns-in-Ok-clause-legal g c =
@@ -22,9 +22,9 @@ returns-in-Ok-clause-legal g c =
     let past : PastValue = c.run_epochs-ran.new.past in
     let before = g.W.Write.contents c.args.writer.now in
     let after = g.W.Write.contents c.run_epochs-ran.new.writer in
-    let told : TellsOn before after (no_past c.args.opened.kept) past = subst (λ p. TellsOn before after p past) c.in_ok-past.ensures c.in-Ok.ensures.told in
+    let told : TellsOn before after (no_past c.args.kept) past = subst (λ p. TellsOn before after p past) c.in_ok-past.ensures c.in-Ok.ensures.told in
     let begins : end.is_good ≡ true → is_some folder ≡ false → past.first ≡ [] = λ well none.
-    (told_since before after c.args.opened.kept past told (sym so.good ∙ well)).1 ∙ c.requires.opened none in
+    (told_since before after c.args.kept past told (sym so.good ∙ well)).1 ∙ c.requires.kept none in
     found _ _ _ _ _ end.left.verdict end.epochs end.is_good end.left.logs.items end.left.transcripts.items end.left.greeted (is_some folder) begins c.in-Ok.last.ended
     (subst HasLedIfGood c.past-in-Ok.view_is c.past-in-Ok.invariant) c.in-Ok.ensures.last.0 c.in-Ok.ensures.last.1
     so.told so.good so.legal so.order so.logs so.transcripts so.greeted
