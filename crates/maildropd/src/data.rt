@@ -2,8 +2,9 @@
 
 use crate::arguments::{Choice, Kind, Presence, text_of, with_options};
 use clap::{Arg, ArgAction, ArgMatches, Command, Error};
-use maildrop::{Message, Name};
+use maildrop::{Kept, Message, Name};
 use mboxrd::write;
+use mend::{is_of_files, read_damaged};
 use ports::{Fault, say};
 use records::Ending;
 use service::fault_of_store;
@@ -54,19 +55,19 @@ pub(crate) fn export_command<'a>(alloc: Global) -> Result<Command<'a>, Error> {
         .allow_hyphen_values(true)
         .action(ArgAction::Set);
     let export = Command::new(alloc, "export").about(
-        "Writes the mail that a data folder has of a user, as a mailbox file (mboxrd). The status is 1 if the user never had mail",
+        "Writes the mail that a data folder has of a user, as a mailbox file (mboxrd). The status is 1 if the user never had mail, or if the folder is damaged: then it writes what can be read",
     );
     Ok(with_options(alloc, export, OPTIONS)?.arg(name)?)
 }
 
 /// Reports a fault. Returns the status.
-fn refuse<R: Eprint>(rt: &R, fault: Fault) -> u8 {
+pub(crate) fn refuse<R: Eprint>(rt: &R, fault: Fault) -> u8 {
     let _untold = eprintln!(rt; "maildropd: {fault}");
     fault.status()
 }
 
 /// Reports why a folder can't be used. Returns the status.
-fn refuse_folder<R: Eprint>(rt: &R, path: &str, fault: StoreFault) -> u8 {
+pub(crate) fn refuse_folder<R: Eprint>(rt: &R, path: &str, fault: StoreFault) -> u8 {
     let _untold = eprintln!(rt; "maildropd: {path}{fault}");
     fault_of_store(fault).status()
 }
@@ -94,6 +95,7 @@ fn print_segment<R: AllocGlobal + Print>(rt: &R, report: &Report) -> Result<(), 
         octets,
         changes,
         ending,
+        ..
     } = report.found
     else {
         return Ok(());
@@ -111,13 +113,27 @@ fn print_segment<R: AllocGlobal + Print>(rt: &R, report: &Report) -> Result<(), 
     }
 }
 
+/// Reports what a start drops of the newest segment, if it drops anything.
+fn tell_dropped<R: Eprint>(rt: &R, path: &str, report: &Report) {
+    let segment = report.number;
+    if let Found::Whole {
+        dropped: Some(dropped),
+        ..
+    } = report.found
+    {
+        let (at, bytes) = (dropped.at, dropped.bytes);
+        let _untold = eprintln!(rt;
+            "maildropd: {path}/{segment:08}.log: a start drops {bytes} bytes from byte {at} on"
+        );
+    }
+}
+
 pub(crate) fn run_check<R: AllocGlobal + Files<File = File> + Copy + Print + Eprint>(
     rt: &R,
     matches: &ArgMatches<'_>,
 ) -> u8 {
     let path = text_of(matches, "data");
     let reports = match check(rt, rt.alloc(), path) {
-        Ok(reports) if reports.is_empty() => return refuse_folder(rt, path, StoreFault::NotBegun),
         Ok(reports) => reports,
         Err(fault) => return refuse_folder(rt, path, fault),
     };
@@ -135,6 +151,10 @@ pub(crate) fn run_check<R: AllocGlobal + Files<File = File> + Copy + Print + Epr
             }
         }
     }
+    // A start reads only this one.
+    if let Some(newest) = reports.last() {
+        tell_dropped(rt, path, newest);
+    }
     status
 }
 
@@ -148,6 +168,22 @@ fn write_mailbox<R: AllocGlobal + Print>(rt: &R, messages: &[Message]) -> Result
     Ok(())
 }
 
+/// What the newest segment has, with the status 0. Of a folder that a start refuses what can be read, with the status 1, and the
+/// fault is reported.
+fn read_mail<R: AllocGlobal + Files<File = File> + Copy + Eprint>(
+    rt: &R,
+    path: &str,
+) -> Result<(Kept, u8), StoreFault> {
+    match read_newest(rt, rt.alloc(), path) {
+        Ok(loaded) => Ok((loaded.kept, 0)),
+        Err(fault) if is_of_files(fault) => {
+            let status = refuse_folder(rt, path, fault);
+            Ok((read_damaged(rt, rt.alloc(), path, fault)?, status))
+        }
+        Err(fault) => Err(fault),
+    }
+}
+
 pub(crate) fn run_export<R: AllocGlobal + Files<File = File> + Copy + Print + Eprint>(
     rt: &R,
     matches: &ArgMatches<'_>,
@@ -157,16 +193,16 @@ pub(crate) fn run_export<R: AllocGlobal + Files<File = File> + Copy + Print + Ep
     let Some(name) = Name::new(word.as_bytes()) else {
         return refuse(rt, Fault::Value);
     };
-    let loaded = match read_newest(rt, rt.alloc(), path) {
-        Ok(loaded) => loaded,
+    let (kept, status) = match read_mail(rt, path) {
+        Ok(read) => read,
         Err(fault) => return refuse_folder(rt, path, fault),
     };
-    if loaded.kept.next_uid(&name) == FIRST_UID {
+    if kept.next_uid(&name) == FIRST_UID {
         let _untold = eprintln!(rt; "maildropd: {path} never had mail for {word}");
         return 1;
     }
-    match write_mailbox(rt, loaded.kept.messages(&name)) {
-        Ok(()) => 0,
+    match write_mailbox(rt, kept.messages(&name)) {
+        Ok(()) => status,
         Err(fault) => refuse(rt, fault),
     }
 }

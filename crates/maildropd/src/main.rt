@@ -4,12 +4,14 @@
 mod arguments;
 mod data;
 mod lone;
+mod mending;
 mod operator;
 mod serve;
 mod sim;
 
 use crate::data::{begin_command, check_command, export_command, run_begin, run_check, run_export};
 use crate::lone::{lone, run_lone};
+use crate::mending::{mend_command, run_mend};
 use crate::operator::{ctl, run_ctl};
 use crate::serve::{run_serve, serve};
 use crate::sim::{run_sim, sim};
@@ -40,7 +42,8 @@ fn command<'a>(alloc: Global) -> Result<Command<'a>, Error> {
         .subcommand(ctl(alloc)?)?
         .subcommand(begin_command(alloc)?)?
         .subcommand(check_command(alloc)?)?
-        .subcommand(export_command(alloc)?)?;
+        .subcommand(export_command(alloc)?)?
+        .subcommand(mend_command(alloc)?)?;
     Ok(maildropd)
 }
 
@@ -69,6 +72,7 @@ fn run<
         Some(("begin", inner)) => Ok(run_begin(rt, inner)),
         Some(("check", inner)) => Ok(run_check(rt, inner)),
         Some(("export", inner)) => Ok(run_export(rt, inner)),
+        Some(("mend", inner)) => Ok(run_mend(rt, inner)),
         _ => Ok(2),
     }
 }

@@ -1,0 +1,276 @@
+//! `maildropd mend`: what can be had of a data folder that a start refuses.
+
+use crate::arguments::{Choice, Kind, Presence, optional_text_of, text_of, with_options};
+use crate::data::{refuse, refuse_folder};
+use apop::{Accounts, AccountsError};
+use clap::{Arg, ArgAction, ArgMatches, Command, Error};
+use mend::{Base, Behind, Condition, Gap, MendFault, Mending, Survey, Way, most_messages};
+use ports::{Fault, say};
+use std::alloc::Global;
+use std::fs::File;
+use std::io;
+use std::io::Read;
+use std::random::RandomSource;
+use std::rt::Files;
+use store::StoreFault;
+
+/// The options that have a value.
+const OPTIONS: &[Choice] = &[
+    Choice {
+        name: "data",
+        value: "FOLDER",
+        kind: Kind::Text,
+        presence: Presence::Required,
+        help: "The data folder",
+    },
+    Choice {
+        name: "accounts",
+        value: "FILE",
+        kind: Kind::Text,
+        presence: Presence::Optional,
+        help: "The accounts file of the service: no user in it is given a unique id again, also if nothing can be read of this user",
+    },
+];
+
+/// The command `mend` of the command line.
+pub(crate) fn mend_command<'a>(alloc: Global) -> Result<Command<'a>, Error> {
+    let cut = Arg::new(alloc, "cut")
+        .long("cut")
+        .help("Drops all from the damage on")
+        .action(ArgAction::SetTrue);
+    let salvage = Arg::new(alloc, "salvage")
+        .long("salvage")
+        .help("Keeps each whole change behind the damage that can still be made")
+        .action(ArgAction::SetTrue);
+    let mend = Command::new(alloc, "mend").about(
+        "Reports what is damaged in a data folder that `serve` refuses, and what lies behind the damage. With --cut or --salvage it mends the folder. The status is 0 if `serve` would go on",
+    );
+    Ok(with_options(alloc, mend, OPTIONS)?.arg(cut)?.arg(salvage)?)
+}
+
+/// Which way the words ask for. `Value` if they ask for both.
+fn way_of(matches: &ArgMatches<'_>) -> Result<Option<Way>, Fault> {
+    match (matches.get_flag("cut"), matches.get_flag("salvage")) {
+        (false, false) => Ok(None),
+        (true, false) => Ok(Some(Way::Cut)),
+        (false, true) => Ok(Some(Way::Salvage)),
+        (true, true) => Err(Fault::Value),
+    }
+}
+
+/// The accounts of this file.
+fn accounts_in<R: AllocGlobal + Files<File = File>>(rt: &R, path: &str) -> Result<Accounts, Fault> {
+    let Ok(mut file) = std::fs::open(rt, path) else {
+        return Err(Fault::Read);
+    };
+    let mut bytes = Vec::new(rt.alloc());
+    if file.read_to_end(&mut bytes).is_err() {
+        return Err(Fault::Read);
+    }
+    match Accounts::read(rt.alloc(), &bytes) {
+        Ok(accounts) => Ok(accounts),
+        Err(AccountsError::Line(line)) => Err(Fault::Account(line)),
+        Err(AccountsError::Twice(line)) => Err(Fault::NameTwice(line)),
+        Err(AccountsError::Memory) => Err(Fault::Memory),
+    }
+}
+
+/// The accounts of the file that the words name. None if they name no file.
+fn accounts_of<R: AllocGlobal + Files<File = File>>(
+    rt: &R,
+    matches: &ArgMatches<'_>,
+) -> Result<Option<Accounts>, Fault> {
+    match optional_text_of(matches, "accounts") {
+        Some(path) => Ok(Some(accounts_in(rt, path)?)),
+        None => Ok(None),
+    }
+}
+
+/// Prints a line.
+fn tell<R: AllocGlobal + Print>(
+    rt: &R,
+    line: Result<String, std::alloc::AllocError>,
+) -> Result<(), Fault> {
+    match line {
+        Ok(line) => say(&mut io::writer(rt), line.as_bytes()),
+        Err(_) => Err(Fault::Memory),
+    }
+}
+
+/// Prints what is kept before anything is salvaged.
+fn tell_base<R: AllocGlobal + Print>(rt: &R, survey: &Survey) -> Result<(), Fault> {
+    let alloc = rt.alloc();
+    let (number, at) = (survey.number, survey.at);
+    let line = match survey.base {
+        Base::Own => format!(in alloc; "segment {number} is kept up to byte {at}\n"),
+        Base::Before(before) => format!(in alloc;
+            "segment {number} has a damaged opening, so segment {before} is taken\n"
+        ),
+        Base::Nothing => format!(in alloc;
+            "segment {number} has a damaged opening, and there is no whole segment before it\n"
+        ),
+    };
+    tell(rt, line)
+}
+
+/// Prints where nothing can be read.
+fn tell_gap<R: AllocGlobal + Print>(rt: &R, gap: &Gap) -> Result<(), Fault> {
+    let (at, bytes) = (gap.at, gap.bytes);
+    let most = most_messages(bytes);
+    let line = format!(in rt.alloc();
+        "unreadable bytes {bytes} from byte {at} on, at most {most} messages\n"
+    );
+    tell(rt, line)
+}
+
+/// Prints what lies behind the damage of a user's mail.
+fn tell_user<R: AllocGlobal + Print>(rt: &R, user: &Behind) -> Result<(), Fault> {
+    let alloc = rt.alloc();
+    let name = std::str::from_utf8(user.name.get()).unwrap_or("?");
+    let (messages, removed) = (user.messages, user.removed);
+    tell(
+        rt,
+        format!(in alloc; "user {name} messages {messages} removed {removed}\n"),
+    )
+}
+
+/// Prints what was found.
+fn tell_survey<R: AllocGlobal + Print>(rt: &R, survey: &Survey) -> Result<(), Fault> {
+    let alloc = rt.alloc();
+    tell_base(rt, survey)?;
+    for gap in &survey.behind.gaps {
+        tell_gap(rt, gap)?;
+    }
+    let (records, refused) = (survey.behind.records, survey.behind.refused);
+    tell(
+        rt,
+        format!(in alloc; "behind the damage whole batches {records}, not taken whole {refused}\n"),
+    )?;
+    for user in &survey.users(alloc)? {
+        tell_user(rt, user)?;
+    }
+    for (word, dropped) in [
+        ("cut", survey.cut.dropped),
+        ("salvage", survey.salvaged.dropped),
+    ] {
+        let ids = most_messages(dropped);
+        tell(
+            rt,
+            format!(in alloc; "--{word} drops bytes {dropped}, raises next ids by {ids}\n"),
+        )?;
+    }
+    Ok(())
+}
+
+/// A number that no sender of mail can know.
+fn random_salt<R: RandomSource>(rt: &R) -> Result<u64, Fault> {
+    let mut salt = [0u8; 8];
+    match rt.fill_bytes(&mut salt) {
+        Ok(()) => Ok(u64::from_be_bytes(salt)),
+        Err(_) => Err(Fault::Read),
+    }
+}
+
+/// Reports why a folder isn't mended. Returns the status.
+fn refuse_mending<R: Eprint>(rt: &R, path: &str, fault: MendFault) -> u8 {
+    if let MendFault::Store(fault) = fault {
+        return refuse_folder(rt, path, fault);
+    }
+    let _untold = eprintln!(rt; "maildropd: {path}{fault}");
+    1
+}
+
+/// Reports what a start refuses, and which words would mend it. Returns the status.
+fn ask<R: Eprint>(rt: &R, path: &str, fault: StoreFault) -> u8 {
+    refuse_folder(rt, path, fault);
+    let _untold = eprintln!(rt; "maildropd: nothing was changed; say --cut or --salvage");
+    1
+}
+
+/// Reports what was found, and mends a folder in this way. Returns the status.
+fn mend_segment<R: AllocGlobal + Files<File = File> + RandomSource + Copy + Print + Eprint>(
+    rt: &R,
+    path: &str,
+    mending: &Mending<R>,
+    found: (StoreFault, Survey),
+    way: Option<Way>,
+) -> Result<u8, Fault> {
+    let (fault, survey) = found;
+    tell_survey(rt, &survey)?;
+    let Some(way) = way else {
+        return Ok(ask(rt, path, fault));
+    };
+    let mended = mending.mend(survey, way, random_salt(rt)?);
+    tell_end(rt, path, mended)
+}
+
+/// Removes the note of an orderly end, if one of the words was given. Returns the status.
+fn mend_note<R: AllocGlobal + Files<File = File> + Copy + Print + Eprint>(
+    rt: &R,
+    path: &str,
+    mending: &Mending<R>,
+    fault: StoreFault,
+    way: Option<Way>,
+) -> Result<u8, Fault> {
+    let alloc = rt.alloc();
+    tell(rt, format!(in alloc; "the newest segment is whole\n"))?;
+    if way.is_none() {
+        return Ok(ask(rt, path, fault));
+    }
+    tell_end(rt, path, mending.forget_note())
+}
+
+/// Reports whether a folder was mended. Returns the status.
+fn tell_end<R: AllocGlobal + Print + Eprint>(
+    rt: &R,
+    path: &str,
+    mended: Result<(), MendFault>,
+) -> Result<u8, Fault> {
+    if let Err(fault) = mended {
+        return Ok(refuse_mending(rt, path, fault));
+    }
+    let alloc = rt.alloc();
+    tell(rt, format!(in alloc; "mended\n"))?;
+    Ok(0)
+}
+
+/// Mends a folder as the words say. Returns the status.
+fn apply<R: AllocGlobal + Files<File = File> + RandomSource + Copy + Print + Eprint>(
+    rt: &R,
+    path: &str,
+    matches: &ArgMatches<'_>,
+    mending: &Mending<R>,
+) -> Result<u8, Fault> {
+    let alloc = rt.alloc();
+    let way = way_of(matches)?;
+    let accounts = accounts_of(rt, matches)?;
+    match mending.look() {
+        Err(fault) => Ok(refuse_folder(rt, path, fault)),
+        Ok(Condition::Sound) => {
+            tell(rt, format!(in alloc; "nothing to mend\n"))?;
+            Ok(0)
+        }
+        Ok(Condition::NoteAlone(fault, _)) => mend_note(rt, path, mending, fault, way),
+        Ok(Condition::Damaged(fault, mut survey)) => {
+            if let Some(accounts) = &accounts {
+                survey.know(accounts.names())?;
+            }
+            mend_segment(rt, path, mending, (fault, survey), way)
+        }
+    }
+}
+
+pub(crate) fn run_mend<R: AllocGlobal + Files<File = File> + RandomSource + Copy + Print + Eprint>(
+    rt: &R,
+    matches: &ArgMatches<'_>,
+) -> u8 {
+    let path = text_of(matches, "data");
+    let mending = match Mending::open(rt, rt.alloc(), path) {
+        Ok(mending) => mending,
+        Err(fault) => return refuse_folder(rt, path, fault),
+    };
+    match apply(rt, path, matches, &mending) {
+        Ok(status) => status,
+        Err(fault) => refuse(rt, fault),
+    }
+}
