@@ -56,6 +56,8 @@ const FAULTS: &[(Fault, &str, u8)] = &[
         "/00000003.log is damaged at byte 120",
         1,
     ),
+    (Fault::Missing(3), "/00000003.log is missing", 1),
+    (Fault::NoteDamaged, "/clean is damaged", 1),
     (Fault::NoMajority, "no majority", 1),
     (Fault::Memory, "no memory", 1),
     (Fault::Read, "read failed", 1),
