@@ -1,6 +1,6 @@
 -- What is in a folder of segments.
-use Rattle.std.specs.Prelude.{◌≡◌, ℕ, suc, List, [], ◌∷◌, ◌++◌, map, filter, Option, None, Some, ◌==◌, not, if◌then◌else◌, refl, codes}
-use Rattle.store.specs.Numbers.{newest}
+use Rattle.std.specs.Prelude.{◌≡◌, ℕ, suc, List, [], ◌∷◌, ◌++◌, map, filter, Option, None, Some, ◌==◌, not, nat_lt, if◌then◌else◌, refl, codes}
+use Rattle.store.specs.Numbers.{count_above, newest}
 use Rattle.store.specs.declared.note.CleanNote.{CleanNote}
 
 -- each segment that counts, by its number, with the bytes that it had when it came to count; and the note of a clean stop
@@ -31,6 +31,10 @@ after_newest (Some number) = suc number
 abbrev pub next_number : List (ℕ × List ℕ) → ℕ
 next_number files = after_newest (newest (numbers_of files))
 
+-- those segments of which fewer than so many are newer
+abbrev pub newest_files : ℕ → List (ℕ × List ℕ) → List (ℕ × List ℕ)
+newest_files keep files = filter (λ f. nat_lt (count_above f.0 (numbers_of files)) keep) files
+
 abbrev three : List (ℕ × List ℕ)
 three = (3, codes "c") ∷ (1, codes "a") ∷ (2, codes "b") ∷ []
 
@@ -45,3 +49,9 @@ put = refl
 
 next : next_number three ≡ 4
 next = refl
+
+two_newest : newest_files 2 three ≡ (3, codes "c") ∷ (2, codes "b") ∷ []
+two_newest = refl
+
+none_newest : newest_files 0 three ≡ []
+none_newest = refl

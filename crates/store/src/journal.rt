@@ -5,7 +5,7 @@ ghost use Rattle.maildrop.specs.declared.command.Command.{Command};
 ghost use Rattle.store.specs.Whole.{IsEnded, IsNumbered, IsWhole};
 ghost use Rattle.store.specs.Running.{HaveTaken, IsAddition, TakesSuch, decided_of};
 
-use crate::device::{Device, DeviceError};
+use crate::device::Device;
 use crate::file_device::FileDevice;
 use crate::opened::{EndedSegment, OpenedSegment};
 use crate::pending::{Closed, Pending};
@@ -212,8 +212,8 @@ impl<D: Device> Journal<D> {
 
     /// Ends the segment, once no thread has the journal: adds an empty batch, waits until it is on the disk, and returns the
     /// file, and what `DataFolder::note_clean` notes. Nothing more can be written then. If that fails, or if a call of `settle`
-    /// has failed, the segment isn't ended.
-    pub fn finish(self) -> Result<(D, EndedSegment), DeviceError>
+    /// has failed, the segment isn't ended, and only the file is returned.
+    pub fn finish(self) -> Result<(D, EndedSegment), D>
     where
         D: Drop,
         ensures ended { IfOk result (λ r. IsEnded (D.synced r.0)) }
@@ -221,7 +221,7 @@ impl<D: Device> Journal<D> {
     {
         let state = self.state.into_inner();
         if state.has_failed {
-            return Err(DeviceError);
+            return Err(self.file.into_inner().into_device());
         }
         self.file.into_inner().finish(state.alloc)
     }

@@ -1,10 +1,10 @@
 //! A segment whose epoch runs.
-ghost use Rattle.std.specs.Prelude.{◌≡◌, ◌++◌, [], true, false, IfOk};
+ghost use Rattle.std.specs.Prelude.{◌≡◌, ◌++◌, [], true, false, IfOk, IfErr};
 ghost use Rattle.store.specs.Device.{BeginsWith};
 ghost use Rattle.store.specs.Running.{IsAddition, IsCommitted};
 ghost use Rattle.store.specs.Whole.{IsEnded, IsNumbered, IsWhole};
 
-use crate::device::{Device, DeviceError};
+use crate::device::Device;
 use crate::growing::Growing;
 use crate::opened::{EndedSegment, OpenedSegment};
 use batches::Batch;
@@ -79,18 +79,19 @@ impl<D: Device> Running<D> {
     }
 
     /// Ends the segment: adds an empty batch, waits until it is on the disk, and returns the file, and what can be noted of it.
-    /// So damage of a batch that has entries isn't taken for a torn end. If that fails the file has failed.
-    pub(crate) fn finish(mut self, alloc: Global) -> Result<(D, EndedSegment), DeviceError>
+    /// So damage of a batch that has entries isn't taken for a torn end. If that fails, returns the file, which has failed.
+    pub(crate) fn finish(mut self, alloc: Global) -> Result<(D, EndedSegment), D>
     where
         D: Drop,
         ensures added { IfOk result (λ r. IsCommitted self.salt (D.synced self.file.device) [] (D.synced r.0)) }
         ensures ended { IfOk result (λ r. IsEnded (D.synced r.0)) }
         ensures numbered { IfOk result (λ r. IsNumbered r.1.number r.1.salt r.1.size (D.synced r.0)) }
+        ensures none_lost { IfErr result (λ device. D.synced device ≡ D.synced self.file.device) }
     {
         // Only a proof reads it, and what its clause says.
         let _before = self.ended();
         if !self.commit(Batch::new(alloc)) {
-            return Err(DeviceError);
+            return Err(self.file.into_device());
         }
         let ended = self.ended();
         Ok((self.file.into_device(), ended))
