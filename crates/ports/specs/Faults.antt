@@ -4,12 +4,13 @@ use Rattle.std.specs.Net.Addr.{ipv4_octets}
 use Rattle.std.specs.declared.net.ip_addr.IpAddr.{IpAddr}
 use Rattle.std.specs.declared.net.ip_addr.IpAddr.TheVariants.{V4, V6}
 use Rattle.ports.specs.declared.fault.Fault.{Fault}
-use Rattle.ports.specs.declared.fault.Fault.TheVariants.{Value, Account, NameTwice, Listen, ListenSocket, Reach, ReachSocket, StartedBefore, Mark, Log, InUse, NotBegun, NotEmpty, Damaged, Missing, NoteDamaged, NoMajority, Memory, Read, Write}
+use Rattle.ports.specs.declared.fault.Fault.TheVariants.{Value, Account, NameTwice, NoAccounts, Listen, ListenSocket, Reach, ReachSocket, StartedBefore, Mark, Log, InUse, NotBegun, NotEmpty, Damaged, Missing, NoteDamaged, NoMajority, Memory, Read, Write}
 
 abbrev pub status_at : Fault → ℕ
 status_at Value = 2
 status_at (Account line) = 2
 status_at (NameTwice line) = 2
+status_at NoAccounts = 2
 status_at (Listen address port) = 1
 status_at ListenSocket = 1
 status_at (Reach port) = 1

@@ -19,6 +19,9 @@ pub enum Fault {
     /// The name in this line of the accounts file stands in a line before it.
     #[error("accounts line {0}: name twice")]
     NameTwice(usize),
+    /// No line of the accounts file is an account, which it is to have as an epoch begins after another one.
+    #[error("accounts: none")]
+    NoAccounts,
     /// The port is in use, or isn't the user's to take.
     #[error("cannot listen on {0}:{1}")]
     Listen(IpAddr, u16),
@@ -92,7 +95,11 @@ impl Fault {
         ensures { result ≡ status_at self }
     {
         match self {
-            Fault::Value | Fault::Account(_) | Fault::NameTwice(_) | Fault::StartedBefore(_) => 2,
+            Fault::Value
+            | Fault::Account(_)
+            | Fault::NameTwice(_)
+            | Fault::NoAccounts
+            | Fault::StartedBefore(_) => 2,
             Fault::Listen(_, _)
             | Fault::ListenSocket
             | Fault::Reach(_)

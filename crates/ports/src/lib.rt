@@ -32,7 +32,7 @@ pub use opening::Opening;
 pub use operator_limits::{LONGEST_PAUSE_MS, PIECE};
 pub use operator_place::{OperatorPlace, connect};
 pub use operator_reader::OperatorReader;
-pub use operator_socket::remove_socket;
+pub use operator_socket::OperatorSocket;
 pub use operator_stream::{OperatorListener, OperatorStream};
 pub use request_places::RequestPlaces;
 pub use saying::say;

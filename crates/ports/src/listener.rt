@@ -69,6 +69,11 @@ impl<S: Drop, L: Listening<S> + Drop> Port<S, L> {
         })
     }
 
+    /// Where connections are taken.
+    pub fn listener(&self) -> &L {
+        &self.listener
+    }
+
     /// Lets no client come any more. The connections that are not served yet are closed.
     pub fn close<R: Wait>(&self, rt: &R) {
         self.arrivals.close(rt);

@@ -6,12 +6,12 @@ ghost use Rattle.ports.specs.Faults.{IsCtlFault};
 use crate::connection::{Connection, Listening, close_listener};
 use crate::fault::Fault;
 use crate::listener::listen_at;
-use crate::operator_socket::open_socket;
+use crate::operator_socket::OperatorSocket;
 use crate::system::System;
 use libc::net::{POLLERR, POLLHUP, POLLRDHUP, poll};
 use libc::types::pollfd;
 use std::io;
-use std::io::{Read, Write};
+use std::io::{ErrorKind, Read, Write};
 use std::net::{IpAddr, Ipv4Addr, Shutdown, SocketAddr, TcpListener, TcpStream};
 use std::os::fd::AsRawFd;
 use std::os::unix::net::{UnixListener, UnixStream};
@@ -79,8 +79,8 @@ impl OperatorStream {
     }
 }
 
-/// Reads from a connection.
-fn read_from(stream: &OperatorStream, buf: &mut [u8]) -> io::Result<usize>
+/// Reads from a connection once.
+fn read_once(stream: &OperatorStream, buf: &mut [u8]) -> io::Result<usize>
     ensures { ReadsAtMost result buf.new }
 {
     match stream {
@@ -93,6 +93,20 @@ fn read_from(stream: &OperatorStream, buf: &mut [u8]) -> io::Result<usize>
             reader.read(buf)
         }
     }
+}
+
+/// Reads from a connection, and again if that was interrupted: Linux interrupts a read with a time limit in a process that was
+/// stopped for a while.
+fn read_from(stream: &OperatorStream, buf: &mut [u8]) -> io::Result<usize>
+    ensures { ReadsAtMost result buf.new }
+{
+    for _ in 0..u64::MAX {
+        match read_once(stream, buf) {
+            Err(error) if error.kind() == ErrorKind::Interrupted => {}
+            read => return read,
+        }
+    }
+    Err(io::Error::from(ErrorKind::Interrupted))
 }
 
 /// Writes to a connection.
@@ -144,7 +158,7 @@ pub enum OperatorListener {
     /// A port of this machine.
     Tcp(TcpListener),
     /// A Unix socket.
-    Unix(UnixListener),
+    Unix(OperatorSocket),
 }
 
 impl OperatorListener {
@@ -161,8 +175,16 @@ impl OperatorListener {
                 let listener = listen_at(rt, IpAddr::V4(Ipv4Addr::LOCALHOST), number)?;
                 Ok(OperatorListener::Tcp(listener))
             }
-            (None, Some(path)) => Ok(OperatorListener::Unix(open_socket(rt, path)?)),
+            (None, Some(path)) => Ok(OperatorListener::Unix(OperatorSocket::open(rt, path)?)),
             (None, None) => Err(Fault::ListenSocket),
+        }
+    }
+
+    /// Removes the file of a socket from this path, unless another process has made its own there meanwhile. A port has none.
+    pub fn remove_file<R: Files>(&self, rt: &R, path: &str) {
+        match self {
+            OperatorListener::Tcp(_) => {}
+            OperatorListener::Unix(socket) => socket.remove_file(rt, path),
         }
     }
 }
@@ -174,8 +196,8 @@ impl Listening<OperatorStream> for OperatorListener {
                 let (stream, peer) = TcpListener::accept(listener)?;
                 Ok((OperatorStream::Tcp(stream), peer))
             }
-            OperatorListener::Unix(listener) => {
-                let (stream, _) = UnixListener::accept(listener)?;
+            OperatorListener::Unix(socket) => {
+                let (stream, _) = UnixListener::accept(socket.listener())?;
                 // Whoever comes to a socket has no address.
                 Ok((
                     OperatorStream::Unix(stream),
@@ -188,7 +210,7 @@ impl Listening<OperatorStream> for OperatorListener {
     fn close(&self) {
         match self {
             OperatorListener::Tcp(listener) => close_listener(listener),
-            OperatorListener::Unix(listener) => close_listener(listener),
+            OperatorListener::Unix(socket) => close_listener(socket.listener()),
         }
     }
 }
