@@ -117,15 +117,19 @@ impl<'a, R: Wait + Clock> BoundedReader<'a, R> {
     }
 }
 
-/// Reads into the room, once more if that was interrupted: Linux does so to a process that was stopped for a while.
+/// Reads into the room, and again if that was interrupted: Linux interrupts a read with a time limit in a process that was
+/// stopped for a while.
 fn read_again(stream: &TcpStream, room: &mut [u8]) -> io::Result<usize>
     ensures { ReadsAtMost result room.new }
 {
     let mut reader = stream;
-    match reader.read(room) {
-        Err(error) if error.kind() == io::ErrorKind::Interrupted => reader.read(room),
-        read => read,
+    for _ in 0..u64::MAX {
+        match reader.read(room) {
+            Err(error) if error.kind() == io::ErrorKind::Interrupted => {}
+            read => return read,
+        }
     }
+    Err(io::Error::from(io::ErrorKind::Interrupted))
 }
 
 /// Whether a line is awaited of which a part has come, after this piece.

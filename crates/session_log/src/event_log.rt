@@ -12,14 +12,19 @@ use maildrop::Name;
 use ports::Fault;
 use std::alloc::Global;
 use std::fs::{File, OpenOptions};
+use std::io;
 use std::io::Write;
 use std::net::SocketAddr;
+use std::os::unix::fs::OpenOptionsExt;
 use std::rt::Files;
 use std::sync::{Mutex, Wait};
 use std::time::Clock;
 
 /// Room for most lines.
 const LINE: usize = 256;
+
+/// The permissions of a log that is made: it names users and addresses.
+const FILE_MODE: u32 = 0o640;
 
 /// The path that stands for standard error.
 const STANDARD_ERROR: &str = "-";
@@ -49,6 +54,16 @@ impl Target {
     }
 }
 
+/// Opens a log's file to append to it. One that isn't there is made.
+fn open_file<R: Files<File = File>>(rt: &R, path: &str) -> io::Result<File> {
+    let mut options = OpenOptions::new();
+    options
+        .append(true)
+        .create(true)
+        .mode(FILE_MODE)
+        .open(rt, path)
+}
+
 /// The log: a line for each event. It is given up at the first line that can't be written, and the service goes on.
 #[derive(Drop)]
 pub struct EventLog {
@@ -68,7 +83,7 @@ impl EventLog {
         match path {
             None => Ok(EventLog::to(alloc, false, Target::Nowhere)),
             Some(STANDARD_ERROR) => Ok(EventLog::to(alloc, true, Target::StandardError)),
-            Some(path) => match OpenOptions::new().append(true).create(true).open(rt, path) {
+            Some(path) => match open_file(rt, path) {
                 Ok(file) => Ok(EventLog::to(alloc, true, Target::File(file))),
                 Err(_) => Err(Fault::Log),
             },
