@@ -101,9 +101,9 @@ fn send<R: Net<Listener = TcpListener, Stream = TcpStream>, W: Write>(
     ensures { IfOk result IsStatus }
 {
     let message = Message::new(alloc, request, body)?;
-    exchange(rt, alloc, writer, place, instruction, &message)?
-        .ending
-        .status()
+    let heard = exchange(rt, alloc, writer, place, instruction, &message)?;
+    heard.printed?;
+    heard.answer.ending.status()
 }
 
 /// Has the messages of a mailbox file delivered, and prints the answer. Returns the exit status that it brings.

@@ -67,36 +67,47 @@ fn read_answer_line<B: BufRead>(reader: &mut B, line: &mut Vec<u8>) -> Result<bo
     Err(Fault::Memory)
 }
 
-/// Prints the lines of the answer to an instruction. Returns what it says. A service without memory closes the connection
-/// without an answer.
+/// What a service has answered.
+#[derive(Clone, Copy)]
+pub(crate) struct Heard {
+    pub answer: Answer,
+    /// Whether all of it was printed.
+    pub printed: Result<(), Fault>,
+}
+
+/// Prints the lines of the answer to an instruction, up to the first that can't be printed. Returns what all of them say. A
+/// service without memory closes the connection without an answer.
 fn print_answer<W: Write>(
     alloc: Global,
     stream: &OperatorStream,
     writer: &mut W,
     instruction: &Instruction<'_>,
-) -> Result<Answer, Fault> {
+) -> Result<Heard, Fault> {
     let Ok(mut reader) = BufReader::new(alloc, stream) else {
         return Err(Fault::Memory);
     };
     let mut line = Vec::new(alloc);
     let mut answer = Answer::new();
+    let mut printed = Ok(());
     for _ in 0..u64::MAX {
         line.clear();
         if !read_answer_line(&mut reader, &mut line)? {
-            return Ok(answer);
+            return Ok(Heard { answer, printed });
         }
-        say(writer, line.as_slice())?;
+        if printed.is_ok() {
+            printed = say(writer, line.as_slice());
+        }
         match line.as_slice().strip_suffix(b"\n") {
             Some(text) => answer.hear(instruction, text),
             None => answer.break_off(),
         }
         // It would say no more before its client does.
         if line.as_slice().starts_with(GREETING) {
-            return Ok(answer);
+            return Ok(Heard { answer, printed });
         }
     }
     answer.break_off();
-    Ok(answer)
+    Ok(Heard { answer, printed })
 }
 
 /// Sends a message for an instruction, and prints the answer. The connection stays open for both ways while nodes are waited
@@ -108,7 +119,7 @@ pub(crate) fn exchange<R: Net<Listener = TcpListener, Stream = TcpStream>, W: Wr
     place: &OperatorPlace<'_>,
     instruction: &Instruction<'_>,
     message: &Message,
-) -> Result<Answer, Fault> {
+) -> Result<Heard, Fault> {
     let stream = connect(rt, place)?;
     let awaits_nodes = awaits_nodes(instruction);
     if !awaits_nodes && !awaits_verdict(instruction) {

@@ -172,7 +172,7 @@ fn request_of(
     })
 }
 
-/// Has the message of a reader delivered, prints the answer, and returns the exit status that it brings.
+/// Has the message of a reader delivered, prints the answer if it can, and returns the exit status that the answer brings.
 pub(crate) fn put_message<R: Net<Listener = TcpListener, Stream = TcpStream>, S: Read, W: Write>(
     rt: &R,
     alloc: Global,
@@ -189,11 +189,12 @@ pub(crate) fn put_message<R: Net<Listener = TcpListener, Stream = TcpStream>, S:
     let body = read_within(alloc, reader, LARGEST_FILE)?;
     let count = body.len() as u64;
     if count > LARGEST_FILE {
-        say(writer, b"too large\n")?;
+        let _untold = say(writer, b"too large\n");
         return Ok(TOO_LARGE);
     }
     let request = request_of(node, *user, key, count)?;
     let message = Message::new(alloc, &request, body)?;
-    let answer = exchange(rt, alloc, writer, place, instruction, &message)?;
-    status_after(&answer)
+    // Whether it can be printed changes nothing of what has become of the message.
+    let heard = exchange(rt, alloc, writer, place, instruction, &message)?;
+    status_after(&heard.answer)
 }
