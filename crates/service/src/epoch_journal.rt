@@ -1,4 +1,5 @@
 //! The journal of an epoch.
+ghost use Rattle.std.specs.Prelude.{◌≡◌, if◌then◌else◌};
 
 use crate::brand::Service;
 use ballot::Memory;
@@ -24,6 +25,17 @@ impl<D: Service, R: Wait, L: Link> Performer for DeskPerformer<'_, D, R, L> {
 
     fn performed_after(&self, taken: u64) -> Result<Option<Performed>, Memory> {
         self.desk.performed_after(taken)
+    }
+}
+
+/// Why a write has failed: because another process uses the file or the folder, or not.
+fn write_fault(is_in_use: bool) -> Fault
+    ensures { result ≡ (if is_in_use then Fault.InUse else Fault.Write) }
+{
+    if is_in_use {
+        Fault::InUse
+    } else {
+        Fault::Write
     }
 }
 
@@ -84,13 +96,7 @@ impl EpochJournal {
     /// The fault of a write, if one has failed. The service ends because of it.
     pub(crate) fn written<R: Wait>(&self, rt: &R) -> Result<(), Fault> {
         match &self.journal {
-            Some(journal) if journal.has_failed(rt) => {
-                if journal.is_in_use(rt) {
-                    Err(Fault::InUse)
-                } else {
-                    Err(Fault::Write)
-                }
-            }
+            Some(journal) if journal.has_failed(rt) => { Err(write_fault(journal.is_in_use(rt))) }
             _ => Ok(()),
         }
     }
@@ -106,7 +112,7 @@ impl EpochJournal {
         };
         match journal.finish() {
             Ok((_, ended)) => Ok(Some(ended)),
-            Err(_) => Err(Fault::Write),
+            Err(file) => Err(write_fault(file.is_in_use())),
         }
     }
 

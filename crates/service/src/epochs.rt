@@ -1,5 +1,7 @@
 //! The epochs of a service, one after another.
-ghost use Rattle.std.specs.Prelude.{◌≡◌, None, Ok, option_map, IfOk, IfSome};
+ghost use Rattle.std.specs.Arc.{arc_value};
+ghost use Rattle.std.specs.Prelude.{◌≡◌, ◌<◌, None, Ok, length, map, option_map, IfOk, IfSome};
+ghost use Rattle.apop.specs.Accounts.{name_of};
 ghost use Rattle.cluster.specs.Ends.{IsLeftBy};
 ghost use Rattle.service.specs.Epochs as spec;
 ghost use Rattle.service.specs.EpochEnds.{IsLeftOf};
@@ -67,6 +69,21 @@ impl PastOperators {
     }
 }
 
+/// The accounts of the file of this path. `NoAccounts` if it has none: it may be one that is being written.
+fn some_accounts_of<R: System + Files<File = File>>(
+    rt: &R,
+    alloc: Global,
+    path: &str,
+) -> Result<Arc<Accounts>, Fault>
+    ensures { IfOk result (λ accounts. 0 < length (map name_of (arc_value accounts))) }
+{
+    let accounts = accounts_of(rt, alloc, path)?;
+    if accounts.names().is_empty() {
+        return Err(Fault::NoAccounts);
+    }
+    Ok(Arc::new(alloc, accounts)?)
+}
+
 /// The accounts of the file, or those of the last epoch if it is faulty now.
 fn next_accounts<R: System + Files<File = File>>(
     rt: &R,
@@ -75,14 +92,7 @@ fn next_accounts<R: System + Files<File = File>>(
     life: &ServiceLife,
     last: Arc<Accounts>,
 ) -> Arc<Accounts> {
-    let read = match accounts_of(rt, alloc, options.accounts) {
-        Ok(accounts) => match Arc::new(alloc, accounts) {
-            Ok(accounts) => Ok(accounts),
-            Err(_) => Err(Fault::Memory),
-        },
-        Err(fault) => Err(fault),
-    };
-    match read {
+    match some_accounts_of(rt, alloc, options.accounts) {
         Ok(accounts) => accounts,
         Err(fault) => {
             note_fault(rt, alloc, life.log(), None, fault);

@@ -27,7 +27,7 @@ use ballot::Items;
 use cluster::Setup;
 use maildrop::{Kept, Shared};
 use node::NodeLog;
-use ports::{Fault, System, read_file, remove_socket, say};
+use ports::{Fault, System, read_file, say};
 use session::Transcript;
 use session_log::EventLog;
 use std::alloc::Global;
@@ -288,7 +288,10 @@ fn end_storage<R: System + Files<File = File> + Drop>(
 }
 
 /// Why a service has ended: the fault of its storage's end, or else the one that was there before.
-fn last_fault(ended: Result<(), Fault>, fault: Option<Fault>) -> Option<Fault> {
+fn last_fault(ended: Result<(), Fault>, fault: Option<Fault>) -> Option<Fault>
+    ensures ended { IfOk ended (λ _. result ≡ fault) }
+    ensures failed { IfErr ended (λ found. result ≡ Some found) }
+{
     match ended {
         Ok(()) => fault,
         Err(found) => Some(found),
@@ -336,7 +339,7 @@ fn run_service<R: System + Files<File = File>, W: Write>(
     threads.join(&rt);
     let ended = end_storage(&rt, storage, &end);
     if let Some(path) = options.ctl_socket {
-        remove_socket(&rt, path);
+        ports.remove_socket(&rt, path);
     }
     match end {
         Ok(end) => Ok(RunEnd {

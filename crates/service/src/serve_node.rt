@@ -22,7 +22,7 @@ use apop::Accounts;
 use ballot::NodeId;
 use cluster::Setup;
 use maildrop::{Kept, Shared};
-use ports::{Fault, System, remove_socket, say};
+use ports::{Fault, System, say};
 use std::alloc::Global;
 use std::fs::File;
 use std::io::{Eprint, Write};
@@ -117,7 +117,7 @@ fn mark_and_serve<D: Service + Send + Sync + 'static, R: System + Files<File = F
     life.end(&rt);
     join_all(&rt, takers);
     if let Some(path) = socket {
-        remove_socket(&rt, path);
+        ports.remove_socket(&rt, path);
     }
     end
 }

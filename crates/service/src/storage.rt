@@ -30,7 +30,7 @@ pub(crate) struct Storage<R: Files<File = File>> {
     journal: EpochJournal,
 }
 
-/// What a start has dropped behind the last whole batch of a segment.
+/// What a start has dropped after the last whole batch of a segment.
 #[derive(Clone, Copy, Debug, PartialEq, Eq)]
 pub(crate) struct Torn {
     /// The number of the segment.

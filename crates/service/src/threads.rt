@@ -253,6 +253,11 @@ impl Ports {
         self.ctl.close(rt);
     }
 
+    /// Removes the operator's socket from this path, unless another process has made its own there meanwhile.
+    pub(crate) fn remove_socket<R: Files>(&self, rt: &R, path: &str) {
+        self.ctl.listener().remove_file(rt, path);
+    }
+
     /// Lets nobody come any more.
     pub(crate) fn close<R: Wait>(&self, rt: &R) {
         self.close_pop(rt);

@@ -35,6 +35,7 @@ const FAULTS: &[(Fault, &str, u8)] = &[
     (Fault::Value, "bad value", 2),
     (Fault::Account(12), "accounts line 12", 2),
     (Fault::NameTwice(2), "accounts line 2: name twice", 2),
+    (Fault::NoAccounts, "accounts: none", 2),
     (
         Fault::Listen(IpAddr::V4(Ipv4Addr::LOCALHOST), 65_535),
         "cannot listen on 127.0.0.1:65535",
