@@ -35,7 +35,7 @@ pub enum Base {
 pub enum Way {
     /// All is dropped from the damage on.
     Cut,
-    /// Whole records behind the damage are taken, as far as they can come.
+    /// Whole records after the damage are taken, as far as they can come.
     Salvage,
 }
 
@@ -66,7 +66,7 @@ pub struct Survey {
     pub cut: Rescue,
     /// What a salvage leaves.
     pub salvaged: Rescue,
-    /// What was found behind the damage.
+    /// What was found after the damage.
     pub behind: Findings,
 }
 
@@ -278,7 +278,7 @@ impl Survey {
     }
 }
 
-/// What lies behind the damage of a user's mail.
+/// What follows the damage of a user's mail.
 #[derive(Clone, Copy, Debug, PartialEq, Eq)]
 pub struct Behind {
     pub name: Name,
@@ -300,7 +300,7 @@ fn count_from(next: u64, messages: &[Message]) -> u64 {
 }
 
 impl Survey {
-    /// What lies behind the damage, by users.
+    /// What follows the damage, by users.
     pub fn users(&self, alloc: Global) -> Result<Vec<Behind>, Memory> {
         let (cut, all) = (&self.cut.kept, &self.salvaged.kept);
         let mut users = Vec::new(alloc);
