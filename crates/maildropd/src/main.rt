@@ -6,6 +6,7 @@ mod data;
 mod lone;
 mod mending;
 mod operator;
+mod put_words;
 mod serve;
 mod sim;
 
@@ -13,11 +14,13 @@ use crate::data::{begin_command, check_command, export_command, run_begin, run_c
 use crate::lone::{lone, run_lone};
 use crate::mending::{mend_command, run_mend};
 use crate::operator::{ctl, run_ctl};
+use crate::put_words::status_without_memory;
 use crate::serve::{run_serve, serve};
 use crate::sim::{run_sim, sim};
 use clap::error::ErrorKind;
 use clap::{Command, Error};
 use std::alloc::Global;
+use std::env::Env;
 use std::fs::File;
 use std::io;
 use std::net::{Net, TcpListener, TcpStream};
@@ -77,12 +80,13 @@ fn run<
     }
 }
 
-/// Reports why nothing was run, and returns the exit status: 0 after a help text, 1 if out of memory, else 2.
-fn refused<R: Print + Eprint>(rt: &R, error: &Error) -> u8 {
+/// Reports why nothing was run, and returns the exit status: 0 after a help text, 1 if out of memory, or 75 if a message was to
+/// be put, else 2.
+fn refused<R: Print + Eprint + Env>(rt: &R, error: &Error) -> u8 {
     match error.kind() {
         ErrorKind::OutOfMemory => {
             let _ = eprintln!(rt; "maildropd: no memory");
-            1
+            status_without_memory(rt)
         }
         ErrorKind::DisplayHelp | ErrorKind::DisplayVersion => {
             let _ = error.print(rt);
@@ -101,11 +105,12 @@ fn words_of(rt: &HostRuntime) -> io::Result<Vec<String>> {
     Ok(words)
 }
 
-/// Reports why the words can't be read, and returns the exit status: 1 if out of memory, else 2.
-fn unreadable<R: Eprint>(rt: &R, error: &io::Error) -> u8 {
+/// Reports why the words can't be read, and returns the exit status: 1 if out of memory, or 75 if a message was to be put, else
+/// 2.
+fn unreadable<R: Eprint + Env>(rt: &R, error: &io::Error) -> u8 {
     if error.kind() == io::ErrorKind::OutOfMemory {
         let _ = eprintln!(rt; "maildropd: no memory");
-        1
+        status_without_memory(rt)
     } else {
         let _ = eprintln!(rt; "maildropd: a word of the command line is not UTF-8");
         2

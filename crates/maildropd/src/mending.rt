@@ -40,10 +40,10 @@ pub(crate) fn mend_command<'a>(alloc: Global) -> Result<Command<'a>, Error> {
         .action(ArgAction::SetTrue);
     let salvage = Arg::new(alloc, "salvage")
         .long("salvage")
-        .help("Keeps each whole change behind the damage that can still be made")
+        .help("Keeps each whole change after the damage that can still be made")
         .action(ArgAction::SetTrue);
     let mend = Command::new(alloc, "mend").about(
-        "Reports what is damaged in a data folder that `serve` refuses, and what lies behind the damage. With --cut or --salvage it mends the folder. The status is 0 if `serve` would go on",
+        "Reports what is damaged in a data folder that `serve` refuses, and what follows the damage. With --cut or --salvage it mends the folder. The status is 0 if `serve` would go on",
     );
     Ok(with_options(alloc, mend, OPTIONS)?.arg(cut)?.arg(salvage)?)
 }
@@ -123,7 +123,7 @@ fn tell_gap<R: AllocGlobal + Print>(rt: &R, gap: &Gap) -> Result<(), Fault> {
     tell(rt, line)
 }
 
-/// Prints what lies behind the damage of a user's mail.
+/// Prints what follows the damage of a user's mail.
 fn tell_user<R: AllocGlobal + Print>(rt: &R, user: &Behind) -> Result<(), Fault> {
     let alloc = rt.alloc();
     let name = std::str::from_utf8(user.name.get()).unwrap_or("?");
@@ -144,7 +144,7 @@ fn tell_survey<R: AllocGlobal + Print>(rt: &R, survey: &Survey) -> Result<(), Fa
     let (records, refused) = (survey.behind.records, survey.behind.refused);
     tell(
         rt,
-        format!(in alloc; "behind the damage whole batches {records}, not taken whole {refused}\n"),
+        format!(in alloc; "after the damage whole batches {records}, not taken whole {refused}\n"),
     )?;
     for user in &survey.users(alloc)? {
         tell_user(rt, user)?;
