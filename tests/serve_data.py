@@ -74,6 +74,18 @@ def expect_run(fixture, words, output=b"", status=0, errors=b""):
 
 
 @DATA.test
+def only_its_owner_uses_a_folder(fixture):
+    """Also if it was there, and others could look into it."""
+    folder = fixture.path("data")
+    os.mkdir(folder)
+    os.chmod(folder, 0o755)
+    expect_run(fixture, ["begin", "--data", folder])
+    expect_equal(os.stat(folder).st_mode & 0o777, 0o700, "the folder's mode")
+    for name in os.listdir(folder):
+        expect_equal(os.stat(os.path.join(folder, name)).st_mode & 0o777, 0o600, f"the mode of {name}")
+
+
+@DATA.test
 def mail_outlives_the_process(fixture):
     folder = begun(fixture)
     play_to_end(serve(fixture, data=folder), BEFORE, TWO_SHORT, b"epoch 1: audit ok\naudit ok\n")
@@ -246,19 +258,27 @@ def a_folder_at_rest_is_compared(fixture):
 
 @DATA.test
 def what_others_write_is_noticed(fixture):
-    """A process that has no lock adds to the segment, or the lock is removed: nothing is written any more, and nobody is answered."""
+    """A process that has no lock adds to the segment, or the lock is removed: nothing is written any more, and nobody is answered. So
+    it is if the next write is that of the service's end."""
     def append(folder):
         with open(newest(folder), "ab") as it:
             it.write(b"\0")
 
-    for number, change in enumerate((append, lambda folder: os.remove(os.path.join(folder, "lock")))):
+    def remove_lock(folder):
+        os.remove(os.path.join(folder, "lock"))
+
+    cases = [(change, is_stopped) for change in (append, remove_lock) for is_stopped in (False, True)]
+    for number, (change, is_stopped) in enumerate(cases):
         folder = fixture.path(f"data-{number}")
         expect_run(fixture, ["begin", "--data", folder])
         service = serve(fixture, data=folder)
         expect_equal(service.ctl("put", "1", "alice", given=b"hi\n").status, 0, "put")
         change(folder)
         before = content(newest(folder))
-        expect_equal(b"stored" in service.ctl("put", "1", "alice", given=b"ho\n").output, False, "a put is answered")
+        if is_stopped:
+            service.expect_ctl("stop", "stopping\n")
+        else:
+            expect_equal(b"stored" in service.ctl("put", "1", "alice", given=b"ho\n").output, False, "a put is answered")
         service.process.wait(timeout=PATIENCE)
         expect_equal((service.process.returncode, service.errors()), (1, f"maildropd: {folder} is in use\n".encode()), "the end of the service")
         expect_equal((content(newest(folder)), os.path.exists(os.path.join(folder, "clean"))), (before, False), "the folder")

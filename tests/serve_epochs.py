@@ -92,6 +92,23 @@ def accounts_are_read_anew(fixture):
     service.stop(b"epoch 1: audit ok\nepoch 2: audit ok\nepoch 3: audit ok\naudit ok\n")
 
 
+@EPOCHS.test
+def an_accounts_file_without_an_account_is_faulty(fixture):
+    """It may be one that is being written: the users of the last epoch stay, and their mail is taken."""
+    log = fixture.path("log")
+    service = serve(fixture, log=log)
+    service.write_accounts("")
+    service.expect_ctl("roll", "rolled\n")
+    ran = service.ctl("put", "1", "bob", given=b"hi\n")
+    expect_equal((ran.status, ran.output), (0, b"op bob 1/1 stored 1\nend\n"), "put")
+    service.write_accounts("\n\n")
+    service.expect_ctl("roll", "rolled\n")
+    service.expect_ctl("users", "user alice messages 0 octets 0 next_id 1\nuser bob messages 1 octets 4 next_id 2\nend\n")
+    with open(log, encoding="utf-8") as it:
+        expect_equal(it.read().count(" event=fault text=accounts: none\n"), 2, "faults in the log")
+    service.stop(b"epoch 1: audit ok\nepoch 2: audit ok\naudit ok\n")
+
+
 def expect_served(fixture, port):
     came = fixture.answer(port, LOGIN)
     expect_equal(came.partition(b"\r\n")[2], EMPTY.encode() + b"+OK signing off\r\n", "a session")

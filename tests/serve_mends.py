@@ -178,7 +178,7 @@ def told(scene, base, gaps, whole, users, cut, salvaged, refused=0):
     return [
         base,
         *(f"unreadable bytes {end - begin} from byte {begin} on, at most {(end - begin) // SMALLEST} messages" for begin, end in gaps),
-        f"behind the damage whole batches {whole}, not taken whole {refused}",
+        f"after the damage whole batches {whole}, not taken whole {refused}",
         *(f"user {user} messages {count} removed 0" for user, count in users),
         f"--cut drops bytes {cut}, raises next ids by {cut // SMALLEST}",
         f"--salvage drops bytes {salvaged}, raises next ids by {salvaged // SMALLEST}",

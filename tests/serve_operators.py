@@ -1,9 +1,10 @@
 """What operators ask for and get, by `ctl` and by connections of their own."""
 
 import os
+import signal
 import socket
 
-from tests.expectations import expect, expect_equal
+from tests.expectations import PATIENCE, expect, expect_equal
 from tests.groups import Group
 from tests.rows import (
     STOP, Asks, AsksAndShuts, Connects, Ctl, CtlAtNode, Ends, Gets, HangsUp, IsRead, IsRefused, OperatorConnects, Says, Sends, StatusHas,
@@ -192,6 +193,21 @@ def messages_are_put(fixture):
 
 
 @OPERATORS.test
+def a_message_is_put_whatever_becomes_of_the_output(fixture):
+    """A mail system sends a message again after status 75, so each try would store it once more."""
+    service = serve(fixture)
+    place = ["--port", str(service.ctl_port)]
+    with open("/dev/full", "wb") as full:
+        for user, status in (("alice", 0), ("zoe", 67)):
+            ran = fixture.run("ctl", *place, "put", "1", user, given=b"hi\n", stdout=full)
+            expect_equal(ran.status, status, f"put 1 {user}")
+        ran = fixture.run("ctl", *place, "status", stdout=full)
+        expect_equal((ran.status, ran.errors), (1, b"maildropd: write failed\n"), "status")
+    service.expect_ctl("users", "user alice messages 1 octets 4 next_id 2\nuser bob messages 0 octets 0 next_id 1\nend\n")
+    service.stop()
+
+
+@OPERATORS.test
 def the_verdict_is_waited_for(fixture):
     service = serve(fixture)
     client = fixture.connect(service.node(1))
@@ -218,6 +234,43 @@ def operators_come_by_a_socket(fixture):
     expect_equal((ran.status, ran.output), (0, b"stopping\naudit ok\n"), "--wait stop")
     service.expect_end(b"audit ok\n")
     expect(not os.path.exists(path), "the socket is left behind")
+
+
+@OPERATORS.test
+def a_socket_that_another_process_made_stays(fixture):
+    """A service that ends removes only the file that it made itself."""
+    path = fixture.path("ctl")
+    service = Service(fixture, pop_port=fixture.ports(), ctl_socket=path, ctl_port=None).begin()
+    with socket.socket(socket.AF_UNIX) as operator, socket.socket(socket.AF_UNIX) as other:
+        operator.settimeout(PATIENCE)
+        operator.connect(path)
+        os.unlink(path)
+        other.bind(path)
+        operator.sendall(b"stop\n")
+        expect_equal(operator.recv(99), b"stopping\n", "stop")
+        service.expect_end(b"audit ok\n")
+        expect(os.path.exists(path), "the socket of another process was removed")
+
+
+@OPERATORS.test
+def requests_outlast_a_process_that_was_stopped(fixture):
+    """Linux interrupts each read with a time limit of a process that goes on after it was stopped. Nobody notices."""
+    service = serve(fixture, idle_seconds=60)
+    operator, client = fixture.connect(service.ctl_port), fixture.connect(service.node(1))
+    client.read_line()
+    for request, line in ((b"sta", b"US"), (b"tu", b"ER al"), (b"s", b"ice")):
+        operator.send(request)
+        client.send(line)
+        operator.expect_read()
+        client.expect_read()
+        service.process.send_signal(signal.SIGSTOP)
+        service.process.send_signal(signal.SIGCONT)
+    operator.send(b"\n")
+    client.send(b"\r\n")
+    operator.expect(b"node 1 up ")
+    client.expect(b"+OK send PASS\r\n")
+    service.ctl("stop", "now")
+    service.expect_end(b"audit ok\n")
 
 
 @OPERATORS.test
