@@ -41,9 +41,9 @@ fn asks_to_put<R: Env>(rt: &R) -> bool {
     let mut place = 2;
     for _ in 0..MOST_OPTIONS {
         if is_word(rt, place, b"--port") || is_word(rt, place, b"--socket") {
-            place += 2;
+            place = place.saturating_add(2);
         } else if is_option(rt, place) {
-            place += 1;
+            place = place.saturating_add(1);
         } else {
             break;
         }
