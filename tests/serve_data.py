@@ -258,8 +258,8 @@ def a_folder_at_rest_is_compared(fixture):
 
 @DATA.test
 def what_others_write_is_noticed(fixture):
-    """A process that has no lock adds to the segment, or the lock is removed: nothing is written any more, and nobody is answered. So
-    it is if the next write is that of the service's end."""
+    """A process that has no lock adds to the segment, or the lock is removed: nothing is written any more, and nobody is answered. The
+    same holds if the next write is that of the service's end."""
     def append(folder):
         with open(newest(folder), "ab") as it:
             it.write(b"\0")

@@ -3,8 +3,9 @@
 import os
 import signal
 import socket
+import time
 
-from tests.expectations import PATIENCE, expect, expect_equal
+from tests.expectations import PATIENCE, expect, expect_equal, wait_until
 from tests.groups import Group
 from tests.rows import (
     STOP, Asks, AsksAndShuts, Connects, Ctl, CtlAtNode, Ends, Gets, HangsUp, IsRead, IsRefused, OperatorConnects, Says, Sends, StatusHas,
@@ -255,7 +256,7 @@ def a_socket_that_another_process_made_stays(fixture):
 @OPERATORS.test
 def requests_outlast_a_process_that_was_stopped(fixture):
     """Linux interrupts each read with a time limit of a process that goes on after it was stopped. Nobody notices."""
-    service = serve(fixture, idle_seconds=60)
+    service = serve(fixture)
     operator, client = fixture.connect(service.ctl_port), fixture.connect(service.node(1))
     client.read_line()
     for request, line in ((b"sta", b"US"), (b"tu", b"ER al"), (b"s", b"ice")):
@@ -263,8 +264,12 @@ def requests_outlast_a_process_that_was_stopped(fixture):
         client.send(line)
         operator.expect_read()
         client.expect_read()
-        service.process.send_signal(signal.SIGSTOP)
-        service.process.send_signal(signal.SIGCONT)
+        for _ in range(2):
+            service.process.send_signal(signal.SIGSTOP)
+            wait_until(lambda: os.waitid(os.P_PID, service.process.pid, os.WSTOPPED | os.WNOHANG), "the service is stopped")
+            service.process.send_signal(signal.SIGCONT)
+            # Its threads read again before they are interrupted once more.
+            time.sleep(0.05)
     operator.send(b"\n")
     client.send(b"\r\n")
     operator.expect(b"node 1 up ")

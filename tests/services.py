@@ -20,8 +20,8 @@ OPTIONS = {
 class Service:
     """A process of `serve`. An option that is None isn't given."""
 
-    def __init__(self, fixture, accounts=ACCOUNTS, **options):
-        self.fixture, self.accounts, self.options = fixture, accounts, {name.replace("_", "-"): it for name, it in options.items()}
+    def __init__(self, fixture, accounts=ACCOUNTS, umask=-1, **options):
+        self.fixture, self.accounts, self.umask, self.options = fixture, accounts, umask, {name.replace("_", "-"): it for name, it in options.items()}
         self.folder = fixture.subfolder()
         self.accounts_path = os.path.join(self.folder, "accounts")
         self.write_accounts(accounts)
@@ -42,7 +42,7 @@ class Service:
         words = [word for name, value in given.items() if value is not None for word in (f"--{name}", value)]
         self.fixture.transcript.add("$ maildropd serve", " ".join(map(str, words)))
         with open(self._path("stdout"), "wb") as output, open(self._path("stderr"), "wb") as errors:
-            self.process = processes.start([self.fixture.program, "serve", *words], stdout=output, stderr=errors)
+            self.process = processes.start([self.fixture.program, "serve", *words], stdout=output, stderr=errors, umask=self.umask)
 
     def begin(self, node=1):
         """Waits until it answers its operator. If another program has one of its ports, it is started at others."""
@@ -111,6 +111,6 @@ class Service:
         return len(os.listdir(f"/proc/{self.process.pid}/{what}"))
 
 
-def serve(fixture, accounts=ACCOUNTS, **options):
-    """A service that answers its operator."""
-    return Service(fixture, accounts, **options).begin()
+def serve(fixture, accounts=ACCOUNTS, umask=-1, **options):
+    """A service that answers its operator. With a umask of -1 it has that of the tests."""
+    return Service(fixture, accounts, umask, **options).begin()
