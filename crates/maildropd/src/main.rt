@@ -80,8 +80,8 @@ fn run<
     }
 }
 
-/// Reports why nothing was run, and returns the exit status: 0 after a help text, 1 if out of memory, or 75 if a message was to
-/// be put, else 2.
+/// Reports why nothing was run, and returns the exit status: 0 after a help text; if out of memory 75 if a message was to be put,
+/// and 1 otherwise; else 2.
 fn refused<R: Print + Eprint + Env>(rt: &R, error: &Error) -> u8 {
     match error.kind() {
         ErrorKind::OutOfMemory => {
@@ -105,8 +105,8 @@ fn words_of(rt: &HostRuntime) -> io::Result<Vec<String>> {
     Ok(words)
 }
 
-/// Reports why the words can't be read, and returns the exit status: 1 if out of memory, or 75 if a message was to be put, else
-/// 2.
+/// Reports why the words can't be read, and returns the exit status: if out of memory 75 if a message was to be put, and 1
+/// otherwise; else 2.
 fn unreadable<R: Eprint + Env>(rt: &R, error: &io::Error) -> u8 {
     if error.kind() == io::ErrorKind::OutOfMemory {
         let _ = eprintln!(rt; "maildropd: no memory");

@@ -12,7 +12,7 @@ const MOST_OPTIONS: usize = 8;
 /// The status of a request that may be made again later (EX_TEMPFAIL).
 const LATER: u8 = 75;
 
-/// The status of another one for which there is no memory.
+/// The status of any other request without memory.
 const FAILED: u8 = 1;
 
 /// Whether the word at this place of the command line is this one.

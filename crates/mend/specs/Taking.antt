@@ -1,9 +1,11 @@
 -- What is taken of records, as far as it can come.
-use Rattle.std.specs.Prelude.{◌≡◌, ◌⊎◌, ℕ, Bool, true, false, List, [], ◌∷◌, ◌++◌, Result, Ok, Err, if◌then◌else◌}
+use Rattle.std.specs.Prelude.{◌≡◌, ◌⊎◌, ◌||◌, ℕ, Bool, true, false, nat_lt, refl, List, [], ◌∷◌, ◌++◌, Result, Ok, Err, if◌then◌else◌}
 use Rattle.std.specs.Str.{bytes_eq}
 use Rattle.std.specs.declared.alloc.Global.{Global}
 use Rattle.maildrop.specs.Kept.{KeptMaildrop, KeptTable, kept_for}
-use Rattle.maildrop.specs.Changes.{changed_if_fit}
+use Rattle.maildrop.specs.Changes.{can_change, changed_if_fit}
+use Rattle.maildrop.specs.declared.change.Change.{Change}
+use Rattle.maildrop.specs.declared.change.Change.TheVariants.{Stored, Next}
 use Rattle.ledger.specs.Reading.{record_in}
 use Rattle.ledger.specs.declared.entry.Entry.{Entry}
 use Rattle.ledger.specs.declared.entry.Record.{Record}
@@ -18,6 +20,18 @@ taken_step name kept entry = if bytes_eq entry.name name then changed_if_fit kep
 abbrev pub taken_by : List ℕ → KeptMaildrop Global → List (Entry Global) → KeptMaildrop Global
 taken_by name kept [] = kept
 taken_by name kept (entry ∷ entries) = taken_by name (taken_step name kept entry) entries
+
+-- Whether nothing is lost if a change can't come: it stores no message, or it stores one under a unique id that was given before.
+abbrev pub is_known : KeptMaildrop Global → Change Global → Bool
+is_known kept (Stored uid text key) = nat_lt uid kept.next_uid
+is_known kept change = true
+
+next_id_is_known : (kept : KeptMaildrop Global) → is_known kept (Next 7) ≡ true
+next_id_is_known kept = refl
+
+-- whether nothing is lost of a change: it can come, or it is known
+abbrev pub loses_nothing : KeptMaildrop Global → Change Global → Bool
+loses_nothing kept change = can_change kept change || is_known kept change
 
 -- these entries were taken, as far as each can come, and nothing else
 abbrev pub HasTaken : List (Entry Global) → KeptTable Global → KeptTable Global → Type 0

@@ -1,6 +1,8 @@
 //! Takes what records have, as far as it can come.
-ghost use Rattle.std.specs.Prelude.{◌∷◌, [], true, OnOk};
-ghost use Rattle.mend.specs.Taking.{HasTaken, HasTakenRecord, said_in};
+ghost use Rattle.std.specs.Prelude.{◌≡◌, ◌∷◌, [], true, IfOk, OnOk};
+ghost use Rattle.maildrop.specs.Kept.{kept_for};
+ghost use Rattle.mend.specs.Taking as spec;
+ghost use Rattle.mend.specs.Taking.{HasTaken, HasTakenRecord, loses_nothing, said_in};
 
 use ballot::Memory;
 use batches::{is_content, next_payload};
@@ -8,9 +10,11 @@ use ledger::{Entry, PayloadFault, Record, read_record};
 use maildrop::{Change, Kept};
 use std::alloc::Global;
 
-/// Whether nothing is lost if an entry can't come: it stores no message, or one whose unique id was given before, as a snapshot has
-/// the messages of the segment before.
-fn is_known(kept: &Kept, entry: &Entry) -> bool {
+/// Whether nothing is lost if an entry can't come. That is so if it stores no message. It is also so if it stores one under a
+/// unique id that was given before: a snapshot has the messages of the segment before it.
+fn is_known(kept: &Kept, entry: &Entry) -> bool
+    ensures { result ≡ spec.is_known (kept_for entry.now.name kept.now) entry.now.change }
+{
     match &entry.change {
         Change::Stored { uid, .. } => *uid < kept.next_uid(&entry.name),
         Change::Removed(_) | Change::Keyed { .. } | Change::Next(_) => true,
@@ -19,7 +23,8 @@ fn is_known(kept: &Kept, entry: &Entry) -> bool {
 
 /// Takes an entry, if it can come. Returns false if it stores a message that can't.
 fn take_entry(kept: &mut Kept, entry: &Entry) -> Result<bool, Memory>
-    ensures { OnOk result (HasTaken (entry.now ∷ []) kept.old kept.new) }
+    ensures taken { OnOk result (HasTaken (entry.now ∷ []) kept.old kept.new) }
+    ensures told { IfOk result (λ nothing_lost. nothing_lost ≡ loses_nothing (kept_for entry.now.name kept.old) entry.now.change) }
 {
     let can = kept.change(entry.name, &entry.change)?;
     Ok(can || is_known(kept, entry))
