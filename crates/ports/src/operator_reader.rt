@@ -3,7 +3,7 @@ ghost use Rattle.std.specs.Prelude.{◌≡◌, ◌≤◌, length};
 ghost use Rattle.ports.specs.Deadlines as spec;
 
 use crate::operator_limits::{LONGEST_PAUSE_MS, PIECE};
-use crate::operator_stream::OperatorStream;
+use crate::operator_stream::{OperatorStream, read_once};
 use std::io;
 use std::io::{ErrorKind, Read};
 use std::time::{Clock, Duration, Instant};
@@ -96,15 +96,22 @@ impl<'a, R: Clock + Copy> OperatorReader<'a, R> {
         Ok(())
     }
 
-    /// Reads the next piece of the stream.
+    /// Reads the next piece of the stream. After an interruption it waits for as long as is left.
     fn fill(&mut self) -> io::Result<()> {
-        self.set_timeout()?;
-        let mut stream = self.stream;
-        let count = stream.read(&mut self.held)?;
-        self.bytes = self.bytes.saturating_add(count as u64);
-        self.start = 0;
-        self.end = count;
-        Ok(())
+        for _ in 0..u64::MAX {
+            self.set_timeout()?;
+            match read_once(self.stream, &mut self.held) {
+                Ok(count) => {
+                    self.bytes = self.bytes.saturating_add(count as u64);
+                    self.start = 0;
+                    self.end = count;
+                    return Ok(());
+                }
+                Err(error) if error.kind() == ErrorKind::Interrupted => {}
+                Err(error) => return Err(error),
+            }
+        }
+        Err(io::Error::from(ErrorKind::Interrupted))
     }
 
     /// Hands out what is held, as far as there is room for it. Returns how many bytes that is.

@@ -79,8 +79,8 @@ impl OperatorStream {
     }
 }
 
-/// Reads from a connection once.
-fn read_once(stream: &OperatorStream, buf: &mut [u8]) -> io::Result<usize>
+/// Reads from a connection once. The read may be interrupted.
+pub(crate) fn read_once(stream: &OperatorStream, buf: &mut [u8]) -> io::Result<usize>
     ensures { ReadsAtMost result buf.new }
 {
     match stream {
