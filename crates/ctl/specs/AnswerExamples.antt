@@ -48,6 +48,10 @@ rolled = refl
 not_rolled : ending_by (Ask request.Roll) (codes "down") ≡ Refused
 not_rolled = refl
 
+-- the accounts file has no account
+roll_refused : ending_by (Ask request.Roll) (codes "roll failed: accounts: none") ≡ Refused
+roll_refused = refl
+
 in_order : ending_by (Ask (request.Stop false true)) (codes "audit ok") ≡ Done
 in_order = refl
 

@@ -43,6 +43,7 @@ awaits_verdict asked = false
 abbrev pub is_refusal : List ℕ → Bool
 is_refusal line =
     bytes_eq line (codes "bad request") || bytes_eq line (codes "bad mbox") || bytes_eq line (codes "down")
+    || starts_with nat_eq line (codes "roll failed: ")
 
 abbrev pub is_verdict : List ℕ → Bool
 is_verdict line = starts_with nat_eq line (codes "audit ")

@@ -20,6 +20,7 @@ fn is_refusal(line: &[u8]) -> bool
     line == b"bad request".as_slice()
         || line == b"bad mbox".as_slice()
         || line == b"down".as_slice()
+        || line.starts_with(b"roll failed: ")
 }
 
 /// Whether a line is a verdict.
