@@ -12,6 +12,7 @@ use std::io;
 use std::io::Read;
 use std::random::RandomSource;
 use std::rt::Files;
+use std::time::Clock;
 use store::StoreFault;
 
 /// The options that have a value.
@@ -28,7 +29,7 @@ const OPTIONS: &[Choice] = &[
         value: "FILE",
         kind: Kind::Text,
         presence: Presence::Optional,
-        help: "The accounts file of the service: no user in it is given a unique id again, also if nothing can be read of this user",
+        help: "The accounts file of the service. It is needed if what can't be read may have names of users: no user in it is given a unique id again",
     },
 ];
 
@@ -134,8 +135,8 @@ fn tell_user<R: AllocGlobal + Print>(rt: &R, user: &Behind) -> Result<(), Fault>
     )
 }
 
-/// Prints what was found.
-fn tell_survey<R: AllocGlobal + Print>(rt: &R, survey: &Survey) -> Result<(), Fault> {
+/// Prints what was found. If the opening of the segment is damaged, next unique ids become at least this one.
+fn tell_survey<R: AllocGlobal + Print>(rt: &R, survey: &Survey, least: u64) -> Result<(), Fault> {
     let alloc = rt.alloc();
     tell_base(rt, survey)?;
     for gap in &survey.behind.gaps {
@@ -149,6 +150,12 @@ fn tell_survey<R: AllocGlobal + Print>(rt: &R, survey: &Survey) -> Result<(), Fa
     for user in &survey.users(alloc)? {
         tell_user(rt, user)?;
     }
+    if survey.base != Base::Own {
+        tell(
+            rt,
+            format!(in alloc; "first next ids become at least {least}\n"),
+        )?;
+    }
     for (word, dropped) in [
         ("cut", survey.cut.dropped),
         ("salvage", survey.salvaged.dropped),
@@ -160,6 +167,18 @@ fn tell_survey<R: AllocGlobal + Print>(rt: &R, survey: &Survey) -> Result<(), Fa
         )?;
     }
     Ok(())
+}
+
+/// The first second of 2020, in seconds since 1970.
+const YEAR_2020: u64 = 1_577_836_800;
+
+/// The least next unique id of a mend without an opening: the seconds since 2020. So it is above that of each mend before. What was given
+/// after such a mend is in the bytes that are dropped.
+fn least_next_id<R: Clock>(rt: &R) -> Result<u64, Fault> {
+    match rt.since_1970() {
+        Ok(time) => Ok(time.as_secs().saturating_sub(YEAR_2020)),
+        Err(_) => Err(Fault::Read),
+    }
 }
 
 /// A number that no sender of mail can know.
@@ -181,14 +200,19 @@ fn refuse_mending<R: Eprint>(rt: &R, path: &str, fault: MendFault) -> u8 {
 }
 
 /// Reports what a start refuses, and which words would mend it. Returns the status.
-fn ask<R: Eprint>(rt: &R, path: &str, fault: StoreFault) -> u8 {
+fn ask<R: Eprint>(rt: &R, path: &str, fault: StoreFault, lacks_names: bool) -> u8 {
     refuse_folder(rt, path, fault);
-    let _untold = eprintln!(rt; "maildropd: nothing was changed; say --cut or --salvage");
+    let accounts = if lacks_names {
+        ", with --accounts FILE"
+    } else {
+        ""
+    };
+    let _untold = eprintln!(rt; "maildropd: nothing was changed; say --cut or --salvage{accounts}");
     1
 }
 
 /// Reports what was found, and mends a folder in this way. Returns the status.
-fn mend_segment<R: AllocGlobal + Files<File = File> + RandomSource + Copy + Print + Eprint>(
+fn mend_segment<R: AllocGlobal + Files<File = File> + RandomSource + Clock + Copy + Print + Eprint>(
     rt: &R,
     path: &str,
     mending: &Mending<R>,
@@ -196,11 +220,12 @@ fn mend_segment<R: AllocGlobal + Files<File = File> + RandomSource + Copy + Prin
     way: Option<Way>,
 ) -> Result<u8, Fault> {
     let (fault, survey) = found;
-    tell_survey(rt, &survey)?;
+    let least = least_next_id(rt)?;
+    tell_survey(rt, &survey, least)?;
     let Some(way) = way else {
-        return Ok(ask(rt, path, fault));
+        return Ok(ask(rt, path, fault, survey.lacks_names()));
     };
-    let mended = mending.mend(survey, way, random_salt(rt)?);
+    let mended = mending.mend(survey, way, random_salt(rt)?, least);
     tell_end(rt, path, mended)
 }
 
@@ -215,7 +240,7 @@ fn mend_note<R: AllocGlobal + Files<File = File> + Copy + Print + Eprint>(
     let alloc = rt.alloc();
     tell(rt, format!(in alloc; "the newest segment is whole\n"))?;
     if way.is_none() {
-        return Ok(ask(rt, path, fault));
+        return Ok(ask(rt, path, fault, false));
     }
     tell_end(rt, path, mending.forget_note())
 }
@@ -235,7 +260,7 @@ fn tell_end<R: AllocGlobal + Print + Eprint>(
 }
 
 /// Mends a folder as the words say. Returns the status.
-fn apply<R: AllocGlobal + Files<File = File> + RandomSource + Copy + Print + Eprint>(
+fn apply<R: AllocGlobal + Files<File = File> + RandomSource + Clock + Copy + Print + Eprint>(
     rt: &R,
     path: &str,
     matches: &ArgMatches<'_>,
@@ -260,10 +285,9 @@ fn apply<R: AllocGlobal + Files<File = File> + RandomSource + Copy + Print + Epr
     }
 }
 
-pub(crate) fn run_mend<R: AllocGlobal + Files<File = File> + RandomSource + Copy + Print + Eprint>(
-    rt: &R,
-    matches: &ArgMatches<'_>,
-) -> u8 {
+pub(crate) fn run_mend<
+    R: AllocGlobal + Files<File = File> + RandomSource + Clock + Copy + Print + Eprint,
+>(rt: &R, matches: &ArgMatches<'_>) -> u8 {
     let path = text_of(matches, "data");
     let mending = match Mending::open(rt, rt.alloc(), path) {
         Ok(mending) => mending,

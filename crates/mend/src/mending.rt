@@ -1,4 +1,6 @@
 //! Mends a data folder.
+ghost use Rattle.std.specs.Prelude.{◌≡◌, true, IsErr};
+ghost use Rattle.mend.specs.Raising.{lacks_names};
 
 use crate::fault::MendFault;
 use crate::folder_files::FolderFiles;
@@ -78,16 +80,24 @@ pub fn is_of_files(fault: StoreFault) -> bool {
     )
 }
 
-/// What the segment before the one with this number has, if a start would take it.
+/// How many segments before the newest one are looked at for a whole one.
+const LOOKED_AT_BEFORE: u64 = 100;
+
+/// What the newest segment before the one with this number has that a start would take.
 fn before<R: Files<File = File> + Copy>(
     alloc: Global,
     files: &FolderFiles<R>,
     number: u64,
 ) -> Result<(Base, Kept), StoreFault> {
-    let number = number.saturating_sub(1);
-    if let Some(bytes) = files.segment(number)? {
-        if let Some(kept) = front_of(alloc, number, &bytes, bytes.len())? {
-            return Ok((Base::Before(number), kept));
+    for distance in 1..LOOKED_AT_BEFORE + 1 {
+        let before = number.saturating_sub(distance);
+        if before == 0 {
+            break;
+        }
+        if let Some(bytes) = files.segment(before)? {
+            if let Some(kept) = front_of(alloc, before, &bytes, bytes.len())? {
+                return Ok((Base::Before(before), kept));
+            }
         }
     }
     Ok((Base::Nothing, Kept::new(alloc)))
@@ -175,15 +185,22 @@ impl<R: Files<File = File> + Copy> Mending<R> {
         }
     }
 
-    /// Mends the folder in this way: the segment is replaced by one with this salt. `Nothing` if there is nothing that could be kept.
-    /// After an error a start refuses the folder as before, or reads it as mended, and this can be tried again.
-    pub fn mend(&self, survey: Survey, way: Way, salt: u64) -> Result<(), MendFault> {
+    /// Mends the folder in this way: the segment is replaced by one with this salt. If its opening is damaged, each next unique id becomes
+    /// at least this one, which must be above all that were given before. `Nothing` if there is nothing that could be kept, and
+    /// `NoNames` if the accounts aren't known and must be. After an error a start refuses the folder as before, or reads it as mended,
+    /// and this can be tried again.
+    pub fn mend(&self, survey: Survey, way: Way, salt: u64, least: u64) -> Result<(), MendFault>
+        ensures names { lacks_names survey.has_accounts survey.base survey.salvaged.dropped ≡ true → IsErr result }
+    {
         let number = survey.number;
         let is_lost = way == Way::Cut || survey.behind.records == 0;
         if survey.base == Base::Nothing && is_lost {
             return Err(MendFault::Nothing { segment: number });
         }
-        let kept = survey.into_kept(self.alloc, way)?;
+        if survey.lacks_names() {
+            return Err(MendFault::NoNames);
+        }
+        let kept = survey.into_kept(self.alloc, way, least)?;
         self.files.replace(number, &kept, salt)?;
         self.check()
     }

@@ -19,7 +19,7 @@ use crate::majority::crash_all;
 use crate::options::{OnFault, Settings};
 use crate::past::Past;
 use crate::progress::Wake;
-use crate::serve::FIRST_LEADER;
+use crate::serve::{FIRST_LEADER, note_fault};
 use crate::served_node::ServedNode;
 use crate::served_sessions::ServedSessions;
 use crate::service_nodes::{ServiceDesk, ServiceNodes, StoppedNodes};
@@ -33,7 +33,9 @@ use cluster::{Link, Setup};
 use maildrop::Kept;
 use ports::{Fault, System, say};
 use std::alloc::Global;
+use std::fs::File;
 use std::io::Write;
+use std::rt::Files;
 use std::sync::ledger::{Blank, Share};
 use std::sync::{Arc, Wait};
 use std::thread;
@@ -45,6 +47,9 @@ const QUIET_LOOKS: u32 = 20;
 
 /// How many milliseconds lie between two such looks.
 const QUIET_LOOK_MS: u64 = 1;
+
+/// How often it is looked whether a write has failed while an audit is awaited, in milliseconds.
+const AUDIT_LOOK_MS: u64 = 50;
 
 /// How an epoch ends.
 #[derive(Clone, Copy, Debug, PartialEq, Eq)]
@@ -152,6 +157,47 @@ fn is_quiet<R: System>(rt: &R, ports: &Ports, state: &ServiceState) -> bool {
     false
 }
 
+/// Whether the epoch may end now: what the next one needs has been had. If it couldn't be, operators who asked for the end are told so,
+/// and the epoch goes on. Any other end comes in any case, and the accounts stay.
+fn may_end<R: System + Files<File = File>>(
+    rt: &R,
+    alloc: Global,
+    life: &ServiceLife,
+    past: &mut Past,
+) -> bool
+    ensures { past.new ≡ past.old }
+{
+    let Err(fault) = past.read_accounts(rt, alloc) else {
+        return true;
+    };
+    if life.rolls().refuse(rt, fault) {
+        life.log().roll_failed(rt, fault);
+        return false;
+    }
+    note_fault(rt, alloc, life.log(), None, fault);
+    true
+}
+
+/// Holds new POP3 clients back until the audit of the epoch before this one has ended. Else each epoch would grow beyond the one
+/// before it while sessions come faster than they are audited. Returns false, and holds nobody back, if the service stops or a
+/// write has failed.
+fn hold_back<R: System>(rt: &R, ports: &Ports, state: &ServiceState) -> bool {
+    let rolls = state.life().rolls();
+    let look = Duration::from_millis(AUDIT_LOOK_MS);
+    ports.pause_pop(rt);
+    for _ in rt.forever() {
+        let is_over = state.journal().has_failed(rt) || rolls.is_stopping(rt);
+        if is_over {
+            ports.resume_pop(rt);
+            return false;
+        }
+        if !rolls.awaits_audit(rt, look) && !rolls.is_stopping(rt) {
+            return true;
+        }
+    }
+    unreachable!()
+}
+
 /// Notes that the epoch leads, once a node does.
 fn note_leader<R: Wait, N: ServedNode>(rt: &R, life: &ServiceLife, nodes: &[N]) {
     let rolls = life.rolls();
@@ -170,8 +216,8 @@ fn note_leader<R: Wait, N: ServedNode>(rt: &R, life: &ServiceLife, nodes: &[N]) 
 }
 
 /// Waits until the epoch is to end, and reports the verdict on the one before it as soon as it is known. Unless the service
-/// stops, the epoch doesn't end before that.
-fn watch<R: System, W: Write, N: ServedNode>(
+/// stops, the epoch doesn't end before that. After a write that failed nobody waits for a verdict any more.
+fn watch<R: System + Files<File = File>, W: Write, N: ServedNode>(
     rt: &R,
     alloc: Global,
     on_fault: OnFault,
@@ -192,35 +238,30 @@ fn watch<R: System, W: Write, N: ServedNode>(
         if state.journal().has_failed(rt) {
             crash_all(nodes);
             life.stop(rt);
-            let _is_over = tell_verdict(rt, alloc, on_fault, life, past, writer);
+            past.abandon();
             return Ending::Rolled;
         }
         if matches!(wake, Wake::Stop) {
             return Ending::Stopped;
         }
+        let is_over = matches!(wake, Wake::Behind) && !hold_back(rt, ports, state);
+        if is_over || matches!(wake, Wake::Look) {
+            continue;
+        }
+        if tell_verdict(rt, alloc, on_fault, life, past, writer) {
+            life.stop(rt);
+            return Ending::Rolled;
+        }
+        // The sessions of those who weren't held back may have ended while the audit went on.
         let is_due = match wake {
             Wake::Roll => true,
-            Wake::Quiet => is_quiet(rt, ports, state),
-            Wake::Stop | Wake::Audited | Wake::Behind | Wake::Look => false,
+            Wake::Quiet | Wake::Behind => is_quiet(rt, ports, state),
+            Wake::Stop | Wake::Audited | Wake::Look => false,
         };
-        if matches!(wake, Wake::Behind) {
-            // Else each epoch would grow beyond the one before it while sessions come faster than they are audited.
-            ports.pause_pop(rt);
+        if is_due && may_end(rt, alloc, life, past) {
+            return Ending::Rolled;
         }
-        if is_due || matches!(wake, Wake::Audited | Wake::Behind) {
-            let is_over = tell_verdict(rt, alloc, on_fault, life, past, writer);
-            if is_over {
-                life.stop(rt);
-            }
-            if is_due || is_over {
-                return Ending::Rolled;
-            }
-            // The sessions of those who aren't held back may have ended meanwhile.
-            if matches!(wake, Wake::Behind) && is_quiet(rt, ports, state) {
-                return Ending::Rolled;
-            }
-            ports.resume_pop(rt);
-        }
+        ports.resume_pop(rt);
     }
     unreachable!()
 }
@@ -298,7 +339,7 @@ struct NodesEnd<D: Service> {
 }
 
 /// Watches an epoch whose threads were started until it is to end. If they weren't, it ends at once.
-fn watch_started<R: System, W: Write, N: ServedNode>(
+fn watch_started<R: System + Files<File = File>, W: Write, N: ServedNode>(
     rt: &R,
     alloc: Global,
     started: Result<(), Fault>,
@@ -327,7 +368,7 @@ fn watch_started<R: System, W: Write, N: ServedNode>(
 /// be had: then nobody was served.
 fn serve_clients<
     D: Service + Send + Sync + 'static,
-    R: System,
+    R: System + Files<File = File>,
     L: Link + Drop + Send + Sync + 'static,
     W: Write,
 >(
@@ -356,7 +397,7 @@ fn serve_clients<
 /// Serves clients over these nodes until the epoch ends, and stops them. After a fault nobody was served.
 fn serve_nodes<
     D: Service + Send + Sync + 'static,
-    R: System,
+    R: System + Files<File = File>,
     L: Link + Drop + Send + Sync + 'static,
     W: Write,
 >(
@@ -398,7 +439,7 @@ fn serve_nodes<
 }
 
 /// Starts the nodes of an epoch, serves clients until it ends, and stops them. After a fault nobody was served.
-fn run_nodes<D: Service + Send + Sync + 'static, R: System, W: Write>(
+fn run_nodes<D: Service + Send + Sync + 'static, R: System + Files<File = File>, W: Write>(
     rt: R,
     alloc: Global,
     settings: &Settings,
@@ -479,7 +520,11 @@ fn sessions_of<D: Service>(
 }
 
 /// Runs the nodes of an epoch and its sessions until it ends. After a fault nobody was served.
-pub(crate) fn run_epoch<D: Service + Send + Sync + 'static, R: System, W: Write>(
+pub(crate) fn run_epoch<
+    D: Service + Send + Sync + 'static,
+    R: System + Files<File = File>,
+    W: Write,
+>(
     rt: R,
     alloc: Global,
     settings: &Settings,

@@ -2,6 +2,7 @@
 #![tactic(auto)]
 
 mod account_lines;
+mod accounts_file;
 mod agreement;
 mod announcement;
 mod announcements;

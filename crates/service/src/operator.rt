@@ -3,13 +3,14 @@ ghost use Rattle.std.specs.Prelude.{◌≤◌, IfSome};
 ghost use Rattle.script.specs.Requests.{longest_request};
 
 use crate::asking::{Absence, Unanswered, ask};
-use crate::delivery::{Delivered, Delivery, DeliveryError, message_in, texts_in};
+use crate::delivery::{Delivered, Delivery, DeliveryError, message_in, texts_in, too_large_answer};
 use crate::furthest::{furthest_slot, furthest_up};
 use crate::maildrop_lines::{lock_lines, user_lines};
 use crate::operator_limits::{
     BRIEF_LINE_MS, BROKEN_LOOK_MS, CUT_MS, END_LOOK_MS, LINE_MS, LOOK_MS, MOST_BROKEN_LOOKS,
 };
 use crate::pop::node_for;
+use crate::rolls::RollEnd;
 use crate::served_node::{OperatorOp, ServedNode};
 use crate::standing::put_standing;
 use crate::state::ServiceState;
@@ -188,7 +189,7 @@ impl<R: Wait + Clock + Copy, N: ServedNode + Drop> OperatorHandler<R, N> {
         may_wait: bool,
     ) -> Result<(), Fault> {
         match request {
-            None => tell(stream, b"bad request\n"),
+            None => self.tell_unheard(stream),
             Some(Request::Status) => self.tell_status(stream),
             Some(Request::Sessions) => self.tell_sessions(stream),
             Some(Request::Stats) => self.tell_stats(stream),
@@ -214,8 +215,15 @@ impl<R: Wait + Clock + Copy, N: ServedNode + Drop> OperatorHandler<R, N> {
         stream: &OperatorStream,
     ) -> Result<(), Fault> {
         match request {
-            Request::Deliver { count, .. } | Request::Put { count, .. }
-                if *count > self.most_file => { tell(stream, b"bad request\n") }
+            Request::Deliver { count, .. } if *count > self.most_file => {
+                tell(stream, b"bad request\n")
+            }
+            Request::Put {
+                node,
+                user,
+                count,
+                ..
+            } if *count > self.most_file => self.tell_too_large(node, user, stream),
             Request::Deliver {
                 node,
                 user,
@@ -232,6 +240,14 @@ impl<R: Wait + Clock + Copy, N: ServedNode + Drop> OperatorHandler<R, N> {
             Request::Roll => self.roll(stream),
             _ => Ok(()),
         }
+    }
+
+    /// Reports that a request can't be read, or wasn't whole as the epoch ended: then it may be sent again.
+    fn tell_unheard(&self, stream: &OperatorStream) -> Result<(), Fault> {
+        if self.state.stages().has_ended(&self.rt) {
+            return tell(stream, b"down\n");
+        }
+        tell(stream, b"bad request\n")
     }
 
     fn tell_status(&mut self, stream: &OperatorStream) -> Result<(), Fault> {
@@ -359,17 +375,20 @@ impl<R: Wait + Clock + Copy, N: ServedNode + Drop> OperatorHandler<R, N> {
         }
     }
 
-    /// Ends the epoch, and reports that the next one has begun once a node of it leads. A service whose nodes have ports has
-    /// only one epoch.
+    /// Ends the epoch, and reports that the next one has begun once a node of it leads, or why the epoch goes on. A service whose
+    /// nodes have ports has only one epoch.
     fn roll(&self, stream: &OperatorStream) -> Result<(), Fault> {
-        let rolls = self.state.life().rolls();
-        if !rolls.ask(&self.rt, self.state.epoch()) {
+        let (rolls, epoch) = (self.state.life().rolls(), self.state.epoch());
+        let Some(refusals) = rolls.ask(&self.rt, epoch) else {
             return tell(stream, b"bad request\n");
-        }
-        if rolls.waits_for_next(&self.rt, self.state.epoch()) {
-            tell(stream, b"rolled\n")
-        } else {
-            tell(stream, b"down\n")
+        };
+        match rolls.waits_for_next(&self.rt, epoch, refusals) {
+            RollEnd::Rolled => tell(stream, b"rolled\n"),
+            RollEnd::Over => tell(stream, b"down\n"),
+            RollEnd::Refused(fault) => {
+                let line = format!(in self.alloc; "roll failed: {fault}\n")?;
+                tell(stream, line.as_bytes())
+            }
         }
     }
 
@@ -447,6 +466,23 @@ impl<R: Wait + Clock + Copy, N: ServedNode + Drop> OperatorHandler<R, N> {
         let told = delivery.deliver_all(texts, key, &mut delivered);
         self.note(node, &user, count, &delivered);
         told
+    }
+
+    /// Reports that a message is larger than any that is taken, if the user has an account.
+    fn tell_too_large(
+        &self,
+        number: &Option<NodeId>,
+        user: &Name,
+        stream: &OperatorStream,
+    ) -> Result<(), Fault> {
+        let Some(node) = self.node_to_store(*number) else {
+            return tell(stream, b"down\n");
+        };
+        if !self.state.accounts().has(user) {
+            return tell(stream, b"no such user\n");
+        }
+        let answer = too_large_answer(self.alloc, user, node.me())?;
+        tell(stream, answer.as_slice())
     }
 
     /// Has the message that follows delivered, and reports its outcome.

@@ -3,6 +3,7 @@ ghost use Rattle.std.specs.Prelude.{◌≡◌};
 ghost use Rattle.service.specs.Rolls as spec;
 
 use crate::progress::{Progress, Wake, millis_since};
+use ports::Fault;
 use std::sync::{Condvar, Mutex, Wait};
 use std::time::{Clock, Duration};
 
@@ -17,6 +18,9 @@ const COMMAND_BYTES: u64 = 2_700;
 
 /// How many bytes are kept for a message that a login lists, about.
 const LISTED_BYTES: u64 = 25;
+
+/// How many bytes are kept for a line of a session beside its own: four, and room for as many more.
+const LINE_BYTES: u64 = 8;
 
 /// From how many sessions on, and from how many bytes kept for its audit on, an epoch ends: 0 for any number.
 #[derive(Clone, Copy, Debug, PartialEq, Eq)]
@@ -73,12 +77,16 @@ impl EpochLoad {
     }
 }
 
-/// How many bytes a session leaves that asked for so much and was listed so many messages, about.
-pub(crate) fn session_bytes(asked: usize, listed: usize) -> u64
-    ensures { result ≡ spec.session_bytes asked listed }
+/// How many bytes a session leaves that asked for so much, was listed so many messages, and sent so many lines, about, beside the bytes
+/// of these lines.
+pub(crate) fn session_bytes(asked: usize, listed: usize, lines: usize) -> u64
+    ensures { result ≡ spec.session_bytes asked listed lines }
 {
     let commands = (asked as u64).saturating_mul(COMMAND_BYTES);
-    commands.saturating_add((listed as u64).saturating_mul(LISTED_BYTES))
+    let messages = (listed as u64).saturating_mul(LISTED_BYTES);
+    commands
+        .saturating_add(messages)
+        .saturating_add((lines as u64).saturating_mul(LINE_BYTES))
 }
 
 /// Whether a number is at least so many times its limit, if there is one.
@@ -118,6 +126,17 @@ pub(crate) struct EpochStats {
     pub load: EpochLoad,
     /// Whether the audit of the one before it goes on.
     pub is_auditing: bool,
+}
+
+/// What has become of an operator's request for the end of an epoch.
+#[derive(Clone, Copy, Debug, PartialEq, Eq)]
+pub(crate) enum RollEnd {
+    /// A node of a later epoch leads.
+    Rolled,
+    /// What the next epoch needs couldn't be had, so this one goes on.
+    Refused(Fault),
+    /// The service stops or ends.
+    Over,
 }
 
 /// How far the epochs of a service have come, for all its threads.
@@ -173,25 +192,65 @@ impl Rolls {
         progress.led == progress.epoch
     }
 
-    /// Asks for the end of this epoch, unless it has ended. Returns false if there is only one.
-    pub(crate) fn ask<R: Wait>(&self, rt: &R, epoch: u64) -> bool {
+    /// Asks for the end of this epoch for an operator, unless it has ended. Returns how many times that was refused so far, and nothing
+    /// if there is only one epoch.
+    pub(crate) fn ask<R: Wait>(&self, rt: &R, epoch: u64) -> Option<u64> {
         if self.limits.is_none() {
-            return false;
+            return None;
         }
         let mut guard = self.progress.lock(rt);
         let progress = &mut *guard;
         progress.is_asked = progress.is_asked | (progress.epoch == epoch);
         self.changes.notify_all();
+        Some(progress.refusals)
+    }
+
+    /// Asks for the end of this epoch, unless it has ended, since a majority is wanting. Returns false if there is only one.
+    pub(crate) fn require<R: Wait>(&self, rt: &R, epoch: u64) -> bool {
+        if self.limits.is_none() {
+            return false;
+        }
+        let mut guard = self.progress.lock(rt);
+        let progress = &mut *guard;
+        progress.is_required = progress.is_required | (progress.epoch == epoch);
+        progress.is_asked = progress.is_asked | progress.is_required;
+        self.changes.notify_all();
         true
     }
 
-    /// Waits until a node of a later epoch leads. Returns false if the service stops or ends first.
-    pub(crate) fn waits_for_next<R: Wait>(&self, rt: &R, epoch: u64) -> bool {
+    /// Refuses the end of this epoch to the operators who ask for it, for this reason. Returns false if it ends in any case.
+    pub(crate) fn refuse<R: Wait>(&self, rt: &R, fault: Fault) -> bool {
+        let mut guard = self.progress.lock(rt);
+        let progress = &mut *guard;
+        let is_refused = progress.refuse(fault);
+        self.changes.notify_all();
+        is_refused
+    }
+
+    /// Waits until a node of a later epoch leads, the end of this one is refused once more than so many times, or the service stops or
+    /// ends.
+    pub(crate) fn waits_for_next<R: Wait>(&self, rt: &R, epoch: u64, refusals: u64) -> RollEnd {
         let guard = self.progress.lock(rt);
         let progress = self.changes.wait_while(rt, guard, |progress| {
-            progress.led <= epoch && progress.joined < epoch && !progress.is_over()
+            progress.led <= epoch
+                && !progress.has_refused(epoch, refusals)
+                && progress.joined < epoch
+                && !progress.is_over()
         });
-        progress.led > epoch
+        match progress.refusal {
+            _ if progress.led > epoch => RollEnd::Rolled,
+            Some(fault) if progress.has_refused(epoch, refusals) => RollEnd::Refused(fault),
+            _ => RollEnd::Over,
+        }
+    }
+
+    /// Waits so long, or until the service stops or ends. Returns whether it does.
+    pub(crate) fn pauses_unless_over<R: Wait + Clock>(&self, rt: &R, time: Duration) -> bool {
+        let guard = self.progress.lock(rt);
+        let (progress, _) = self
+            .changes
+            .wait_timeout_while(rt, guard, time, |progress| !progress.is_over());
+        progress.is_over()
     }
 
     /// Waits at most so long for the end of the service, or until the threads of this epoch's operators are to be joined.
@@ -246,6 +305,17 @@ impl Rolls {
         progress.is_auditing = false;
         progress.has_audited = true;
         self.changes.notify_all();
+    }
+
+    /// Waits at most so long for the end of the audit. Returns whether it goes on, and the service doesn't stop.
+    pub(crate) fn awaits_audit<R: Wait + Clock>(&self, rt: &R, time: Duration) -> bool {
+        let guard = self.progress.lock(rt);
+        let (progress, _) = self
+            .changes
+            .wait_timeout_while(rt, guard, time, |progress| {
+                progress.is_auditing && !progress.is_over()
+            });
+        progress.is_auditing && !progress.is_over()
     }
 
     /// From how much on an epoch ends.

@@ -6,6 +6,7 @@ ghost use Rattle.service.specs.Options as spec;
 ghost use Rattle.apop.specs.Accounts.{name_of};
 ghost use Rattle.maildrop.specs.Name.{are_different};
 
+use crate::accounts_file::accounts_of;
 use crate::announcement::Announcement;
 use crate::brand::Service;
 use crate::epoch_journal::EpochJournal;
@@ -13,7 +14,7 @@ use crate::epoch_run::{Ending, end_threads, state_of};
 use crate::life::ServiceLife;
 use crate::mark::mark_start;
 use crate::options::{NodeOptions, Settings, node_settings_of};
-use crate::serve::{FIRST_LEADER, accounts_of, life_of, note_fault, setup_of};
+use crate::serve::{FIRST_LEADER, life_of, note_fault, setup_of};
 use crate::served_sessions::ServedSessions;
 use crate::service_nodes::ServiceNodes;
 use crate::threads;
@@ -154,6 +155,7 @@ fn run_node<D: Service + Send + Sync + 'static, R: System + Files<File = File>>(
     if let Err(fault) = &end {
         note_fault(&rt, alloc, life.log(), None, *fault);
     }
+    life.log().finish(&rt);
     end
 }
 

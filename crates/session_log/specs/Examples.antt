@@ -89,8 +89,8 @@ open_line : with_session [] 12 1 (codes "127.0.0.1:40000") None 3 71
 unfolding digits
 open_line = refl
 
-stats : text_of (record { sessions_open = 2; counts = after_torn 412 (after_session no_facts no_counts); slots = 9; uptime_seconds = 60 })
-    ≡ codes "sessions_open 2\nsessions_served 1\nlogins_refused 0\nmessages_stored 0\nmessages_fetched 0\nmessages_removed 0\noctets_stored 0\nbytes_read 0\nbytes_written 0\nslots 9\nuptime_seconds 60\ntorn_bytes 412\nend\n"
+stats : text_of (record { sessions_open = 2; counts = after_torn 412 (after_session no_facts no_counts); slots = 9; uptime_seconds = 60; log_lines_lost = 3 })
+    ≡ codes "sessions_open 2\nsessions_served 1\nlogins_refused 0\nmessages_stored 0\nmessages_fetched 0\nmessages_removed 0\noctets_stored 0\nbytes_read 0\nbytes_written 0\nslots 9\nuptime_seconds 60\ntorn_bytes 412\nlog_lines_lost 3\nend\n"
 unfolding digits
 stats = refl
 
@@ -102,6 +102,13 @@ session : event.with_session [] 1 (codes "127.0.0.1:40000") (record no_facts { u
     ≡ codes "event=session node=1 peer=127.0.0.1:40000 user=bob fetched=2 removed=0 bytes=123 end=closed\n"
 unfolding digits
 session = refl
+
+failed_roll : event.with_roll_failed [] (codes "accounts: none") ≡ codes "event=roll_failed cause=accounts: none\n"
+failed_roll = refl
+
+gap : event.with_gap [] 812 ≡ codes "event=log_gap lines=812\n"
+unfolding digits
+gap = refl
 
 refusal : event.with_refused_login [] 2 (codes "[::1]:5") ≡ codes "event=login_refused node=2 peer=[::1]:5\n"
 unfolding digits
