@@ -135,7 +135,7 @@ fn tell_user<R: AllocGlobal + Print>(rt: &R, user: &Behind) -> Result<(), Fault>
     )
 }
 
-/// Prints what was found. If the opening of the segment is damaged, next unique ids become at least this one.
+/// Prints what was found. Next unique ids become at least this one, if it isn't 0.
 fn tell_survey<R: AllocGlobal + Print>(rt: &R, survey: &Survey, least: u64) -> Result<(), Fault> {
     let alloc = rt.alloc();
     tell_base(rt, survey)?;
@@ -150,7 +150,7 @@ fn tell_survey<R: AllocGlobal + Print>(rt: &R, survey: &Survey, least: u64) -> R
     for user in &survey.users(alloc)? {
         tell_user(rt, user)?;
     }
-    if survey.base != Base::Own {
+    if least > 0 {
         tell(
             rt,
             format!(in alloc; "first next ids become at least {least}\n"),
@@ -172,9 +172,8 @@ fn tell_survey<R: AllocGlobal + Print>(rt: &R, survey: &Survey, least: u64) -> R
 /// The first second of 2020, in seconds since 1970.
 const YEAR_2020: u64 = 1_577_836_800;
 
-/// The least next unique id of a mend without an opening: the seconds since 2020. So it is above that of each mend before. What was given
-/// after such a mend is in the bytes that are dropped.
-fn least_next_id<R: Clock>(rt: &R) -> Result<u64, Fault> {
+/// The seconds since 2020: more than a user is given unique ids by a service that doesn't get a message a second for years.
+fn seconds_since_2020<R: Clock>(rt: &R) -> Result<u64, Fault> {
     match rt.since_1970() {
         Ok(time) => Ok(time.as_secs().saturating_sub(YEAR_2020)),
         Err(_) => Err(Fault::Read),
@@ -220,7 +219,10 @@ fn mend_segment<R: AllocGlobal + Files<File = File> + RandomSource + Clock + Cop
     way: Option<Way>,
 ) -> Result<u8, Fault> {
     let (fault, survey) = found;
-    let least = least_next_id(rt)?;
+    let least = match mending.least(&survey, seconds_since_2020(rt)?) {
+        Ok(least) => least,
+        Err(fault) => return Ok(refuse_folder(rt, path, fault)),
+    };
     tell_survey(rt, &survey, least)?;
     let Some(way) = way else {
         return Ok(ask(rt, path, fault, survey.lacks_names()));

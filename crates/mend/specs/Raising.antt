@@ -1,11 +1,13 @@
 -- Next unique ids that are raised.
-use Rattle.std.specs.Prelude.{◌≡◌, refl, ℕ, ◌+◌, ◌/◌, ◌^◌, List, [], ◌∷◌, map, max, min, Bool, true, false, not, ◌&&◌, ◌||◌, nat_lt, if◌then◌else◌}
+use Rattle.std.specs.Prelude.{◌≡◌, refl, ℕ, ◌+◌, ◌/◌, ◌^◌, List, [], ◌∷◌, map, max, min, Bool, true, false, not, ◌&&◌, ◌||◌, ◌==◌, nat_lt, Option, Some, None, if◌then◌else◌}
+use Rattle.std.specs.Int.{w64, to_be_bytes}
 use Rattle.std.specs.Str.{bytes_eq}
 use Rattle.std.specs.declared.alloc.Global.{Global}
 use Rattle.maildrop.specs.Kept.{KeptMaildrop, KeptTable, kept_for}
 use Rattle.maildrop.specs.Changes.{changed_if_fit}
 use Rattle.maildrop.specs.Limits.{highest_id}
 use Rattle.maildrop.specs.declared.change.Change.TheVariants.{Next}
+use Rattle.records.specs.Spelling.{spell}
 use Rattle.mend.specs.declared.raising.TheConstants.{SMALLEST_STORED}
 use Rattle.mend.specs.declared.raising.Raise.{Raise}
 use Rattle.mend.specs.declared.survey.Base.{Base}
@@ -68,6 +70,32 @@ no_opening = refl
 
 known : lacks_names true Nothing 1000 ≡ false
 known = refl
+
+-- what mends have raised ids to, if the segment just before is whole. Else ids may have been given of which nothing is known: then at
+-- least this time
+abbrev pub least_by : Bool → Option ℕ → ℕ → ℕ
+least_by is_next None time = time
+least_by true (Some mended) time = mended
+least_by false (Some mended) time = max mended time
+
+-- the least next unique id of a segment of this number, if mends have raised ids to this one, which can't be read if it is None
+abbrev pub least_for : Base → (number : ℕ) → (mended : Option ℕ) → (time : ℕ) → ℕ
+least_for Own number mended time = 0
+least_for (Before before) number mended time = least_by (before + 1 == number) mended time
+least_for Nothing number mended time = least_by (1 == number) mended time
+
+its_own : least_for Own 3 (Some 50) 1000 ≡ 0
+its_own = refl
+
+just_before : least_for (Before 2) 3 (Some 50) 1000 ≡ 50
+just_before = refl
+
+long_before : least_for (Before 1) 3 (Some 50) 1000 ≡ 1000
+long_before = refl
+
+-- the file that says how far ids were raised: `mdmend`, a zero, the version 1, and a record of the number
+abbrev pub mended_bytes : ℕ → List ℕ
+mended_bytes number = 109 ∷ 100 ∷ 109 ∷ 101 ∷ 110 ∷ 100 ∷ 0 ∷ 1 ∷ spell 0 8 (to_be_bytes w64 number)
 
 abbrev pub IsRaised : (dropped : ℕ) → Base → (least : ℕ) → KeptTable Global → KeptTable Global → Type 0
 IsRaised dropped base least old new = AreRaised (raise_for dropped base least) old new

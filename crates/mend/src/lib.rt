@@ -11,6 +11,7 @@
 mod fault;
 mod folder_files;
 mod head;
+mod mended;
 mod mending;
 mod names;
 mod note;

@@ -1,5 +1,5 @@
 //! What can be had of a segment that a start refuses.
-ghost use Rattle.std.specs.Prelude.{◌≡◌, ◌+◌, ◌≤◌, ℕ, List, length, take, true, IfOk, IfSome, OnOk};
+ghost use Rattle.std.specs.Prelude.{◌≡◌, ◌==◌, ◌+◌, ◌≤◌, ℕ, List, length, take, true, IfOk, IfSome, OnOk};
 ghost use Rattle.maildrop.specs.Kept.{kept_for};
 ghost use Rattle.mend.specs.Raising as spec;
 ghost use Rattle.mend.specs.Raising.{IsRaised};
@@ -263,6 +263,13 @@ impl Base {
     }
 }
 
+/// Whether a number is the one after another.
+fn is_next(before: u64, number: u64) -> bool
+    ensures { result ≡ (before + 1 == number) }
+{
+    before < number && number - before == 1
+}
+
 /// What was kept, with the next unique id of each user raised.
 fn raised(alloc: Global, rescue: Rescue, base: Base, least: u64) -> Result<Kept, Memory>
     ensures { IfOk result (IsRaised rescue.dropped base least rescue.kept) }
@@ -291,6 +298,23 @@ impl Survey {
         ensures { result ≡ spec.lacks_names self.now.has_accounts self.now.base self.now.salvaged.dropped }
     {
         !self.has_accounts && (!self.base.is_own() || most_messages(self.salvaged.dropped) > 0)
+    }
+
+    /// The least next unique id that a mend leaves, if mends before have raised ids to this one, which is `None` if it can't be read. If
+    /// the segment just before isn't whole, nothing may be known of ids that were given: then it is at least this time.
+    pub(crate) fn least(&self, mended: Option<u64>, time: u64) -> u64
+        ensures { result ≡ spec.least_for self.now.base self.now.number mended time }
+    {
+        let before = match self.base {
+            Base::Own => return 0,
+            Base::Before(before) => before,
+            Base::Nothing => 0,
+        };
+        match (mended, is_next(before, self.number)) {
+            (None, _) => time,
+            (Some(mended), true) => mended,
+            (Some(mended), false) => mended.max(time),
+        }
     }
 
     /// What is left by a cut, or by a salvage, with the next unique id of each user raised.
