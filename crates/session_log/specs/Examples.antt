@@ -3,10 +3,12 @@ use Rattle.std.specs.Prelude.{◌≡◌, refl, true, false, [], codes, Option, S
 use Rattle.std.specs.Fmt.{digits}
 use Rattle.std.specs.declared.time.Instant.{Instant}
 use Rattle.maildrop.specs.declared.outcome.Outcome.TheVariants as outcome
+use Rattle.ports.specs.declared.fault.Fault.TheVariants as fault
 use Rattle.pop3_wire.specs.Reply.{invalid_login, already_locked, maildrop_has, drop_listing}
 use Rattle.session.specs.declared.transcript.End.TheVariants as end
 use Rattle.session_log.specs.Bounds.{bytes_left, line_seconds, time_left}
 use Rattle.session_log.specs.Events as event
+use Rattle.session_log.specs.Reopenings.{fault_of, is_due, number_of, one_less}
 use Rattle.session_log.specs.Sessions.{no_facts, is_message, reply_kind, after_answer, after_awaiting, after_line, after_read, after_write, begins_refusal, ending_of}
 use Rattle.session_log.specs.Stats.{no_counts, after_session, after_torn, text_of}
 use Rattle.session_log.specs.Written.{with_session}
@@ -129,3 +131,31 @@ torn = refl
 rolled : event.with_roll [] 7 ≡ codes "event=roll epoch=7\n"
 unfolding digits
 rolled = refl
+
+-- the file is opened anew after two lines that wait
+not_due : is_due (Some 2) ≡ false
+not_due = refl
+
+due : is_due (one_less (one_less (Some 2))) ≡ true
+due = refl
+
+-- two requests are answered by one opening
+both_requests : number_of (Some 0) 2 ≡ Some 2
+both_requests = refl
+
+no_request : number_of None 2 ≡ None
+no_request = refl
+
+opened_anew : fault_of 1 2 2 ≡ None
+opened_anew = refl
+
+-- it was opened for the first request, and couldn't be for the second one
+opened_before : fault_of 1 2 1 ≡ None
+opened_before = refl
+
+not_opened : fault_of 2 2 1 ≡ Some fault.Log
+not_opened = refl
+
+-- the writer hasn't come to the request
+not_tried : fault_of 3 2 1 ≡ Some fault.Write
+not_tried = refl

@@ -26,6 +26,9 @@ const STANDARD_ERROR: &str = "-";
 /// How long the end of a service waits for the lines that still wait, in milliseconds.
 const END_MS: u64 = 1_000;
 
+/// How long an operator waits for the file to be opened anew, in milliseconds.
+const REOPEN_MS: u64 = 2_000;
+
 /// The log: a line for each event. Lines are written by a thread of their own, so that nobody waits for the log. A line for which there is
 /// no room or memory is missing: the next one that is written has a line before it that says how many are.
 #[derive(Drop)]
@@ -33,6 +36,8 @@ pub struct EventLog {
     alloc: Global,
     /// Nothing if there is no log.
     queue: Option<Arc<LogQueue>>,
+    /// Whether it is a file, which can be opened anew.
+    is_file: bool,
 }
 
 /// Where the lines of a log of this path go: `-` is standard error.
@@ -52,16 +57,24 @@ impl EventLog {
         rt: &R,
         alloc: Global,
         path: Option<&str>,
-    ) -> Result<EventLog, Fault> {
+    ) -> Result<EventLog, Fault>
+    where
+        R::Dir: Send,
+    {
         let Some(path) = path else {
-            return Ok(EventLog { alloc, queue: None });
+            return Ok(EventLog {
+                alloc,
+                queue: None,
+                is_file: false,
+            });
         };
         let target = target_of(rt, path)?;
         let queue = Arc::new(alloc, LogQueue::new(alloc)?)?;
-        start_writing(rt, alloc, &queue, target)?;
+        start_writing(rt, alloc, &queue, target, path)?;
         Ok(EventLog {
             alloc,
             queue: Some(queue),
+            is_file: path != STANDARD_ERROR,
         })
     }
 
@@ -70,6 +83,17 @@ impl EventLog {
         match &self.queue {
             Some(queue) => queue.lost(rt),
             None => 0,
+        }
+    }
+
+    /// Has the file opened anew: lines that were added before go to the old one if it still takes them, and those that come later to
+    /// the one that its path names by now. Waits for that, but for two seconds at most. `Log` if it can't be opened: the old one
+    /// goes on. `Write` if the thread that writes hasn't come to it, since a write hangs, or is at its end: it comes to it as soon as it
+    /// can. Nothing is to do if the log is standard error, or there is none.
+    pub fn reopen<R: Wait + Clock>(&self, rt: &R) -> Result<(), Fault> {
+        match &self.queue {
+            Some(queue) if self.is_file => queue.reopen(rt, Duration::from_millis(REOPEN_MS)),
+            _ => Ok(()),
         }
     }
 
