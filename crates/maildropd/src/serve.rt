@@ -328,7 +328,10 @@ pub(crate) fn run_serve<
         + Files<File = File>
         + Print
         + Eprint,
->(rt: &R, matches: &ArgMatches<'_>) -> u8 {
+>(rt: &R, matches: &ArgMatches<'_>) -> u8
+where
+    R::Dir: Send,
+{
     let Some(service) = options_of(matches) else {
         return refuse(rt);
     };

@@ -68,6 +68,7 @@ impl PastOperators {
 }
 
 /// Runs the next epoch, once the segment for its changes is open.
+#[tactic(auto, using(crate::proofs::Tells::before_same))]
 fn run_next<R: System + Files<File = File>, W: Write>(
     rt: R,
     alloc: Global,
@@ -82,10 +83,13 @@ fn run_next<R: System + Files<File = File>, W: Write>(
     ensures told { TellsOn (W.contents writer.old) (W.contents writer.new) past.old past.new }
     ensures end { IfOk result (λ end. IfSome end.left (IsLeftOf settings.now.cluster settings.now.window settings.now.limits settings.now.keys past.old.kept)) }
 {
+    ports.pause_ctl(&rt);
+    past.release_descriptors();
     let accounts = past.accounts()?;
     let setup = setup_of(alloc, settings, &accounts, past.kept()?)?;
     let book = Blank::new(1);
     let journal = storage.begin_epoch(&rt, alloc, &setup)?;
+    past.release(&rt);
     run_epoch::<Brand, R, W>(
         rt, alloc, settings, ports, life, setup, accounts, book, &journal, past, writer,
     )
@@ -121,7 +125,7 @@ fn run_one<R: System + Files<File = File>, W: Write>(
     if served.is_ok() {
         operators.add(&rt, life, theirs);
     } else {
-        // The ports stayed closed to them, so they answer nobody, and the next try has the number of this epoch.
+        // The ports were never handed over to them, so they answer nobody, and the next try has the number of this epoch.
         join_all(&rt, theirs);
     }
     add_or_end(rt, alloc, life, is_over, written, served, left, past)
@@ -236,6 +240,7 @@ pub(crate) fn run_epochs<R: System + Files<File = File>, W: Write>(
             Ok(Some(last)) => return Ok(last),
             Ok(None) => seconds = FIRST_TRY_SECONDS,
             Err(fault) if may_try_again && may_be_had_later(fault) => {
+                ports.resume_ctl(&rt);
                 life.log().roll_failed(&rt, fault);
                 // There is more memory once the audit has ended.
                 if tell_verdict(&rt, alloc, on_fault, life, past, writer) {

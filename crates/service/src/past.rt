@@ -9,12 +9,15 @@ ghost use Rattle.service.specs.declared.verdict.Verdict.TheVariants.{Legal};
 use crate::accounts_file::some_accounts_of;
 use crate::epoch::EndedEpoch;
 use crate::life::ServiceLife;
+use crate::reserve::{Needs, Reserve};
+use crate::retry::Retry;
 use crate::verdict::Verdict;
 use apop::Accounts;
 use ballot::Memory;
 use maildrop::{Kept, Shared};
-use ports::Fault;
+use ports::{Fault, System};
 use std::alloc::Global;
+use std::fs::File;
 use std::marker::Model;
 use std::rt::Files;
 use std::snapshot::Snapshot;
@@ -53,6 +56,16 @@ pub(crate) struct Past {
     accounts: Arc<Accounts>,
     /// The path of the accounts file.
     accounts_path: String,
+    /// What the next epoch needs of the system.
+    reserve: Reserve,
+    /// When an epoch that couldn't end is tried to end again.
+    retry: Retry,
+}
+
+/// That all was had that the next epoch needs, before the one before it ends. Only `Past::hold` makes it.
+#[derive(Clone, Copy, Debug, PartialEq, Eq)]
+pub(crate) struct Prepared {
+    made_by_hold: (),
 }
 
 impl Model for Past {
@@ -160,6 +173,7 @@ impl Past {
     /// Of a service without an epoch that has ended. The first one opens with these maildrops and accounts, which are those of the file of
     /// this path.
     pub(crate) fn new(
+        alloc: Global,
         first: Shared<Kept>,
         accounts: Arc<Accounts>,
         accounts_path: String,
@@ -176,6 +190,8 @@ impl Past {
             audit: None,
             accounts,
             accounts_path,
+            reserve: Reserve::new(alloc),
+            retry: Retry::new(),
         })
     }
 
@@ -190,6 +206,53 @@ impl Past {
     {
         self.accounts = some_accounts_of(rt, alloc, self.accounts_path.as_str())?;
         Ok(())
+    }
+
+    /// Holds what the next epoch needs of the system, until it is released. After a fault nothing is held.
+    pub(crate) fn hold<R: System + Files<File = File>>(
+        &mut self,
+        rt: R,
+        needs: Needs,
+    ) -> Result<Prepared, Fault>
+        ensures { self.new ≡ self.old }
+    {
+        self.reserve.hold(rt, needs)?;
+        self.retry = Retry::new();
+        Ok(Prepared { made_by_hold: () })
+    }
+
+    /// Whether an epoch that couldn't end is tried to end again now.
+    pub(crate) fn is_try_due<R: Clock>(&self, rt: &R) -> bool {
+        self.retry.is_due(rt)
+    }
+
+    /// An epoch couldn't end.
+    pub(crate) fn note_try<R: Clock>(&mut self, rt: &R)
+        ensures { self.new ≡ self.old }
+    {
+        self.retry.note(rt);
+    }
+
+    /// The memory that is held is used from now on.
+    pub(crate) fn release_memory(&mut self)
+        ensures { self.new ≡ self.old }
+    {
+        self.reserve.release_memory();
+    }
+
+    /// The memory and the descriptors that are held are used from now on.
+    pub(crate) fn release_descriptors(&mut self)
+        ensures { self.new ≡ self.old }
+    {
+        self.reserve.release_memory();
+        self.reserve.release_descriptors();
+    }
+
+    /// All that is held is used from now on.
+    pub(crate) fn release<R: System>(&mut self, rt: &R)
+        ensures { self.new ≡ self.old }
+    {
+        self.reserve.release(rt);
     }
 
     /// What the next epoch opens with.
@@ -263,7 +326,7 @@ impl Past {
 
     /// Adds an epoch that has ended, and left these maildrops. It is audited on a thread of its own. After `Memory` the epoch
     /// and its maildrops are lost, and nothing else has changed.
-    pub(crate) fn add<R: Threads + Wait + Clock + Copy + Send + 'static>(
+    pub(crate) fn add<R: System>(
         &mut self,
         rt: R,
         alloc: Global,
@@ -282,6 +345,7 @@ impl Past {
         ensures err { OnErr result (self.new ≡ self.old) }
     {
         let kept = handed_on(alloc, left, self.kept.get())?;
+        self.reserve.release_thread(&rt);
         let audit = start_audit(rt, alloc, life, epoch)?;
         self.kept = kept;
         self.audit = Some(audit);

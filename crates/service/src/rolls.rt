@@ -128,6 +128,17 @@ pub(crate) struct EpochStats {
     pub is_auditing: bool,
 }
 
+/// Whether an operator's request for the end of an epoch counts.
+#[derive(Clone, Copy, Debug, PartialEq, Eq)]
+pub(crate) enum Asked {
+    /// There is only one epoch.
+    Never,
+    /// The epoch ends already, and what the next one opens with was looked at before the request.
+    TooLate,
+    /// It counts. So many were refused before it.
+    Noted(u64),
+}
+
 /// What has become of an operator's request for the end of an epoch.
 #[derive(Clone, Copy, Debug, PartialEq, Eq)]
 pub(crate) enum RollEnd {
@@ -146,6 +157,10 @@ pub(crate) struct Rolls {
     limits: Option<RollLimits>,
     progress: Mutex<Progress>,
     changes: Condvar,
+    /// Whether the accounts file could be read when that was tried last.
+    has_read_accounts: Mutex<bool>,
+    /// The last epoch that ends, or has ended, for which a request to end it comes too late.
+    ending: Mutex<u64>,
 }
 
 impl Rolls {
@@ -155,7 +170,31 @@ impl Rolls {
             limits,
             progress: Mutex::new(Progress::new()),
             changes: Condvar::new(),
+            has_read_accounts: Mutex::new(true),
+            ending: Mutex::new(0),
         }
+    }
+
+    /// This epoch is about to end: what the next one opens with is looked at from now on.
+    pub(crate) fn begin_end<R: Wait>(&self, rt: &R, epoch: u64) {
+        *self.ending.lock(rt) = epoch;
+    }
+
+    /// It goes on.
+    pub(crate) fn give_up_end<R: Wait>(&self, rt: &R) {
+        let mut ending = self.ending.lock(rt);
+        *ending = ending.saturating_sub(1);
+        self.changes.notify_all();
+    }
+
+    /// The accounts file could be read, or not.
+    pub(crate) fn note_accounts<R: Wait>(&self, rt: &R, is_read: bool) {
+        *self.has_read_accounts.lock(rt) = is_read;
+    }
+
+    /// Whether the accounts file could be read when that was tried last.
+    pub(crate) fn has_read_accounts<R: Wait>(&self, rt: &R) -> bool {
+        *self.has_read_accounts.lock(rt)
     }
 
     /// The next epoch begins. Returns its number.
@@ -192,17 +231,20 @@ impl Rolls {
         progress.led == progress.epoch
     }
 
-    /// Asks for the end of this epoch for an operator, unless it has ended. Returns how many times that was refused so far, and nothing
-    /// if there is only one epoch.
-    pub(crate) fn ask<R: Wait>(&self, rt: &R, epoch: u64) -> Option<u64> {
+    /// Asks for the end of this epoch for an operator.
+    pub(crate) fn ask<R: Wait>(&self, rt: &R, epoch: u64) -> Asked {
         if self.limits.is_none() {
-            return None;
+            return Asked::Never;
+        }
+        let ending = self.ending.lock(rt);
+        if *ending >= epoch {
+            return Asked::TooLate;
         }
         let mut guard = self.progress.lock(rt);
         let progress = &mut *guard;
         progress.is_asked = progress.is_asked | (progress.epoch == epoch);
         self.changes.notify_all();
-        Some(progress.refusals)
+        Asked::Noted(progress.refusals)
     }
 
     /// Asks for the end of this epoch, unless it has ended, since a majority is wanting. Returns false if there is only one.
@@ -218,13 +260,12 @@ impl Rolls {
         true
     }
 
-    /// Refuses the end of this epoch to the operators who ask for it, for this reason. Returns false if it ends in any case.
-    pub(crate) fn refuse<R: Wait>(&self, rt: &R, fault: Fault) -> bool {
+    /// Refuses the end of this epoch to the operators who ask for it, for this reason.
+    pub(crate) fn refuse<R: Wait>(&self, rt: &R, fault: Fault) {
         let mut guard = self.progress.lock(rt);
         let progress = &mut *guard;
-        let is_refused = progress.refuse(fault);
+        let _asked = progress.refuse(fault);
         self.changes.notify_all();
-        is_refused
     }
 
     /// Waits until a node of a later epoch leads, the end of this one is refused once more than so many times, or the service stops or
@@ -242,6 +283,33 @@ impl Rolls {
             Some(fault) if progress.has_refused(epoch, refusals) => RollEnd::Refused(fault),
             _ => RollEnd::Over,
         }
+    }
+
+    /// Waits at most so long until a node of a later epoch leads. Returns whether one does.
+    pub(crate) fn follows_within<R: Wait + Clock>(
+        &self,
+        rt: &R,
+        epoch: u64,
+        time: Duration,
+    ) -> bool {
+        let guard = self.progress.lock(rt);
+        let (progress, _) = self
+            .changes
+            .wait_timeout_while(rt, guard, time, |progress| {
+                progress.led <= epoch && !progress.is_over()
+            });
+        progress.led > epoch
+    }
+
+    /// Whether a node of a later epoch leads.
+    pub(crate) fn follows<R: Wait>(&self, rt: &R, epoch: u64) -> bool {
+        self.progress.lock(rt).led > epoch
+    }
+
+    /// Whether an operator asks for the end of this epoch, and may be refused.
+    pub(crate) fn may_refuse<R: Wait>(&self, rt: &R) -> bool {
+        let progress = self.progress.lock(rt);
+        progress.is_asked && !progress.is_required
     }
 
     /// Waits so long, or until the service stops or ends. Returns whether it does.

@@ -88,7 +88,10 @@ pub(crate) fn life_of<R: System + Files<File = File>>(
     options: &ServeOptions<'_>,
     settings: &Settings,
     accounts: &Accounts,
-) -> Result<Arc<ServiceLife>, Fault> {
+) -> Result<Arc<ServiceLife>, Fault>
+where
+    R::Dir: Send,
+{
     let log = EventLog::open(rt, alloc, options.log)?;
     let host = settings.host.copy()?;
     let (agreement, limits) = match settings.peer_port {
@@ -212,7 +215,7 @@ fn run_life<R: System + Files<File = File>, W: Write>(
         end.epochs end.left.logs.items end.left.transcripts.items end.left.greeted) }
 {
     let path = String::from_str(alloc, options.accounts)?;
-    let mut past = Past::new(kept, accounts, path)?;
+    let mut past = Past::new(alloc, kept, accounts, path)?;
     ports.start_taking(rt, life, &mut threads.takers)?;
     let ran = run_epochs(
         rt,
@@ -329,6 +332,8 @@ fn run_with<R: System + Files<File = File> + Eprint, W: Write>(
     settings: &Settings,
     writer: &mut W,
 ) -> Result<RunEnd, Fault>
+where
+    R::Dir: Send,
     ensures told { IfOk result (λ end. end.is_good ≡ true → Appends (W.contents writer.old) (W.contents writer.new) (epoch_lines end.epochs)) }
     ensures legal { IfOk result (λ end. end.left.verdict ≡ Legal → end.is_good ≡ true → FoundLegal settings.now.cluster settings.now.window settings.now.limits settings.now.keys (is_some options.now.data)
         end.epochs end.left.logs.items end.left.transcripts.items end.left.greeted) }
@@ -362,6 +367,8 @@ fn run<R: System + Files<File = File> + Eprint, W: Write>(
     options: &ServeOptions<'_>,
     writer: &mut W,
 ) -> Result<RunEnd, Fault>
+where
+    R::Dir: Send,
     ensures values { (¬ spec.AreGood options.now) → IsErrOf result Fault.Value }
     ensures told { IfOk result (λ end. end.is_good ≡ true → Appends (W.contents writer.old) (W.contents writer.new) (epoch_lines end.epochs)) }
     ensures legal { IfOk result (λ end. end.left.verdict ≡ Legal → end.is_good ≡ true → FoundLegal options.now.nodes options.now.window (spec.limits_of options.now) options.now.keys (is_some options.now.data)
@@ -497,6 +504,8 @@ pub fn serve_run<R: System + Files<File = File> + Eprint, W: Write>(
     writer: &mut W,
     options: &ServeOptions<'_>,
 ) -> ServiceEnd
+where
+    R::Dir: Send,
     ensures values { (¬ spec.AreGood options.now) → result.status ≡ 2 }
     ensures statuses { result.status ≤ 2 }
 

@@ -70,7 +70,7 @@ fn serve_one<D: Service + Send + Sync + 'static, R: System>(
             life.stages().wait_for_stop(&rt);
             Ending::Stopped
         }
-        Err(_) => Ending::Rolled,
+        Err(_) => Ending::Over,
     };
     let operators = end_threads(&rt, threads, ports, &state, ending);
     let announcement = Announcement::stopped(&nodes.stop_unaudited());
@@ -99,14 +99,12 @@ fn mark_and_serve<D: Service + Send + Sync + 'static, R: System + Files<File = F
 {
     let socket = options.service.ctl_socket;
     let ports = Ports::open(&rt, alloc, settings, socket)?;
-    let marked = match options.mark {
-        Some(folder) => mark_start(&rt, alloc, folder, place.node),
-        None => Ok(()),
-    };
     let mut takers = Vec::new(alloc);
-    let ready = match marked {
-        Ok(()) => ports.start_taking(rt, life, &mut takers),
-        Err(fault) => Err(fault),
+    // They take nobody before the service begins.
+    let taken = ports.start_taking(rt, life, &mut takers);
+    let ready = match (taken, options.mark) {
+        (Ok(()), Some(folder)) => mark_start(&rt, alloc, folder, place.node),
+        (taken, _) => taken,
     };
     let end = match ready {
         Ok(()) => serve_one::<D, R>(
@@ -134,6 +132,8 @@ fn run_node<D: Service + Send + Sync + 'static, R: System + Files<File = File>>(
     accounts: Arc<Accounts>,
     book: Blank,
 ) -> Result<(), Fault>
+where
+    R::Dir: Send,
     requires deployment { setup.now ≡ D.setup }
     requires accounts { arc_value accounts ≡ D.accounts }
     requires name { book.name ≡ D.name }
@@ -165,7 +165,10 @@ fn run_with<R: System + Files<File = File>>(
     alloc: Global,
     options: &NodeOptions<'_>,
     settings: &Settings,
-) -> Result<(), Fault> {
+) -> Result<(), Fault>
+where
+    R::Dir: Send,
+{
     let (Some(node), Some(base)) = (settings.node, settings.peer_port) else {
         return Err(Fault::Value);
     };
@@ -183,6 +186,8 @@ fn run<R: System + Files<File = File>>(
     alloc: Global,
     options: &NodeOptions<'_>,
 ) -> Result<(), Fault>
+where
+    R::Dir: Send,
     ensures { (¬ spec.AreNodeGood options.now) → IsErrOf result Fault.Value }
 {
     match node_settings_of(alloc, options) {
@@ -198,6 +203,8 @@ fn run_and_tell<R: System + Files<File = File>, W: Write>(
     writer: &mut W,
     options: &NodeOptions<'_>,
 ) -> Result<(), Fault>
+where
+    R::Dir: Send,
     ensures values { (¬ spec.AreNodeGood options.now) → IsErrOf result Fault.Value }
     ensures written { OnOk result (Appends (W.contents writer.old) (W.contents writer.new) (codes "stopped" ++ 10 ∷ [])) }
 {
@@ -219,6 +226,8 @@ pub fn serve_node_run<R: System + Files<File = File> + Eprint, W: Write>(
     writer: &mut W,
     options: &NodeOptions<'_>,
 ) -> u8
+where
+    R::Dir: Send,
     ensures values { (¬ spec.AreNodeGood options.now) → result ≡ 2 }
     ensures statuses { result ≤ 2 }
 
