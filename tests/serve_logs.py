@@ -21,6 +21,7 @@ SMALLEST_PIPE, SET_SIZE = 4096, getattr(fcntl, "F_SETPIPE_SZ", 1031)
 LONGEST_END = 5
 # How long it is looked whether a log that fails burns a processor, and how many seconds of one it may take meanwhile.
 LOOK, MOST_WORK = 1.0, 0.3
+LINE = re.compile(rb"time=\d+\.\d{3} event=[a-z_]+( [^\n]+)?\n")
 GAP = re.compile(rb"time=\d+\.\d{3} event=log_gap lines=(\d+)\n")
 
 
@@ -136,3 +137,43 @@ def a_log_on_a_full_disk(fixture):
     start = time.monotonic()
     service.stop(b"epoch 1: audit ok\naudit ok\n")
     expect(time.monotonic() - start < LONGEST_END, "the end waits for the log")
+
+
+def lines(path, event):
+    """How many lines a log has about an event."""
+    with contextlib.suppress(FileNotFoundError, IsADirectoryError), open(path, "rb") as it:
+        return it.read().count(b" event=%s " % event)
+    return 0
+
+
+def expect_whole(path):
+    with open(path, "rb") as it:
+        found = it.read()
+    expect(all(LINE.fullmatch(line) for line in found.splitlines(keepends=True)), f"{path} has a line that isn't whole: {found!r}")
+
+
+@LOGS.test
+def a_log_is_opened_anew(fixture):
+    """So it is rotated: it is moved away, and what comes then is in a new file. If there can be none the old file goes on."""
+    folder = fixture.subfolder()
+    log, old, moved = (os.path.join(folder, name) for name in ("log", "log.1", "moved"))
+    service = serve(fixture, log=log)
+    refuse(fixture, service, 3)
+    wait_until(lambda: lines(log, b"delivery") == 3, "the lines are written")
+    os.rename(log, old)
+    service.expect_ctl("reopen", "reopened\n")
+    refuse(fixture, service, 2)
+    service.expect_ctl("roll", "rolled\n")
+    wait_until(lambda: (lines(log, b"delivery"), lines(log, b"roll")) == (2, 1), "the next lines are in the new file")
+    expect_equal((lines(old, b"delivery"), lines(old, b"roll")), (3, 0), "lines in the old file")
+    # A folder can't be opened as a file.
+    os.rename(log, moved)
+    os.mkdir(log)
+    ran = service.ctl("reopen")
+    expect(ran.status == 3 and re.fullmatch(rb"reopen failed: [^\n]+\n", ran.output), f"status {ran.status}, {ran.output!r}")
+    refuse(fixture, service, 1)
+    wait_until(lambda: lines(moved, b"delivery") == 3, "the file before goes on")
+    expect(b"\nlog_lines_lost 0\n" in service.ctl("stats").output, "lines are lost")
+    service.stop(b"epoch 1: audit ok\naudit ok\n")
+    for path in (old, moved):
+        expect_whole(path)
