@@ -74,20 +74,6 @@ def expect_run(fixture, words, output=b"", status=0, errors=b""):
 
 
 @DATA.test
-def a_message_that_never_fits(fixture):
-    """It is refused for good before it comes, but only for who has an account. A file may be sent in parts."""
-    folder, most = fixture.path("mail"), 240 << 20
-    expect_equal(fixture.run("begin", "--data", folder).status, 0, "begin")
-    service = serve(fixture, data=folder)
-    play_to_end(service, [
-        Asks(f"put 1 alice {most + 1}\n", "op alice 1/0 too large\nend\n"),
-        Asks(f"put 1 zoe {most + 1}\n", "no such user\n"),
-        Asks(f"deliver 1 alice {most + 1}\n", "bad request\n"),
-        STOP,
-    ])
-
-
-@DATA.test
 def only_its_owner_uses_a_folder(fixture):
     """Also if it was there, and others could look into it."""
     folder = fixture.path("data")

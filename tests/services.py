@@ -106,12 +106,6 @@ class Service:
         self.expect_ctl("stop", "stopping\n")
         self.expect_end(output)
 
-    def work(self):
-        """How many seconds of a processor it has taken."""
-        with open(f"/proc/{self.process.pid}/stat", encoding="utf-8") as it:
-            fields = it.read().rpartition(")")[2].split()
-        return (int(fields[11]) + int(fields[12])) / os.sysconf("SC_CLK_TCK")
-
     def holds(self, what):
         """How many descriptors (`fd`) or threads (`task`) it has."""
         return len(os.listdir(f"/proc/{self.process.pid}/{what}"))

@@ -65,10 +65,7 @@ fn run<
         + Input
         + Print
         + Eprint,
->(rt: &R, words: &[String]) -> Result<u8, Error>
-where
-    R::Dir: Send,
-{
+>(rt: &R, words: &[String]) -> Result<u8, Error> {
     let matches = command(rt.alloc())?.try_get_matches_from(words)?;
     match matches.subcommand() {
         Some(("lone", inner)) => Ok(run_lone(rt, inner)),

@@ -12,7 +12,6 @@ use std::io;
 use std::io::Read;
 use std::random::RandomSource;
 use std::rt::Files;
-use std::time::Clock;
 use store::StoreFault;
 
 /// The options that have a value.
@@ -29,7 +28,7 @@ const OPTIONS: &[Choice] = &[
         value: "FILE",
         kind: Kind::Text,
         presence: Presence::Optional,
-        help: "The accounts file of the service. It is needed if what can't be read may have names of users: no user in it is given a unique id again",
+        help: "The accounts file of the service: no user in it is given a unique id again, also if nothing can be read of this user",
     },
 ];
 
@@ -135,8 +134,8 @@ fn tell_user<R: AllocGlobal + Print>(rt: &R, user: &Behind) -> Result<(), Fault>
     )
 }
 
-/// Prints what was found. Next unique ids become at least this one, if it isn't 0.
-fn tell_survey<R: AllocGlobal + Print>(rt: &R, survey: &Survey, least: u64) -> Result<(), Fault> {
+/// Prints what was found.
+fn tell_survey<R: AllocGlobal + Print>(rt: &R, survey: &Survey) -> Result<(), Fault> {
     let alloc = rt.alloc();
     tell_base(rt, survey)?;
     for gap in &survey.behind.gaps {
@@ -150,12 +149,6 @@ fn tell_survey<R: AllocGlobal + Print>(rt: &R, survey: &Survey, least: u64) -> R
     for user in &survey.users(alloc)? {
         tell_user(rt, user)?;
     }
-    if least > 0 {
-        tell(
-            rt,
-            format!(in alloc; "first next ids become at least {least}\n"),
-        )?;
-    }
     for (word, dropped) in [
         ("cut", survey.cut.dropped),
         ("salvage", survey.salvaged.dropped),
@@ -167,17 +160,6 @@ fn tell_survey<R: AllocGlobal + Print>(rt: &R, survey: &Survey, least: u64) -> R
         )?;
     }
     Ok(())
-}
-
-/// The first second of 2020, in seconds since 1970.
-const YEAR_2020: u64 = 1_577_836_800;
-
-/// The seconds since 2020: more than a user is given unique ids by a service that doesn't get a message a second for years.
-fn seconds_since_2020<R: Clock>(rt: &R) -> Result<u64, Fault> {
-    match rt.since_1970() {
-        Ok(time) => Ok(time.as_secs().saturating_sub(YEAR_2020)),
-        Err(_) => Err(Fault::Read),
-    }
 }
 
 /// A number that no sender of mail can know.
@@ -199,19 +181,14 @@ fn refuse_mending<R: Eprint>(rt: &R, path: &str, fault: MendFault) -> u8 {
 }
 
 /// Reports what a start refuses, and which words would mend it. Returns the status.
-fn ask<R: Eprint>(rt: &R, path: &str, fault: StoreFault, lacks_names: bool) -> u8 {
+fn ask<R: Eprint>(rt: &R, path: &str, fault: StoreFault) -> u8 {
     refuse_folder(rt, path, fault);
-    let accounts = if lacks_names {
-        ", with --accounts FILE"
-    } else {
-        ""
-    };
-    let _untold = eprintln!(rt; "maildropd: nothing was changed; say --cut or --salvage{accounts}");
+    let _untold = eprintln!(rt; "maildropd: nothing was changed; say --cut or --salvage");
     1
 }
 
 /// Reports what was found, and mends a folder in this way. Returns the status.
-fn mend_segment<R: AllocGlobal + Files<File = File> + RandomSource + Clock + Copy + Print + Eprint>(
+fn mend_segment<R: AllocGlobal + Files<File = File> + RandomSource + Copy + Print + Eprint>(
     rt: &R,
     path: &str,
     mending: &Mending<R>,
@@ -219,15 +196,11 @@ fn mend_segment<R: AllocGlobal + Files<File = File> + RandomSource + Clock + Cop
     way: Option<Way>,
 ) -> Result<u8, Fault> {
     let (fault, survey) = found;
-    let least = match mending.least(&survey, seconds_since_2020(rt)?) {
-        Ok(least) => least,
-        Err(fault) => return Ok(refuse_folder(rt, path, fault)),
-    };
-    tell_survey(rt, &survey, least)?;
+    tell_survey(rt, &survey)?;
     let Some(way) = way else {
-        return Ok(ask(rt, path, fault, survey.lacks_names()));
+        return Ok(ask(rt, path, fault));
     };
-    let mended = mending.mend(survey, way, random_salt(rt)?, least);
+    let mended = mending.mend(survey, way, random_salt(rt)?);
     tell_end(rt, path, mended)
 }
 
@@ -242,7 +215,7 @@ fn mend_note<R: AllocGlobal + Files<File = File> + Copy + Print + Eprint>(
     let alloc = rt.alloc();
     tell(rt, format!(in alloc; "the newest segment is whole\n"))?;
     if way.is_none() {
-        return Ok(ask(rt, path, fault, false));
+        return Ok(ask(rt, path, fault));
     }
     tell_end(rt, path, mending.forget_note())
 }
@@ -262,7 +235,7 @@ fn tell_end<R: AllocGlobal + Print + Eprint>(
 }
 
 /// Mends a folder as the words say. Returns the status.
-fn apply<R: AllocGlobal + Files<File = File> + RandomSource + Clock + Copy + Print + Eprint>(
+fn apply<R: AllocGlobal + Files<File = File> + RandomSource + Copy + Print + Eprint>(
     rt: &R,
     path: &str,
     matches: &ArgMatches<'_>,
@@ -287,9 +260,10 @@ fn apply<R: AllocGlobal + Files<File = File> + RandomSource + Clock + Copy + Pri
     }
 }
 
-pub(crate) fn run_mend<
-    R: AllocGlobal + Files<File = File> + RandomSource + Clock + Copy + Print + Eprint,
->(rt: &R, matches: &ArgMatches<'_>) -> u8 {
+pub(crate) fn run_mend<R: AllocGlobal + Files<File = File> + RandomSource + Copy + Print + Eprint>(
+    rt: &R,
+    matches: &ArgMatches<'_>,
+) -> u8 {
     let path = text_of(matches, "data");
     let mending = match Mending::open(rt, rt.alloc(), path) {
         Ok(mending) => mending,

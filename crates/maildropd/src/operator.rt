@@ -24,7 +24,7 @@ const REQUESTS: &str = "Requests:
   stop                          Ends the service, once its sessions have ended
   stop now                      Ends the service, and cuts its sessions
 After the first word of a request nothing is an option.
-The status is 0 after an answer, 3 if that is `bad request`, `bad mbox`, `down` or `roll failed`, 2 for words that are no request, else 1.
+The status is 0 after an answer, 3 if that is `bad request`, `bad mbox` or `down`, 2 for words that are no request, else 1.
 After `put` it is 0 if the message is stored, 67 if there is no such user, 65 if it is too large, 64 for words that are no request, and 75 if it may be sent again later.
 After `--wait stop` it is 0 if the verdict is `audit ok`, or if a node in a process of its own has `stopped`, else 1.
 Examples:

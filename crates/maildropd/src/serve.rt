@@ -328,10 +328,7 @@ pub(crate) fn run_serve<
         + Files<File = File>
         + Print
         + Eprint,
->(rt: &R, matches: &ArgMatches<'_>) -> u8
-where
-    R::Dir: Send,
-{
+>(rt: &R, matches: &ArgMatches<'_>) -> u8 {
     let Some(service) = options_of(matches) else {
         return refuse(rt);
     };

@@ -1,7 +1,7 @@
 //! Raises next unique ids, so that none comes again that may have been given.
 ghost use Rattle.std.specs.Prelude.{◌≡◌, ℕ, List, ◌/◌, IfOk, OnOk};
 ghost use Rattle.maildrop.specs.Kept.{kept_for};
-ghost use Rattle.mend.specs.Raising.{AreRaised, names_in, raised_id, raised_step};
+ghost use Rattle.mend.specs.Raising.{names_in, raised_step, raised_by};
 
 use ballot::Memory;
 use maildrop::{Change, Kept, Name};
@@ -36,41 +36,23 @@ fn names_of(alloc: Global, kept: &Kept) -> Result<Vec<Name>, Memory>
     Ok(names)
 }
 
-/// How next unique ids are raised.
-#[derive(Clone, Copy, Debug, PartialEq, Eq)]
-pub struct Raise {
-    /// To at least this one,
-    pub least: u64,
-    /// and then by so many.
-    pub by: u64,
-}
-
-impl Raise {
-    /// The next unique id in place of this one: at most the highest.
-    fn next_after(self, next: u64) -> u64
-        ensures { result ≡ raised_id self next }
-    {
-        next.max(self.least).saturating_add(self.by).min(LAST_NEXT)
-    }
-}
-
-/// Raises the next unique id of a user.
-fn raise_one(kept: &mut Kept, name: Name, raise: Raise) -> Result<(), Memory>
-    ensures { OnOk result ((other : List ℕ) → kept_for other kept.new ≡ raised_step raise other (kept_for other kept.old) name) }
+/// Raises the next unique id of a user by so many.
+fn raise(kept: &mut Kept, name: Name, by: u64) -> Result<(), Memory>
+    ensures { OnOk result ((other : List ℕ) → kept_for other kept.new ≡ raised_step by other (kept_for other kept.old) name) }
 {
-    let next = raise.next_after(kept.next_uid(&name));
+    let next = kept.next_uid(&name).saturating_add(by).min(LAST_NEXT);
     kept.change(name, &Change::Next(next))?;
     Ok(())
 }
 
-/// Raises the next unique id of each user, up to the highest. Nothing else changes. After an error some may be raised.
-pub fn raise_all(alloc: Global, kept: &mut Kept, raise: Raise) -> Result<(), Memory>
-    ensures { OnOk result (AreRaised raise kept.old kept.new) }
+/// Raises the next unique id of each user by so many, up to the highest. Nothing else changes. After an error some may be raised.
+pub fn raise_all(alloc: Global, kept: &mut Kept, by: u64) -> Result<(), Memory>
+    ensures { OnOk result ((name : List ℕ) → kept_for name kept.new ≡ raised_by by name (kept_for name kept.old) (names_in kept.old)) }
 {
     let names = names_of(alloc, kept)?;
     let mut rest: &[Name] = &names;
     while let Some((name, others)) = rest.split_first() {
-        raise_one(kept, *name, raise)?;
+        raise(kept, *name, by)?;
         rest = others;
     }
     Ok(())

@@ -96,13 +96,7 @@ fn bind_at<R: Net + Files>(rt: &R, path: &str) -> io::Result<OperatorSocket> {
         remove(rt, path);
         return Err(error);
     }
-    let file = match file_at(rt, path) {
-        Ok(file) => file,
-        Err(error) => {
-            remove(rt, path);
-            return Err(error);
-        }
-    };
+    let file = file_at(rt, path)?;
     let listener = UnixListener::from(socket);
     let_wait(&listener);
     Ok(OperatorSocket { listener, file })

@@ -6,7 +6,6 @@ ghost use Rattle.ports.specs.Faults.{IsCtlFault};
 use crate::connection::{Connection, Listening, close_listener};
 use crate::fault::Fault;
 use crate::listener::listen_at;
-use crate::operator_connection::OperatorConnection;
 use crate::operator_socket::OperatorSocket;
 use crate::system::System;
 use libc::net::{POLLERR, POLLHUP, POLLRDHUP, poll};
@@ -80,8 +79,8 @@ impl OperatorStream {
     }
 }
 
-/// Reads from a connection once. The read may be interrupted.
-pub(crate) fn read_once(stream: &OperatorStream, buf: &mut [u8]) -> io::Result<usize>
+/// Reads from a connection once.
+fn read_once(stream: &OperatorStream, buf: &mut [u8]) -> io::Result<usize>
     ensures { ReadsAtMost result buf.new }
 {
     match stream {
@@ -190,20 +189,20 @@ impl OperatorListener {
     }
 }
 
-impl Listening<OperatorConnection> for OperatorListener {
-    fn accept(&self) -> io::Result<(OperatorConnection, SocketAddr)> {
+impl Listening<OperatorStream> for OperatorListener {
+    fn accept(&self) -> io::Result<(OperatorStream, SocketAddr)> {
         match self {
             OperatorListener::Tcp(listener) => {
                 let (stream, peer) = TcpListener::accept(listener)?;
-                let stream = OperatorStream::Tcp(stream);
-                Ok((OperatorConnection::new(stream), peer))
+                Ok((OperatorStream::Tcp(stream), peer))
             }
             OperatorListener::Unix(socket) => {
                 let (stream, _) = UnixListener::accept(socket.listener())?;
-                let stream = OperatorStream::Unix(stream);
                 // Whoever comes to a socket has no address.
-                let peer = SocketAddr::from((Ipv4Addr::LOCALHOST, 0));
-                Ok((OperatorConnection::new(stream), peer))
+                Ok((
+                    OperatorStream::Unix(stream),
+                    SocketAddr::from((Ipv4Addr::LOCALHOST, 0)),
+                ))
             }
         }
     }

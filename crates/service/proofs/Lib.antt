@@ -5,5 +5,4 @@ pub mod Judged
 pub mod EpochRuns
 pub mod Pasts
 pub mod Lasts
-pub mod Tells
 pub mod Found

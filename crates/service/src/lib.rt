@@ -2,13 +2,11 @@
 #![tactic(auto)]
 
 mod account_lines;
-mod accounts_file;
 mod agreement;
 mod announcement;
 mod announcements;
 mod asking;
 mod brand;
-mod deliveries;
 mod delivery;
 mod draining;
 mod epoch;
@@ -27,15 +25,12 @@ mod majority;
 mod mark;
 mod operator;
 mod operator_limits;
-mod operator_requests;
 mod options;
 mod pace;
 mod past;
 mod peers;
 mod pop;
 mod progress;
-mod reserve;
-mod retry;
 mod rolls;
 mod serve;
 mod serve_node;

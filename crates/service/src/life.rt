@@ -158,8 +158,7 @@ impl ServiceLife {
         slots: u64,
     ) -> Result<Vec<u8>, Memory> {
         let open = self.sessions.count(rt);
-        let lost = self.log.lines_lost(rt);
-        let mut text = self.counters.stats(rt, open, slots, lost).text(alloc)?;
+        let mut text = self.counters.stats(rt, open, slots).text(alloc)?;
         text.truncate(text.len().saturating_sub(END.len()));
         put_epoch(&mut text, &self.rolls.stats(rt))?;
         if let Some(line) = &self.agreement {

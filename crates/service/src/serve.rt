@@ -1,15 +1,17 @@
 //! `maildropd serve`: nodes, sessions and an operator's port in one process.
-ghost use Rattle.std.specs.Prelude.{◌≡◌, ◌≤◌, ◌++◌, ◌∷◌, [], None, Some, true, false, is_some, IsTrue, IsErrOf, IfOk, IfErr, IfSome, OnOk, map, if◌then◌else◌};
+ghost use Rattle.std.specs.Prelude.{◌≡◌, ◌≤◌, ◌++◌, ◌∷◌, [], ◌⊎◌, Ok, None, Some, true, false, is_some, IsTrue, IsErrOf, IfOk, IfErr, IfSome, OnOk, map, if◌then◌else◌};
 ghost use Rattle.std.specs.Io.KnownBytes.{Appends};
 ghost use Rattle.service.specs.Options as spec;
+ghost use Rattle.service.specs.Faults as faults;
 ghost use Rattle.ports.specs.Faults.{status_at};
 ghost use Rattle.service.specs.Verdicts as verdicts;
 ghost use Rattle.service.specs.Epochs.{FoundLegal, WasLegalEpoch, epoch_lines};
 ghost use Rattle.service.specs.declared.verdict.Verdict.TheVariants.{Legal};
+ghost use Rattle.apop.specs.Accounts as table;
 ghost use Rattle.apop.specs.Accounts.{name_of};
 ghost use Rattle.maildrop.specs.Name.{are_different};
 
-use crate::accounts_file::accounts_of;
+use crate::account_lines::{AccountLines, LARGEST_ACCOUNTS};
 use crate::agreement::agreement_line;
 use crate::announcement::Announcement;
 use crate::epoch::{Left, left_by};
@@ -20,12 +22,12 @@ use crate::past::Past;
 use crate::storage::{OpenedStorage, Storage, Torn};
 use crate::threads::{Ports, join_all};
 use crate::verdict::Verdict;
-use apop::Accounts;
+use apop::{Accounts, AccountsError};
 use ballot::Items;
 use cluster::Setup;
 use maildrop::{Kept, Shared};
 use node::NodeLog;
-use ports::{Fault, System, say};
+use ports::{Fault, System, read_file, say};
 use session::Transcript;
 use session_log::EventLog;
 use std::alloc::Global;
@@ -38,6 +40,39 @@ use std::time::Clock;
 
 /// The node that asks to lead as soon as the service starts.
 pub(crate) const FIRST_LEADER: u8 = 1;
+
+/// The fault of an accounts file that is refused.
+fn fault_of(error: AccountsError) -> Fault
+    ensures { result ≡ faults.fault_of error }
+{
+    match error {
+        AccountsError::Line(line) => Fault::Account(line),
+        AccountsError::Twice(line) => Fault::NameTwice(line),
+        AccountsError::Memory => Fault::Memory,
+    }
+}
+
+/// The accounts of a file of these bytes.
+fn accounts_in(alloc: Global, bytes: &[u8]) -> Result<Accounts, Fault>
+    ensures value { IfOk result (λ accounts. table.accounts_of bytes.now ≡ Ok accounts) }
+    ensures refused { IfErr result
+        (λ fault. (fault ≡ Fault.Memory) ⊎ (faults.fault_in (table.accounts_of bytes.now) ≡ Some fault)) }
+{
+    match Accounts::read(alloc, bytes) {
+        Ok(accounts) => Ok(accounts),
+        Err(error) => Err(fault_of(error)),
+    }
+}
+
+/// The accounts of the file of this path. `Value` if it is too large. It is read up to the first line that is no account.
+pub(crate) fn accounts_of<R: Files>(rt: &R, alloc: Global, path: &str) -> Result<Accounts, Fault> {
+    let mut lines = AccountLines::new();
+    let bytes = read_file(rt, alloc, path, LARGEST_ACCOUNTS, &mut lines)?;
+    if bytes.len() as u64 > LARGEST_ACCOUNTS {
+        return Err(Fault::Value);
+    }
+    accounts_in(alloc, bytes.as_slice())
+}
 
 /// What the nodes begin with, over these accounts and with these maildrops.
 pub(crate) fn setup_of(
@@ -88,10 +123,7 @@ pub(crate) fn life_of<R: System + Files<File = File>>(
     options: &ServeOptions<'_>,
     settings: &Settings,
     accounts: &Accounts,
-) -> Result<Arc<ServiceLife>, Fault>
-where
-    R::Dir: Send,
-{
+) -> Result<Arc<ServiceLife>, Fault> {
     let log = EventLog::open(rt, alloc, options.log)?;
     let host = settings.host.copy()?;
     let (agreement, limits) = match settings.peer_port {
@@ -137,7 +169,8 @@ fn tell_torn<R: Wait + Clock + Eprint>(rt: &R, life: &ServiceLife, folder: &str,
     }
 }
 
-/// Judges the last epoch of a service, and announces the verdict on it, or the first one that isn't that all was in order.
+/// Judges the last epoch of a service, and announces the verdict on it, or the first one that isn't that all was in order. After
+/// a write that failed nothing is announced.
 fn judge<R: System>(
     rt: &R,
     alloc: Global,
@@ -155,8 +188,10 @@ fn judge<R: System>(
 {
     let LastEpoch { ended, fault } = last;
     let left = left_by(alloc, ended);
-    let announcement = Announcement::audited(past.first_bad(), &left);
-    life.announcements().announce(rt, announcement);
+    if !matches!(&fault, Some(Fault::Write) | Some(Fault::InUse)) {
+        let announcement = Announcement::audited(past.first_bad(), &left);
+        life.announcements().announce(rt, announcement);
+    }
     let fault = match fault {
         None if life.stages().lacks_majority(rt) => Some(Fault::NoMajority),
         fault => fault,
@@ -214,15 +249,16 @@ fn run_life<R: System + Files<File = File>, W: Write>(
     ensures legal { IfOk result (λ end. end.left.verdict ≡ Legal → end.is_good ≡ true → FoundLegal settings.now.cluster settings.now.window settings.now.limits settings.now.keys (is_some options.now.data)
         end.epochs end.left.logs.items end.left.transcripts.items end.left.greeted) }
 {
-    let path = String::from_str(alloc, options.accounts)?;
-    let mut past = Past::new(alloc, kept, accounts, path)?;
+    let mut past = Past::new(kept)?;
     ports.start_taking(rt, life, &mut threads.takers)?;
     let ran = run_epochs(
         rt,
         alloc,
+        options,
         settings,
         ports,
         life,
+        accounts,
         &mut threads.operators,
         storage,
         &mut past,
@@ -232,7 +268,7 @@ fn run_life<R: System + Files<File = File>, W: Write>(
     match ran {
         Ok(last) => Ok(judge(&rt, alloc, life, &past, last)),
         Err(fault) => {
-            past.abandon();
+            let _unreported = past.collect(&rt);
             Err(fault)
         }
     }
@@ -332,8 +368,6 @@ fn run_with<R: System + Files<File = File> + Eprint, W: Write>(
     settings: &Settings,
     writer: &mut W,
 ) -> Result<RunEnd, Fault>
-where
-    R::Dir: Send,
     ensures told { IfOk result (λ end. end.is_good ≡ true → Appends (W.contents writer.old) (W.contents writer.new) (epoch_lines end.epochs)) }
     ensures legal { IfOk result (λ end. end.left.verdict ≡ Legal → end.is_good ≡ true → FoundLegal settings.now.cluster settings.now.window settings.now.limits settings.now.keys (is_some options.now.data)
         end.epochs end.left.logs.items end.left.transcripts.items end.left.greeted) }
@@ -341,13 +375,7 @@ where
     let accounts = accounts_of(&rt, alloc, options.accounts)?;
     let life = life_of(&rt, alloc, options, settings, &accounts)?;
     let accounts = Arc::new(alloc, accounts)?;
-    let opened = match Storage::open(rt, alloc, options) {
-        Ok(opened) => opened,
-        Err(fault) => {
-            life.log().finish(&rt);
-            return Err(fault);
-        }
-    };
+    let opened = Storage::open(rt, alloc, options)?;
     if let (Some(folder), Some(torn)) = (options.data, opened.torn) {
         tell_torn(&rt, &life, folder, torn);
     }
@@ -357,7 +385,6 @@ where
     if let Some(fault) = fault_after(&end) {
         note_fault(&rt, alloc, life.log(), options.data, fault);
     }
-    life.log().finish(&rt);
     end
 }
 
@@ -367,8 +394,6 @@ fn run<R: System + Files<File = File> + Eprint, W: Write>(
     options: &ServeOptions<'_>,
     writer: &mut W,
 ) -> Result<RunEnd, Fault>
-where
-    R::Dir: Send,
     ensures values { (¬ spec.AreGood options.now) → IsErrOf result Fault.Value }
     ensures told { IfOk result (λ end. end.is_good ≡ true → Appends (W.contents writer.old) (W.contents writer.new) (epoch_lines end.epochs)) }
     ensures legal { IfOk result (λ end. end.left.verdict ≡ Legal → end.is_good ≡ true → FoundLegal options.now.nodes options.now.window (spec.limits_of options.now) options.now.keys (is_some options.now.data)
@@ -504,8 +529,6 @@ pub fn serve_run<R: System + Files<File = File> + Eprint, W: Write>(
     writer: &mut W,
     options: &ServeOptions<'_>,
 ) -> ServiceEnd
-where
-    R::Dir: Send,
     ensures values { (¬ spec.AreGood options.now) → result.status ≡ 2 }
     ensures statuses { result.status ≤ 2 }
 

@@ -6,7 +6,6 @@ ghost use Rattle.service.specs.Options as spec;
 ghost use Rattle.apop.specs.Accounts.{name_of};
 ghost use Rattle.maildrop.specs.Name.{are_different};
 
-use crate::accounts_file::accounts_of;
 use crate::announcement::Announcement;
 use crate::brand::Service;
 use crate::epoch_journal::EpochJournal;
@@ -14,7 +13,7 @@ use crate::epoch_run::{Ending, end_threads, state_of};
 use crate::life::ServiceLife;
 use crate::mark::mark_start;
 use crate::options::{NodeOptions, Settings, node_settings_of};
-use crate::serve::{FIRST_LEADER, life_of, note_fault, setup_of};
+use crate::serve::{FIRST_LEADER, accounts_of, life_of, note_fault, setup_of};
 use crate::served_sessions::ServedSessions;
 use crate::service_nodes::ServiceNodes;
 use crate::threads;
@@ -70,7 +69,7 @@ fn serve_one<D: Service + Send + Sync + 'static, R: System>(
             life.stages().wait_for_stop(&rt);
             Ending::Stopped
         }
-        Err(_) => Ending::Over,
+        Err(_) => Ending::Rolled,
     };
     let operators = end_threads(&rt, threads, ports, &state, ending);
     let announcement = Announcement::stopped(&nodes.stop_unaudited());
@@ -99,12 +98,14 @@ fn mark_and_serve<D: Service + Send + Sync + 'static, R: System + Files<File = F
 {
     let socket = options.service.ctl_socket;
     let ports = Ports::open(&rt, alloc, settings, socket)?;
+    let marked = match options.mark {
+        Some(folder) => mark_start(&rt, alloc, folder, place.node),
+        None => Ok(()),
+    };
     let mut takers = Vec::new(alloc);
-    // They take nobody before the service begins.
-    let taken = ports.start_taking(rt, life, &mut takers);
-    let ready = match (taken, options.mark) {
-        (Ok(()), Some(folder)) => mark_start(&rt, alloc, folder, place.node),
-        (taken, _) => taken,
+    let ready = match marked {
+        Ok(()) => ports.start_taking(rt, life, &mut takers),
+        Err(fault) => Err(fault),
     };
     let end = match ready {
         Ok(()) => serve_one::<D, R>(
@@ -132,8 +133,6 @@ fn run_node<D: Service + Send + Sync + 'static, R: System + Files<File = File>>(
     accounts: Arc<Accounts>,
     book: Blank,
 ) -> Result<(), Fault>
-where
-    R::Dir: Send,
     requires deployment { setup.now ≡ D.setup }
     requires accounts { arc_value accounts ≡ D.accounts }
     requires name { book.name ≡ D.name }
@@ -155,7 +154,6 @@ where
     if let Err(fault) = &end {
         note_fault(&rt, alloc, life.log(), None, *fault);
     }
-    life.log().finish(&rt);
     end
 }
 
@@ -165,10 +163,7 @@ fn run_with<R: System + Files<File = File>>(
     alloc: Global,
     options: &NodeOptions<'_>,
     settings: &Settings,
-) -> Result<(), Fault>
-where
-    R::Dir: Send,
-{
+) -> Result<(), Fault> {
     let (Some(node), Some(base)) = (settings.node, settings.peer_port) else {
         return Err(Fault::Value);
     };
@@ -186,8 +181,6 @@ fn run<R: System + Files<File = File>>(
     alloc: Global,
     options: &NodeOptions<'_>,
 ) -> Result<(), Fault>
-where
-    R::Dir: Send,
     ensures { (¬ spec.AreNodeGood options.now) → IsErrOf result Fault.Value }
 {
     match node_settings_of(alloc, options) {
@@ -203,8 +196,6 @@ fn run_and_tell<R: System + Files<File = File>, W: Write>(
     writer: &mut W,
     options: &NodeOptions<'_>,
 ) -> Result<(), Fault>
-where
-    R::Dir: Send,
     ensures values { (¬ spec.AreNodeGood options.now) → IsErrOf result Fault.Value }
     ensures written { OnOk result (Appends (W.contents writer.old) (W.contents writer.new) (codes "stopped" ++ 10 ∷ [])) }
 {
@@ -226,8 +217,6 @@ pub fn serve_node_run<R: System + Files<File = File> + Eprint, W: Write>(
     writer: &mut W,
     options: &NodeOptions<'_>,
 ) -> u8
-where
-    R::Dir: Send,
     ensures values { (¬ spec.AreNodeGood options.now) → result ≡ 2 }
     ensures statuses { result ≤ 2 }
 

@@ -69,7 +69,7 @@ fn random_salt<R: RandomSource>(rt: &R) -> Result<u64, Fault> {
     let mut bytes = [0u8; 8];
     match rt.fill_bytes(&mut bytes) {
         Ok(()) => Ok(u64::from_be_bytes(bytes)),
-        Err(_) => Err(Fault::Read),
+        Err(_) => Err(Fault::Write),
     }
 }
 

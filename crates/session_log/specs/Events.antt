@@ -56,14 +56,6 @@ with_crash text node = text ++ codes "event=crash node=" ++ decimal node ++ code
 abbrev pub with_break : List ℕ → List ℕ → ℕ → List ℕ
 with_break text user node = text ++ codes "event=break user=" ++ user ++ codes " node=" ++ decimal node ++ codes "\n"
 
--- an epoch couldn't begin, or end, for this reason
-abbrev pub with_roll_failed : List ℕ → List ℕ → List ℕ
-with_roll_failed text cause = text ++ codes "event=roll_failed cause=" ++ cause ++ codes "\n"
-
--- so many lines are missing
-abbrev pub with_gap : List ℕ → ℕ → List ℕ
-with_gap text missing = text ++ codes "event=log_gap lines=" ++ decimal missing ++ codes "\n"
-
 -- an epoch begins, with what the one before it has left
 abbrev pub with_roll : List ℕ → ℕ → List ℕ
 with_roll text epoch = text ++ codes "event=roll epoch=" ++ decimal epoch ++ codes "\n"

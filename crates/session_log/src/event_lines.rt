@@ -141,22 +141,6 @@ pub(crate) fn put_torn(text: &mut Vec<u8>, segment: u64, at: u64, bytes: u64) ->
     put_number_line(text, b" bytes=", bytes)
 }
 
-/// Adds the line of an epoch that couldn't begin, or end, for a reason, which is the rest of the line.
-pub(crate) fn put_roll_failed(text: &mut Vec<u8>, cause: &[u8]) -> Result<(), Memory>
-    ensures { OnOk result (text.new.items ≡ spec.with_roll_failed text.old.items cause.now) }
-{
-    put(text, b"event=roll_failed cause=")?;
-    put(text, cause)?;
-    put(text, b"\n")
-}
-
-/// Adds the line of so many lines that are missing.
-pub(crate) fn put_gap(text: &mut Vec<u8>, missing: u64) -> Result<(), Memory>
-    ensures { OnOk result (text.new.items ≡ spec.with_gap text.old.items missing) }
-{
-    put_number_line(text, b"event=log_gap lines=", missing)
-}
-
 /// Adds the line of an event that has only a name.
 pub(crate) fn put_event(text: &mut Vec<u8>, name: &[u8]) -> Result<(), Memory>
     ensures { OnOk result (text.new.items ≡ spec.with_event text.old.items name.now) }

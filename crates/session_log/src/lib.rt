@@ -9,8 +9,6 @@ mod desk;
 mod event_lines;
 mod event_log;
 mod facts;
-mod log_queue;
-mod log_writer;
 mod open_sessions;
 mod reply_writer;
 mod writing;
