@@ -17,6 +17,9 @@ pub enum MendFault {
     /// The opening of the newest segment is damaged, and nothing can be taken in place of it.
     #[error(" has no whole segment before {segment:08}.log")]
     Nothing { segment: u64 },
+    /// The names of all accounts must be known: what can't be read may have names that stand nowhere else.
+    #[error(": say --accounts FILE: what can't be read may have names of users")]
+    NoNames,
 }
 
 impl From<StoreFault> for MendFault {

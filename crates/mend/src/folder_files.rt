@@ -5,7 +5,7 @@ use crate::note::{Noted, note_in};
 use maildrop::Kept;
 use std::alloc::{AllocError, Global};
 use std::fs::{File, OpenOptions};
-use std::io::{ErrorKind, Read};
+use std::io::{ErrorKind, Read, Write};
 use std::os::unix::fs::OpenOptionsExt;
 use std::rt::Files;
 use std::{fs, io};
@@ -22,6 +22,11 @@ const PUBLISHED: &[u8] = b".log";
 
 /// The name of the note of an orderly end.
 const NOTE: &str = "clean";
+
+/// The name of the file that says how far mends have raised unique ids, and its name until it is whole.
+const MENDED: &str = "mended";
+
+const UNFINISHED: &str = "mended.new";
 
 /// How many bytes of a list of names are read at a time.
 const PIECE: usize = 8192;
@@ -150,6 +155,26 @@ impl<R: Files<File = File> + Copy> FolderFiles<R> {
     fn sync(&self) -> Result<(), StoreFault> {
         let folder = fs::open(&self.rt, self.path.as_str()).map_err(write_fault)?;
         folder.sync_all().map_err(write_fault)
+    }
+
+    /// The bytes of the file that says how far mends have raised unique ids. `None` before the first mend.
+    pub(crate) fn mended(&self) -> Result<Option<Vec<u8>>, StoreFault> {
+        let path = self.path_of(MENDED)?;
+        self.read(path.as_str())
+    }
+
+    /// Replaces that file by one with these bytes, which is on the disk then.
+    pub(crate) fn write_mended(&self, bytes: &[u8]) -> Result<(), StoreFault> {
+        let from = self.path_of(UNFINISHED)?;
+        let to = self.path_of(MENDED)?;
+        let _gone = fs::remove_file(&self.rt, from.as_str());
+        let mut options = OpenOptions::new();
+        options.write(true).create_new(true).mode(FILE_MODE);
+        let mut file = options.open(&self.rt, from.as_str()).map_err(write_fault)?;
+        file.write_all(bytes).map_err(write_fault)?;
+        file.sync_all().map_err(write_fault)?;
+        fs::rename(&self.rt, from.as_str(), to.as_str()).map_err(write_fault)?;
+        self.sync()
     }
 
     /// Makes a segment with this number, which doesn't count yet. All of it is on the disk.

@@ -5,12 +5,13 @@
 //! segment is damaged, what the segment before has is taken in place of it.
 //!
 //! A `Mending` has the lock of the folder. It looks, and then replaces the segment by one in which what was had is kept. The next unique
-//! id of each user is raised by as many messages as the bytes can hold that are dropped.
+//! id of each user is raised by as many messages as the bytes can hold that are dropped, and without an opening to at least the time.
 #![tactic(auto)]
 
 mod fault;
 mod folder_files;
 mod head;
+mod mended;
 mod mending;
 mod names;
 mod note;
@@ -25,6 +26,6 @@ pub use fault::MendFault;
 pub use head::{Head, head_of};
 pub use mending::{Condition, Mending, is_of_files, read_damaged};
 pub use note::Noted;
-pub use raising::{SMALLEST_STORED, most_messages, raise_all};
+pub use raising::{Raise, SMALLEST_STORED, most_messages, raise_all};
 pub use search::{Findings, Gap, salvage};
 pub use survey::{Base, Behind, Rescue, Survey, Way};

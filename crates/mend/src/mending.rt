@@ -1,8 +1,11 @@
 //! Mends a data folder.
+ghost use Rattle.std.specs.Prelude.{◌≡◌, true, IsErr};
+ghost use Rattle.mend.specs.Raising.{lacks_names};
 
 use crate::fault::MendFault;
 use crate::folder_files::FolderFiles;
 use crate::head::head_of;
+use crate::mended::{mended_in, spell_mended};
 use crate::note::Noted;
 use crate::place::HEAD;
 use crate::survey::{Base, Segment, Survey, Way, end_of, front_of};
@@ -78,16 +81,24 @@ pub fn is_of_files(fault: StoreFault) -> bool {
     )
 }
 
-/// What the segment before the one with this number has, if a start would take it.
+/// How many segments before the newest one are looked at for a whole one.
+const LOOKED_AT_BEFORE: u64 = 100;
+
+/// What the newest segment before the one with this number has that a start would take.
 fn before<R: Files<File = File> + Copy>(
     alloc: Global,
     files: &FolderFiles<R>,
     number: u64,
 ) -> Result<(Base, Kept), StoreFault> {
-    let number = number.saturating_sub(1);
-    if let Some(bytes) = files.segment(number)? {
-        if let Some(kept) = front_of(alloc, number, &bytes, bytes.len())? {
-            return Ok((Base::Before(number), kept));
+    for distance in 1..LOOKED_AT_BEFORE + 1 {
+        let before = number.saturating_sub(distance);
+        if before == 0 {
+            break;
+        }
+        if let Some(bytes) = files.segment(before)? {
+            if let Some(kept) = front_of(alloc, before, &bytes, bytes.len())? {
+                return Ok((Base::Before(before), kept));
+            }
         }
     }
     Ok((Base::Nothing, Kept::new(alloc)))
@@ -175,15 +186,49 @@ impl<R: Files<File = File> + Copy> Mending<R> {
         }
     }
 
-    /// Mends the folder in this way: the segment is replaced by one with this salt. `Nothing` if there is nothing that could be kept.
-    /// After an error a start refuses the folder as before, or reads it as mended, and this can be tried again.
-    pub fn mend(&self, survey: Survey, way: Way, salt: u64) -> Result<(), MendFault> {
+    /// The least next unique id that a mend leaves at this time, which is 0 if the segment's opening is whole. Each mend notes how far ids
+    /// are raised. If the segment just before isn't whole either, nothing may be known of ids that were given: then it is at least the
+    /// time, in seconds since 2020.
+    pub fn least(&self, survey: &Survey, time: u64) -> Result<u64, StoreFault> {
+        Ok(survey.least(self.mended()?, time))
+    }
+
+    /// How far mends have raised ids: 0 before the first one, and nothing if the note of it can't be read.
+    fn mended(&self) -> Result<Option<u64>, StoreFault> {
+        match self.files.mended()? {
+            Some(bytes) => Ok(mended_in(self.alloc, &bytes)?),
+            None => Ok(Some(0)),
+        }
+    }
+
+    /// Notes how far ids are raised in what is kept, before it is.
+    fn note_mended(&self, kept: &Kept) -> Result<(), StoreFault> {
+        let mut highest = self.mended()?.unwrap_or(0);
+        for i in 0..kept.users() {
+            if let Some(name) = kept.name_at(i) {
+                highest = highest.max(kept.next_uid(&name));
+            }
+        }
+        self.files.write_mended(&spell_mended(self.alloc, highest)?)
+    }
+
+    /// Mends the folder in this way: the segment is replaced by one with this salt. If its opening is damaged, each next unique id becomes
+    /// at least this one, which `least` returns. `Nothing` if there is nothing that could be kept, and
+    /// `NoNames` if the accounts aren't known and must be. After an error a start refuses the folder as before, or reads it as mended,
+    /// and this can be tried again.
+    pub fn mend(&self, survey: Survey, way: Way, salt: u64, least: u64) -> Result<(), MendFault>
+        ensures names { lacks_names survey.has_accounts survey.base survey.salvaged.dropped ≡ true → IsErr result }
+    {
         let number = survey.number;
         let is_lost = way == Way::Cut || survey.behind.records == 0;
         if survey.base == Base::Nothing && is_lost {
             return Err(MendFault::Nothing { segment: number });
         }
-        let kept = survey.into_kept(self.alloc, way)?;
+        if survey.lacks_names() {
+            return Err(MendFault::NoNames);
+        }
+        let kept = survey.into_kept(self.alloc, way, least)?;
+        self.note_mended(&kept)?;
         self.files.replace(number, &kept, salt)?;
         self.check()
     }

@@ -27,7 +27,7 @@ pub struct Noted {
 }
 
 /// The number of eight bytes that stands at this place.
-fn number_at(bytes: &[u8], place: usize) -> u64
+pub(crate) fn number_at(bytes: &[u8], place: usize) -> u64
     requires { place + 8 ≤ length bytes.now }
     ensures { result ≡ from_be_bytes w64 (take 8 (drop place bytes.now)) }
 {

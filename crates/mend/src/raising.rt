@@ -1,7 +1,7 @@
 //! Raises next unique ids, so that none comes again that may have been given.
 ghost use Rattle.std.specs.Prelude.{◌≡◌, ℕ, List, ◌/◌, IfOk, OnOk};
 ghost use Rattle.maildrop.specs.Kept.{kept_for};
-ghost use Rattle.mend.specs.Raising.{names_in, raised_step, raised_by};
+ghost use Rattle.mend.specs.Raising.{AreRaised, names_in, raised_id, raised_step};
 
 use ballot::Memory;
 use maildrop::{Change, Kept, Name};
@@ -36,23 +36,41 @@ fn names_of(alloc: Global, kept: &Kept) -> Result<Vec<Name>, Memory>
     Ok(names)
 }
 
-/// Raises the next unique id of a user by so many.
-fn raise(kept: &mut Kept, name: Name, by: u64) -> Result<(), Memory>
-    ensures { OnOk result ((other : List ℕ) → kept_for other kept.new ≡ raised_step by other (kept_for other kept.old) name) }
+/// How next unique ids are raised.
+#[derive(Clone, Copy, Debug, PartialEq, Eq)]
+pub struct Raise {
+    /// To at least this one,
+    pub least: u64,
+    /// and then by so many.
+    pub by: u64,
+}
+
+impl Raise {
+    /// The next unique id in place of this one: at most the highest.
+    fn next_after(self, next: u64) -> u64
+        ensures { result ≡ raised_id self next }
+    {
+        next.max(self.least).saturating_add(self.by).min(LAST_NEXT)
+    }
+}
+
+/// Raises the next unique id of a user.
+fn raise_one(kept: &mut Kept, name: Name, raise: Raise) -> Result<(), Memory>
+    ensures { OnOk result ((other : List ℕ) → kept_for other kept.new ≡ raised_step raise other (kept_for other kept.old) name) }
 {
-    let next = kept.next_uid(&name).saturating_add(by).min(LAST_NEXT);
+    let next = raise.next_after(kept.next_uid(&name));
     kept.change(name, &Change::Next(next))?;
     Ok(())
 }
 
-/// Raises the next unique id of each user by so many, up to the highest. Nothing else changes. After an error some may be raised.
-pub fn raise_all(alloc: Global, kept: &mut Kept, by: u64) -> Result<(), Memory>
-    ensures { OnOk result ((name : List ℕ) → kept_for name kept.new ≡ raised_by by name (kept_for name kept.old) (names_in kept.old)) }
+/// Raises the next unique id of each user, up to the highest. Nothing else changes. After an error some may be raised.
+pub fn raise_all(alloc: Global, kept: &mut Kept, raise: Raise) -> Result<(), Memory>
+    ensures { OnOk result (AreRaised raise kept.old kept.new) }
 {
     let names = names_of(alloc, kept)?;
     let mut rest: &[Name] = &names;
     while let Some((name, others)) = rest.split_first() {
-        raise(kept, *name, by)?;
+        raise_one(kept, *name, raise)?;
         rest = others;
     }
     Ok(())

@@ -1,6 +1,7 @@
 //! What can be had of a segment that a start refuses.
-ghost use Rattle.std.specs.Prelude.{◌≡◌, ◌+◌, ◌≤◌, ℕ, List, length, take, true, IfOk, IfSome, OnOk};
+ghost use Rattle.std.specs.Prelude.{◌≡◌, ◌==◌, ◌+◌, ◌≤◌, ℕ, List, length, take, true, IfOk, IfSome, OnOk};
 ghost use Rattle.maildrop.specs.Kept.{kept_for};
+ghost use Rattle.mend.specs.Raising as spec;
 ghost use Rattle.mend.specs.Raising.{IsRaised};
 ghost use Rattle.mend.specs.Surveys.{HasFound};
 ghost use Rattle.mend.specs.declared.survey.Way.TheVariants.{Cut, Salvage};
@@ -11,7 +12,7 @@ use crate::head::{Head, head_of};
 use crate::names::{bytes_of, know_all, know_guessed, know_named};
 use crate::note::Noted;
 use crate::place::HEAD;
-use crate::raising::{most_messages, raise_all};
+use crate::raising::{Raise, most_messages, raise_all};
 use crate::search::{Findings, Gap, salvage};
 use ballot::Memory;
 use maildrop::{Kept, Message, Name};
@@ -24,7 +25,7 @@ use store::{StoreFault, load};
 pub enum Base {
     /// What the segment has before the damage.
     Own,
-    /// What the segment before has, with this number: the opening of the newest one is damaged.
+    /// What the newest whole segment before has, with this number: the opening of the newest one is damaged.
     Before(u64),
     /// Nothing: the opening is damaged, and there is no whole segment before.
     Nothing,
@@ -68,6 +69,8 @@ pub struct Survey {
     pub salvaged: Rescue,
     /// What was found after the damage.
     pub behind: Findings,
+    /// Whether the names of all accounts are kept.
+    pub has_accounts: bool,
 }
 
 /// The same as is kept. The texts share their lines.
@@ -234,46 +237,103 @@ impl Segment<'_> {
                 dropped: missing.saturating_add(behind.dropped as u64),
             },
             behind,
+            has_accounts: false,
         })
     }
 }
 
-/// What was kept, with the next unique id of each user raised by as many messages as the bytes can hold that were dropped.
-fn raised(alloc: Global, rescue: Rescue) -> Result<Kept, Memory>
-    ensures { IfOk result (IsRaised rescue.dropped rescue.kept) }
+impl Base {
+    /// Whether the opening of the segment is whole.
+    fn is_own(self) -> bool
+        ensures { result ≡ spec.is_own self }
+    {
+        matches!(self, Base::Own)
+    }
+
+    /// How next unique ids are raised if so many bytes are dropped: by as many messages as these can hold. A damaged opening may have
+    /// said that ids were raised before, so without it they become at least this one first.
+    pub fn raise_for(self, dropped: u64, least: u64) -> Raise
+        ensures { result ≡ spec.raise_for dropped self least }
+    {
+        let by = most_messages(dropped);
+        match self {
+            Base::Own => Raise { least: 0, by },
+            Base::Before(_) | Base::Nothing => Raise { least, by },
+        }
+    }
+}
+
+/// Whether a number is the one after another.
+fn is_next(before: u64, number: u64) -> bool
+    ensures { result ≡ (before + 1 == number) }
 {
-    let ids = most_messages(rescue.dropped);
+    before < number && number - before == 1
+}
+
+/// What was kept, with the next unique id of each user raised.
+fn raised(alloc: Global, rescue: Rescue, base: Base, least: u64) -> Result<Kept, Memory>
+    ensures { IfOk result (IsRaised rescue.dropped base least rescue.kept) }
+{
+    let raise = base.raise_for(rescue.dropped, least);
     let mut kept = rescue.kept;
-    raise_all(alloc, &mut kept, ids)?;
+    raise_all(alloc, &mut kept, raise)?;
     Ok(kept)
 }
 
 impl Survey {
-    /// Keeps these names, so that the next unique ids of these users are raised too. Nothing else changes.
+    /// Keeps the names of all accounts, so that the next unique ids of these users are raised too. Nothing else changes.
     pub fn know(&mut self, names: &[Name]) -> Result<(), Memory>
         ensures cut { OnOk result ((name : List ℕ) → kept_for name self.new.cut.kept ≡ kept_for name self.old.cut.kept) }
         ensures salvaged { OnOk result ((name : List ℕ) → kept_for name self.new.salvaged.kept ≡ kept_for name self.old.salvaged.kept) }
     {
         know_named(&mut self.cut.kept, names)?;
-        know_named(&mut self.salvaged.kept, names)
+        know_named(&mut self.salvaged.kept, names)?;
+        self.has_accounts = true;
+        Ok(())
     }
 
-    /// What is left by a cut, or by a salvage: the next unique id of each user is raised by as many as the dropped bytes can hold.
-    pub(crate) fn into_kept(self, alloc: Global, way: Way) -> Result<Kept, Memory>
-        ensures cut { way ≡ Cut → IfOk result (IsRaised self.cut.dropped self.cut.kept) }
-        ensures salvage { way ≡ Salvage → IfOk result (IsRaised self.salvaged.dropped self.salvaged.kept) }
+    /// Whether a user may have been given a unique id of whom not even the name is kept: the names of all accounts aren't, and the opening
+    /// is damaged, or what can't be read has room for a message.
+    pub fn lacks_names(&self) -> bool
+        ensures { result ≡ spec.lacks_names self.now.has_accounts self.now.base self.now.salvaged.dropped }
+    {
+        !self.has_accounts && (!self.base.is_own() || most_messages(self.salvaged.dropped) > 0)
+    }
+
+    /// The least next unique id that a mend leaves, if mends before have raised ids to this one, which is `None` if it can't be read. If
+    /// the segment just before isn't whole, nothing may be known of ids that were given: then it is at least this time.
+    pub(crate) fn least(&self, mended: Option<u64>, time: u64) -> u64
+        ensures { result ≡ spec.least_for self.now.base self.now.number mended time }
+    {
+        let before = match self.base {
+            Base::Own => return 0,
+            Base::Before(before) => before,
+            Base::Nothing => 0,
+        };
+        match (mended, is_next(before, self.number)) {
+            (None, _) => time,
+            (Some(mended), true) => mended,
+            (Some(mended), false) => mended.max(time),
+        }
+    }
+
+    /// What is left by a cut, or by a salvage, with the next unique id of each user raised.
+    pub(crate) fn into_kept(self, alloc: Global, way: Way, least: u64) -> Result<Kept, Memory>
+        ensures cut { way ≡ Cut → IfOk result (IsRaised self.cut.dropped self.base least self.cut.kept) }
+        ensures salvage { way ≡ Salvage → IfOk result (IsRaised self.salvaged.dropped self.base least self.salvaged.kept) }
     {
         let Survey {
             number: _number,
             at: _at,
-            base: _base,
+            base,
             cut,
             salvaged,
             behind: _behind,
+            has_accounts: _has_accounts,
         } = self;
         match way {
-            Way::Cut => raised(alloc, cut),
-            Way::Salvage => raised(alloc, salvaged),
+            Way::Cut => raised(alloc, cut, base, least),
+            Way::Salvage => raised(alloc, salvaged, base, least),
         }
     }
 }

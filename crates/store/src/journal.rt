@@ -226,9 +226,15 @@ impl<D: Device> Journal<D> {
         self.file.into_inner().finish(state.alloc)
     }
 
-    /// Whether a call of `settle` has failed.
+    /// Whether a call of `settle` has failed for good.
     pub fn has_failed<R: Wait>(&self, rt: &R) -> bool {
         self.state.lock(rt).has_failed
+    }
+
+    /// Whether a write has failed. If `has_failed` answers true without that, memory was wanting: all of which a call of `settle`
+    /// has answered true is on the disk.
+    pub fn has_failed_write<R: Wait>(&self, rt: &R) -> bool {
+        self.file.lock(rt).has_failed_write()
     }
 }
 

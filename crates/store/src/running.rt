@@ -97,6 +97,13 @@ impl<D: Device> Running<D> {
         Ok((self.file.into_device(), ended))
     }
 
+    /// Whether a write has failed.
+    pub(crate) fn has_failed_write(&self) -> bool
+        ensures { result ≡ self.now.file.failed }
+    {
+        self.file.has_failed()
+    }
+
     /// The file, to look at.
     pub(crate) fn device(&self) -> &D
         ensures { result.now ≡ self.now.file.device }
