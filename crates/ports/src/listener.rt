@@ -41,12 +41,12 @@ pub fn listen_at<R: System>(rt: &R, address: IpAddr, number: u16) -> Result<TcpL
     }
 }
 
-/// A port at which connections are taken, until it is closed.
+/// A port at which connections are taken, until it is closed. They are served by one generation of threads after another.
 #[derive(Drop)]
 pub struct Port<S, L> {
     listener: L,
     /// Those that were taken and are not served yet.
-    arrivals: Arrivals<S>,
+    arrivals: Arc<Arrivals<Unserved<S>>>,
     /// Those for which there is no thread, no place or no memory.
     unserved: Arrivals<Unserved<S>>,
     /// How many are served at a time at most, beside these.
@@ -54,13 +54,19 @@ pub struct Port<S, L> {
 }
 
 impl<S: Drop, L: Listening<S> + Drop> Port<S, L> {
-    /// A port that serves so many connections at a time, and lets so many wait for its reserve. Connections are taken once
-    /// it is started.
-    pub fn new(alloc: Global, listener: L, most: usize, reserve: usize) -> Result<Self, Fault>
+    /// A port that serves so many connections at a time, lets so many wait for its reserve, and so many be put back. Connections are
+    /// taken once it is started.
+    pub fn new(
+        alloc: Global,
+        listener: L,
+        most: usize,
+        reserve: usize,
+        put_back: usize,
+    ) -> Result<Self, Fault>
         ensures { IfErr result (λ fault. fault ≡ Fault.Memory) }
     {
-        let arrivals = Arrivals::new(alloc, MOST_TAKEN)?;
-        let unserved = Arrivals::new(alloc, reserve)?;
+        let arrivals = Arc::new(alloc, Arrivals::new(alloc, MOST_TAKEN, put_back)?)?;
+        let unserved = Arrivals::new(alloc, reserve, 0)?;
         Ok(Port {
             listener,
             arrivals,
@@ -81,16 +87,40 @@ impl<S: Drop, L: Listening<S> + Drop> Port<S, L> {
         self.listener.close();
     }
 
-    /// Lets the connections wait that come from now on, until `resume`.
+    /// Lets the connections wait that come from now on, until `resume`. Most of them aren't even taken, so that the system has a
+    /// descriptor for what is to be done meanwhile.
     pub fn pause<R: Wait>(&self, rt: &R) {
         self.arrivals.pause(rt);
     }
 
-    /// Lets the connections wait that come from now on, until others are started to serve them, and `resume` is called. The
-    /// threads that `start_serving` and `start_reserve` have started end once the connections that they serve have ended.
+    /// Has no connection taken, though those that were are served, until `resume_taking`: so the system has a descriptor for what is to
+    /// be done meanwhile.
+    pub fn pause_taking<R: Wait>(&self, rt: &R) {
+        self.arrivals.pause_taking(rt, true);
+    }
+
+    /// Has connections taken again.
+    pub fn resume_taking<R: Wait>(&self, rt: &R) {
+        self.arrivals.pause_taking(rt, false);
+    }
+
+    /// The number of a new generation of threads, which serves the port once it is handed over to it.
+    pub fn new_generation<R: Wait>(&self, rt: &R) -> u64 {
+        let _same = self.unserved.new_generation(rt);
+        self.arrivals.new_generation(rt)
+    }
+
+    /// Has the threads of the newest generation serve the port. Those of earlier ones end once the connections that they serve have
+    /// ended.
     pub fn hand_over<R: Wait>(&self, rt: &R) {
         self.arrivals.hand_over(rt);
         self.unserved.hand_over(rt);
+    }
+
+    /// The threads of generations end that are newer than the one that serves the port now, which goes on.
+    pub fn withdraw<R: Wait>(&self, rt: &R) {
+        self.arrivals.withdraw(rt);
+        self.unserved.withdraw(rt);
     }
 
     /// Has the connections served that wait, and those that come.
@@ -101,8 +131,12 @@ impl<S: Drop, L: Listening<S> + Drop> Port<S, L> {
 
     /// Waits for a connection, and takes it. Returns false once the port is closed.
     fn takes_one<R: Wait + Clock>(&self, rt: &R) -> bool {
+        self.arrivals.wait_for_resume(rt);
         match self.listener.accept() {
-            Ok((stream, peer)) => self.arrivals.put(rt, Arrival { stream, peer }),
+            Ok((stream, peer)) => {
+                let stream = Unserved::Alone(stream);
+                self.arrivals.put(rt, Arrival { stream, peer })
+            }
             Err(_) if self.arrivals.is_closed(rt) => false,
             Err(_) => {
                 thread::sleep(rt, Duration::from_millis(PAUSE_MS));
@@ -123,7 +157,8 @@ impl<S: Drop, L: Listening<S> + Drop> Port<S, L> {
 }
 
 impl<S: Connection + Send + Sync + Drop + 'static, L: Listening<S>> Port<S, L> {
-    /// Has the connections served that are taken, until the port is handed over or closed. They go on to their ends then.
+    /// Has the connections served that are taken, until the port is handed over to a later generation or closed. They go on to their
+    /// ends then.
     fn serve_all<R: System, H: Handler<S> + Send + Drop + 'static>(
         &self,
         rt: R,
@@ -133,13 +168,13 @@ impl<S: Connection + Send + Sync + Drop + 'static, L: Listening<S>> Port<S, L> {
         idle: IdleWorkers<S>,
         generation: u64,
     ) {
-        let mut workers = Workers::new(alloc, ended, idle, self.most);
+        let mut workers = Workers::new(alloc, ended, idle, self.most, generation);
         for _ in rt.forever() {
             let Some(arrival) = self.arrivals.next(&rt, generation) else {
                 break;
             };
             if handler.is_open() {
-                if let Some(unserved) = workers.take(rt, alloc, arrival, handler) {
+                if let Some(unserved) = workers.take(rt, alloc, arrival, handler, &self.arrivals) {
                     self.unserved.put_newest(&rt, unserved);
                 }
             }
@@ -150,11 +185,24 @@ impl<S: Connection + Send + Sync + Drop + 'static, L: Listening<S>> Port<S, L> {
             };
             workers.reap(&rt, most);
         }
-        workers.end(&rt);
+        workers.end(&rt, self.arrivals.is_closed(&rt));
+        self.turn_away_all(&rt, handler);
     }
 
-    /// Serves the connections for which there is nothing else, one after another and briefly, until the port is handed over
-    /// or closed. The one that came last is served first, so that many silent ones don't keep it waiting.
+    /// Closes the connections that were put back, if the port is closed.
+    fn turn_away_all<R: Wait, H: Handler<S>>(&self, rt: &R, handler: &H) {
+        for _ in rt.forever() {
+            let Some(arrival) = self.arrivals.left(rt) else {
+                break;
+            };
+            let stream = arrival.stream.stream();
+            handler.turn_away(stream);
+            stream.shut(Shutdown::Both);
+        }
+    }
+
+    /// Serves the connections for which there is nothing else, one after another and briefly, until the port is handed over to a
+    /// later generation or closed. The one that came last is served first, so that many silent ones don't keep it waiting.
     fn serve_unserved<R: Wait, H: Handler<S>>(&self, rt: &R, handler: &mut H, generation: u64) {
         for _ in rt.forever() {
             let Some(arrival) = self.unserved.newest(rt, generation) else {
@@ -167,7 +215,7 @@ impl<S: Connection + Send + Sync + Drop + 'static, L: Listening<S>> Port<S, L> {
     }
 }
 
-/// Starts a thread for the connections of a port for which there is nothing else.
+/// Starts a thread of this generation for the connections of a port for which there is nothing else.
 pub fn start_reserve<
     R: System,
     S: Connection + Send + Sync + Drop + 'static,
@@ -177,11 +225,11 @@ pub fn start_reserve<
     rt: R,
     port: &Arc<Port<S, L>>,
     handler: H,
+    generation: u64,
     threads: &mut Vec<JoinHandle<()>>,
 ) -> Result<(), Fault> {
     threads.reserve(1)?;
     let port = Arc::try_clone(port)?;
-    let generation = port.unserved.generation(&rt);
     let mut handler = handler;
     let run = move || port.serve_unserved(&rt, &mut handler, generation);
     let Ok(thread) = Builder::new().stack_size(STACK).spawn(&rt, run) else {
@@ -191,8 +239,8 @@ pub fn start_reserve<
     Ok(())
 }
 
-/// Starts the thread that has the connections of a port served. It ends once the port is handed over or closed, and they have
-/// ended.
+/// Starts the thread of this generation that has the connections of a port served. It ends once the port is handed over to a later
+/// generation or closed, and they have ended.
 pub fn start_serving<
     R: System,
     S: Connection + Send + Sync + Drop + 'static,
@@ -203,13 +251,13 @@ pub fn start_serving<
     alloc: Global,
     port: &Arc<Port<S, L>>,
     handler: H,
+    generation: u64,
     threads: &mut Vec<JoinHandle<()>>,
 ) -> Result<(), Fault> {
     threads.reserve(1)?;
     let ended = Arc::new(alloc, Mutex::new(Vec::new(alloc)))?;
     let idle = IdleWorkers::new(alloc)?;
     let port = Arc::try_clone(port)?;
-    let generation = port.arrivals.generation(&rt);
     let run = move || port.serve_all(rt, alloc, &handler, ended, idle, generation);
     let Ok(thread) = thread::spawn(&rt, run) else {
         return Err(Fault::Memory);

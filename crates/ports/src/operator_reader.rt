@@ -2,11 +2,19 @@
 ghost use Rattle.std.specs.Prelude.{◌≡◌, ◌≤◌, length};
 ghost use Rattle.ports.specs.Deadlines as spec;
 
+use crate::operator_connection::OperatorConnection;
 use crate::operator_limits::{LONGEST_PAUSE_MS, PIECE};
-use crate::operator_stream::OperatorStream;
+use crate::operator_stream::read_once;
+use ballot::Memory;
+use std::alloc::Global;
 use std::io;
 use std::io::{ErrorKind, Read};
+use std::sync::Wait;
 use std::time::{Clock, Duration, Instant};
+
+/// After how many milliseconds without a byte a read returns `WouldBlock`, so that its caller looks whether to go on. It may be longer by
+/// a step.
+const LOOK_MS: u64 = 400;
 
 /// By how many milliseconds a read may wait longer than it should. The system is asked again only if this much has changed.
 const STEP_MS: u64 = 100;
@@ -36,11 +44,12 @@ impl Awaited {
     }
 }
 
-/// Reads what an operator sends. A read fails once the line or the file is late. Takes no memory.
+/// Reads what an operator sends. A read fails once the line or the file is late. If nothing comes for some 400 ms although there is time
+/// left, it returns `WouldBlock`, and may be tried again. Takes no memory.
 #[derive(Drop)]
 pub struct OperatorReader<'a, R> {
     rt: R,
-    stream: &'a OperatorStream,
+    connection: &'a OperatorConnection,
     awaited: Awaited,
     /// When the line or the file began.
     began: Instant,
@@ -48,29 +57,39 @@ pub struct OperatorReader<'a, R> {
     bytes: u64,
     /// How long a read of the stream waits, in steps. 0 before it was set.
     steps: u64,
-    /// What was read of the stream last. From `start` to `end` nobody has taken it.
+    /// What was read of the stream: all while a line is awaited, and the last piece of a file. From `start` to `end` nobody has taken it.
     held: [u8; PIECE],
     start: usize,
     end: usize,
 }
 
-impl<'a, R: Clock + Copy> OperatorReader<'a, R> {
-    /// Awaits a line, which is whole within so many milliseconds.
-    pub fn new(rt: R, stream: &'a OperatorStream, most_ms: u64) -> io::Result<Self> {
+impl<'a, R: Clock + Wait + Copy> OperatorReader<'a, R> {
+    /// Awaits a line, which is whole within so many milliseconds. It begins with what was put back of it.
+    pub fn new(rt: R, connection: &'a OperatorConnection, most_ms: u64) -> io::Result<Self> {
         let began = Instant::now(&rt)?;
+        let mut held = [0; PIECE];
+        let end = connection.take_read(&rt, &mut held);
         Ok(OperatorReader {
             rt,
-            stream,
+            connection,
             awaited: Awaited::Line(most_ms),
             began,
             bytes: 0,
             steps: 0,
-            held: [0; PIECE],
+            held,
             start: 0,
-            end: 0,
+            end,
         })
     }
 
+    /// Puts all back that was read, for who reads the connection next. No file may have begun.
+    pub fn put_back(&self, alloc: Global) -> Result<(), Memory> {
+        let read = self.held.get(..self.end).unwrap_or_default();
+        self.connection.put_back(&self.rt, alloc, read)
+    }
+}
+
+impl<R: Clock + Copy> OperatorReader<'_, R> {
     /// A file begins after the line.
     pub fn begin_file(&mut self) -> io::Result<()> {
         self.began = Instant::now(&self.rt)?;
@@ -87,24 +106,44 @@ impl<'a, R: Clock + Copy> OperatorReader<'a, R> {
         if left_ms == 0 {
             return Err(io::Error::from(ErrorKind::TimedOut));
         }
-        let steps = left_ms.min(LONGEST_PAUSE_MS) / STEP_MS + 1;
+        let steps = left_ms.min(LOOK_MS) / STEP_MS + 1;
         if steps != self.steps {
-            self.stream
+            self.connection
+                .stream()
                 .set_read_timeout(Duration::from_millis(steps * STEP_MS));
             self.steps = steps;
         }
         Ok(())
     }
 
-    /// Reads the next piece of the stream.
+    /// From where on the next piece is held. What was read of a line stays, as it may be put back.
+    fn place(&self) -> usize {
+        match self.awaited {
+            Awaited::Line(_) => self.end,
+            Awaited::File => 0,
+        }
+    }
+
+    /// Reads the next piece of the stream. After an interruption it waits for as long as is left.
     fn fill(&mut self) -> io::Result<()> {
-        self.set_timeout()?;
-        let mut stream = self.stream;
-        let count = stream.read(&mut self.held)?;
-        self.bytes = self.bytes.saturating_add(count as u64);
-        self.start = 0;
-        self.end = count;
-        Ok(())
+        for _ in 0..u64::MAX {
+            self.set_timeout()?;
+            let place = self.place();
+            let Some(room) = self.held.get_mut(place..) else {
+                break;
+            };
+            match read_once(self.connection.stream(), room) {
+                Ok(count) => {
+                    self.bytes = self.bytes.saturating_add(count as u64);
+                    self.start = place;
+                    self.end = place.saturating_add(count);
+                    return Ok(());
+                }
+                Err(error) if error.kind() == ErrorKind::Interrupted => {}
+                Err(error) => return Err(error),
+            }
+        }
+        Err(io::Error::from(ErrorKind::Interrupted))
     }
 
     /// Hands out what is held, as far as there is room for it. Returns how many bytes that is.

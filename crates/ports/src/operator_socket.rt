@@ -96,7 +96,13 @@ fn bind_at<R: Net + Files>(rt: &R, path: &str) -> io::Result<OperatorSocket> {
         remove(rt, path);
         return Err(error);
     }
-    let file = file_at(rt, path)?;
+    let file = match file_at(rt, path) {
+        Ok(file) => file,
+        Err(error) => {
+            remove(rt, path);
+            return Err(error);
+        }
+    };
     let listener = UnixListener::from(socket);
     let_wait(&listener);
     Ok(OperatorSocket { listener, file })

@@ -6,6 +6,7 @@ ghost use Rattle.ports.specs.Faults.{IsCtlFault};
 use crate::connection::{Connection, Listening, close_listener};
 use crate::fault::Fault;
 use crate::listener::listen_at;
+use crate::operator_connection::OperatorConnection;
 use crate::operator_socket::OperatorSocket;
 use crate::system::System;
 use libc::net::{POLLERR, POLLHUP, POLLRDHUP, poll};
@@ -79,8 +80,8 @@ impl OperatorStream {
     }
 }
 
-/// Reads from a connection once.
-fn read_once(stream: &OperatorStream, buf: &mut [u8]) -> io::Result<usize>
+/// Reads from a connection once. The read may be interrupted.
+pub(crate) fn read_once(stream: &OperatorStream, buf: &mut [u8]) -> io::Result<usize>
     ensures { ReadsAtMost result buf.new }
 {
     match stream {
@@ -189,20 +190,20 @@ impl OperatorListener {
     }
 }
 
-impl Listening<OperatorStream> for OperatorListener {
-    fn accept(&self) -> io::Result<(OperatorStream, SocketAddr)> {
+impl Listening<OperatorConnection> for OperatorListener {
+    fn accept(&self) -> io::Result<(OperatorConnection, SocketAddr)> {
         match self {
             OperatorListener::Tcp(listener) => {
                 let (stream, peer) = TcpListener::accept(listener)?;
-                Ok((OperatorStream::Tcp(stream), peer))
+                let stream = OperatorStream::Tcp(stream);
+                Ok((OperatorConnection::new(stream), peer))
             }
             OperatorListener::Unix(socket) => {
                 let (stream, _) = UnixListener::accept(socket.listener())?;
+                let stream = OperatorStream::Unix(stream);
                 // Whoever comes to a socket has no address.
-                Ok((
-                    OperatorStream::Unix(stream),
-                    SocketAddr::from((Ipv4Addr::LOCALHOST, 0)),
-                ))
+                let peer = SocketAddr::from((Ipv4Addr::LOCALHOST, 0));
+                Ok((OperatorConnection::new(stream), peer))
             }
         }
     }

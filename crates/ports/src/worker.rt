@@ -1,7 +1,8 @@
 //! The thread of a connection.
 
+use crate::arrivals::{Arrival, Arrivals};
 use crate::connection::Connection;
-use crate::handler::Handler;
+use crate::handler::{Handler, ServeEnd};
 use crate::idle::{NextConnection, SharedArrival};
 use ballot::Memory;
 use std::alloc::Global;
@@ -17,7 +18,7 @@ pub(crate) type Ended = Arc<Mutex<Vec<usize>>>;
 /// A connection until it has been served. Then there is nothing, so that it is closed although its thread isn't joined yet.
 pub(crate) type Held<S> = Arc<Mutex<Option<Arc<S>>>>;
 
-/// A connection for which there is no thread, no place or no memory. It may be shared already.
+/// A connection that no thread serves now. It may be shared already.
 #[derive(Drop)]
 pub(crate) enum Unserved<S> {
     Alone(S),
@@ -41,18 +42,36 @@ pub(crate) struct Worker<S, H: Handler<S>> {
     pub connections: NextConnection<S>,
     /// What `Workers` has of the connection, if that is to be cut at the end.
     pub held: Option<Held<S>>,
+    /// Where connections are put back.
+    pub arrivals: Arc<Arrivals<Unserved<S>>>,
+    /// The generation of the thread.
+    pub generation: u64,
     pub ended: Ended,
     pub place: usize,
 }
 
 impl<S: Connection + Drop, H: Handler<S>> Worker<S, H> {
-    /// Serves a connection to its end, and closes it: a client that still sends what nobody reads is not to wait for ever.
+    /// Serves a connection, and closes it unless it is put back: a client that still sends what nobody reads is not to wait for ever.
     fn serve<R: Wait>(&mut self, rt: &R, arrival: SharedArrival<S>) {
-        self.handler.serve(&arrival.stream, arrival.peer);
-        // First, so that its end reaches the client before the reset that a close with unread bytes sends.
-        arrival.stream.shut(Shutdown::Both);
+        match self.handler.serve(&arrival.stream, arrival.peer) {
+            // First, so that its end reaches the client before the reset that a close with unread bytes sends.
+            ServeEnd::Closed => arrival.stream.shut(Shutdown::Both),
+            ServeEnd::PutBack => self.put_back(rt, arrival),
+        }
         if let Some(held) = &self.held {
             *held.lock(rt) = None;
+        }
+    }
+
+    /// Puts a connection back. If it can't be, it is turned away and closed.
+    fn put_back<R: Wait>(&mut self, rt: &R, arrival: SharedArrival<S>) {
+        let Arrival { stream, peer } = arrival;
+        let stream = Unserved::Shared(stream);
+        let arrival = Arrival { stream, peer };
+        if let Some(refused) = self.arrivals.put_back(rt, self.generation, arrival) {
+            let stream = refused.stream.stream();
+            self.handler.turn_away(stream);
+            stream.shut(Shutdown::Both);
         }
     }
 

@@ -1,6 +1,6 @@
 //! The threads of a port's connections.
 
-use crate::arrivals::Arrival;
+use crate::arrivals::{Arrival, Arrivals};
 use crate::connection::Connection;
 use crate::handler::Handler;
 use crate::idle::{IdleWorkers, SharedArrival};
@@ -26,17 +26,25 @@ pub(crate) struct Workers<S> {
     ended: Ended,
     idle: IdleWorkers<S>,
     most: usize,
+    generation: u64,
 }
 
 impl<S: Connection + Send + Sync + Drop + 'static> Workers<S> {
-    /// No threads. Takes no memory.
-    pub(crate) fn new(alloc: Global, ended: Ended, idle: IdleWorkers<S>, most: usize) -> Self {
+    /// No threads, of this generation. Takes no memory.
+    pub(crate) fn new(
+        alloc: Global,
+        ended: Ended,
+        idle: IdleWorkers<S>,
+        most: usize,
+        generation: u64,
+    ) -> Self {
         Workers {
             running: Vec::new(alloc),
             free: Vec::new(alloc),
             ended,
             idle,
             most,
+            generation,
         }
     }
 
@@ -81,14 +89,15 @@ impl<S: Connection + Send + Sync + Drop + 'static> Workers<S> {
         &mut self,
         rt: R,
         alloc: Global,
-        arrival: Arrival<S>,
+        arrival: Arrival<Unserved<S>>,
         handler: &H,
+        arrivals: &Arc<Arrivals<Unserved<S>>>,
     ) -> Option<Arrival<Unserved<S>>> {
         let Arrival { stream, peer } = arrival;
-        match Arc::new(alloc, stream) {
-            Ok(stream) => self.take_shared(rt, alloc, Arrival { stream, peer }, handler),
+        match shared(alloc, stream) {
+            Ok(stream) => self.take_shared(rt, alloc, Arrival { stream, peer }, handler, arrivals),
             Err(refused) => {
-                let stream = Unserved::Alone(refused.value);
+                let stream = Unserved::Alone(refused);
                 Some(Arrival { stream, peer })
             }
         }
@@ -104,9 +113,10 @@ impl<S: Connection + Send + Sync + Drop + 'static> Workers<S> {
         alloc: Global,
         arrival: SharedArrival<S>,
         handler: &H,
+        arrivals: &Arc<Arrivals<Unserved<S>>>,
     ) -> Option<Arrival<Unserved<S>>> {
         let Arrival { stream, peer } = self.idle.hand(&rt, arrival)?;
-        if self.is_added(rt, alloc, &stream, peer, handler) {
+        if self.is_added(rt, alloc, &stream, peer, handler, arrivals) {
             return None;
         }
         let stream = Unserved::Shared(stream);
@@ -121,11 +131,13 @@ impl<S: Connection + Send + Sync + Drop + 'static> Workers<S> {
         stream: &Arc<S>,
         peer: SocketAddr,
         handler: &H,
+        arrivals: &Arc<Arrivals<Unserved<S>>>,
     ) -> bool {
         let Some(place) = self.place(&rt) else {
             return false;
         };
-        match self.start(rt, alloc, stream, peer, handler, place) {
+        let first = (stream, peer);
+        match self.start(rt, alloc, first, handler, arrivals, place) {
             Some(worker) => {
                 if let Some(slot) = self.running.get_mut(place) {
                     *slot = Some(worker);
@@ -144,11 +156,12 @@ impl<S: Connection + Send + Sync + Drop + 'static> Workers<S> {
         &self,
         rt: R,
         alloc: Global,
-        stream: &Arc<S>,
-        peer: SocketAddr,
+        first: (&Arc<S>, SocketAddr),
         handler: &H,
+        arrivals: &Arc<Arrivals<Unserved<S>>>,
         place: usize,
     ) -> Option<RunningWorker<S>> {
+        let (stream, peer) = first;
         let first = Arrival {
             stream: Arc::try_clone(stream).ok()?,
             peer,
@@ -163,6 +176,8 @@ impl<S: Connection + Send + Sync + Drop + 'static> Workers<S> {
             handler: handler.share().ok()?,
             connections: self.idle.connections().ok()?,
             held: theirs,
+            arrivals: Arc::try_clone(arrivals).ok()?,
+            generation: self.generation,
             ended: Arc::try_clone(&self.ended).ok()?,
             place,
         };
@@ -173,22 +188,36 @@ impl<S: Connection + Send + Sync + Drop + 'static> Workers<S> {
         Some(RunningWorker { thread, held })
     }
 
-    /// Joins all threads. Connections that are to be cut are shut for reading first.
-    pub(crate) fn end<R: Threads + Wait>(self, rt: &R) {
+    /// Joins all threads. If the port is closed, connections that are to be cut are shut for reading first.
+    pub(crate) fn end<R: Threads + Wait>(self, rt: &R, is_closed: bool) {
         let Workers {
             running,
             free: _,
             ended: _,
             idle,
             most: _,
+            generation: _,
         } = self;
         drop(idle);
-        cut_all(rt, &running);
+        if is_closed {
+            cut_all(rt, &running);
+        }
         for worker in running {
             if let Some(worker) = worker {
                 worker.thread.join(rt);
             }
         }
+    }
+}
+
+/// A connection that others may shut. It is returned if there is no memory for that.
+fn shared<S: Drop>(alloc: Global, stream: Unserved<S>) -> Result<Arc<S>, S> {
+    match stream {
+        Unserved::Shared(stream) => Ok(stream),
+        Unserved::Alone(stream) => match Arc::new(alloc, stream) {
+            Ok(stream) => Ok(stream),
+            Err(refused) => Err(refused.value),
+        },
     }
 }
 
