@@ -48,6 +48,24 @@ rolled = refl
 not_rolled : ending_by (Ask request.Roll) (codes "down") ≡ Refused
 not_rolled = refl
 
+-- the accounts file has no account
+roll_refused : ending_by (Ask request.Roll) (codes "roll failed: accounts: none") ≡ Refused
+roll_refused = refl
+
+reopens_do_not : awaits_nodes request.Reopen ≡ false
+reopens_do_not = refl
+
+reopened : ending_by (Ask request.Reopen) (codes "reopened") ≡ Done
+reopened = refl
+
+-- the log file couldn't be opened anew
+not_reopened : ending_by (Ask request.Reopen) (codes "reopen failed: cannot open the log") ≡ Refused
+not_reopened = refl
+
+-- an answer to another request
+rolled_instead : ending_by (Ask request.Reopen) (codes "rolled") ≡ Broken
+rolled_instead = refl
+
 in_order : ending_by (Ask (request.Stop false true)) (codes "audit ok") ≡ Done
 in_order = refl
 

@@ -27,6 +27,7 @@ awaits_nodes request.Stats = false
 awaits_nodes request.Locks = false
 awaits_nodes request.Users = false
 awaits_nodes request.Roll = true
+awaits_nodes request.Reopen = false
 awaits_nodes (request.Stop now wait) = false
 
 abbrev pub awaits_answer : Instruction → Bool
@@ -43,6 +44,7 @@ awaits_verdict asked = false
 abbrev pub is_refusal : List ℕ → Bool
 is_refusal line =
     bytes_eq line (codes "bad request") || bytes_eq line (codes "bad mbox") || bytes_eq line (codes "down")
+    || starts_with nat_eq line (codes "roll failed: ") || starts_with nat_eq line (codes "reopen failed: ")
 
 abbrev pub is_verdict : List ℕ → Bool
 is_verdict line = starts_with nat_eq line (codes "audit ")
@@ -70,6 +72,7 @@ ends_request request.Stats line = bytes_eq line (codes "end")
 ends_request request.Locks line = bytes_eq line (codes "end")
 ends_request request.Users line = bytes_eq line (codes "end")
 ends_request request.Roll line = bytes_eq line (codes "rolled")
+ends_request request.Reopen line = bytes_eq line (codes "reopened")
 ends_request (request.Stop now wait) line = ends_stop wait line
 
 abbrev pub ends_answer : Instruction → List ℕ → Bool

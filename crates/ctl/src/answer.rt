@@ -20,6 +20,8 @@ fn is_refusal(line: &[u8]) -> bool
     line == b"bad request".as_slice()
         || line == b"bad mbox".as_slice()
         || line == b"down".as_slice()
+        || line.starts_with(b"roll failed: ")
+        || line.starts_with(b"reopen failed: ")
 }
 
 /// Whether a line is a verdict.
@@ -93,6 +95,7 @@ fn ends_request(request: &Request, line: &[u8]) -> bool
         Request::Kick { .. } => line.starts_with(b"kicked "),
         Request::Crash { .. } => line == b"crashed".as_slice(),
         Request::Roll => line == b"rolled".as_slice(),
+        Request::Reopen => line == b"reopened".as_slice(),
         Request::Stop { wait, .. } => ends_stop(*wait, line),
     }
 }

@@ -253,13 +253,13 @@ fn report<R: Eprint>(rt: &R, fault: Fault) {
 
 /// Makes an operator's request to a service on this machine, and prints its answer: `deliver NODE USER FILE`, with a key
 /// after it or without, `put NODE USER`, with a key or without, for the message that the reader has, `break NODE USER`,
-/// `kick USER`, `crash NODE`, `status`, `sessions`, `stats`, `locks`, `users`, `roll`, `stop` or `stop now`. Returns the
-/// exit status. After `put` it is one of sysexits: 0 if the message is stored, 67 if there is no such user, 65 if it is too
-/// large, 64 for words that are none, and 75 if it may be sent again. After other requests it is 0 after a whole answer, 1
-/// after a verdict other than `audit ok` (a node in a process of its own has no verdict, but `stopped`), 3 if the answer is
-/// `bad request`, `bad mbox` or `down`, 1 if it breaks off or after another fault of memory, reading, writing or the
-/// network, 2 for words that are no request. It is 2 if the options name no place, or two. A fault is reported on standard
-/// error.
+/// `kick USER`, `crash NODE`, `status`, `sessions`, `stats`, `locks`, `users`, `roll`, `reopen`, `stop` or `stop now`.
+/// Returns the exit status. After `put` it is one of sysexits: 0 if the message is stored, 67 if there is no such user, 65
+/// if it is too large, 64 for words that are none, and 75 if it may be sent again. After other requests it is 0 after a
+/// whole answer, 1 after a verdict other than `audit ok` (a node in a process of its own has no verdict, but `stopped`), 3
+/// if the answer is `bad request`, `bad mbox` or `down`, or begins with `roll failed: ` or `reopen failed: `, 1 if it breaks
+/// off or after another fault of memory, reading, writing or the network, 2 for words that are no request. It is 2 if the
+/// options name no place, or two. A fault is reported on standard error.
 pub fn ctl_run<
     R: Net<Listener = TcpListener, Stream = TcpStream> + Files + Eprint,
     S: Read,

@@ -19,6 +19,7 @@ pub fn awaits_nodes(request: &Request) -> bool
         | Request::Stats
         | Request::Locks
         | Request::Users
+        | Request::Reopen
         | Request::Stop { .. } => false,
     }
 }

@@ -256,5 +256,6 @@ reads_back request.Stats is = refl
 reads_back request.Locks is = refl
 reads_back request.Users is = refl
 reads_back request.Roll is = refl
+reads_back request.Reopen is = refl
 reads_back (request.Kick user) is = kick-reads_back user is
 reads_back (request.Stop now wait) is = stop-reads_back now wait

@@ -322,6 +322,12 @@ users_request = refl
 roll_request : request_of (codes "roll") ≡ Some request.Roll
 roll_request = refl
 
+reopen_request : request_of (codes "reopen") ≡ Some request.Reopen
+reopen_request = refl
+
+reopen_and_a_space : request_of (codes "reopen ") ≡ None
+reopen_and_a_space = refl
+
 users_and_a_space : request_of (codes "users ") ≡ None
 users_and_a_space = refl
 
@@ -383,6 +389,9 @@ users_text = refl
 
 roll_text : request_text request.Roll ≡ codes "roll"
 roll_text = refl
+
+reopen_text : request_text request.Reopen ≡ codes "reopen"
+reopen_text = refl
 
 stop_now_wait_text : request_text (request.Stop true true) ≡ codes "stop now wait"
 stop_now_wait_text = refl
@@ -459,6 +468,12 @@ users_words = refl
 
 roll_words : instruction_of (codes "roll" ∷ []) ≡ asks request.Roll
 roll_words = refl
+
+reopen_words : instruction_of (codes "reopen" ∷ []) ≡ asks request.Reopen
+reopen_words = refl
+
+reopen_words_one_more : instruction_of (codes "reopen" ∷ codes "log" ∷ []) ≡ no_words
+reopen_words_one_more = refl
 
 users_words_one_more : instruction_of (codes "users" ∷ codes "alice" ∷ []) ≡ no_words
 users_words_one_more = refl

@@ -81,6 +81,7 @@ single_word line =
     else if bytes_eq line (codes "locks") then Some request.Locks
     else if bytes_eq line (codes "users") then Some request.Users
     else if bytes_eq line (codes "roll") then Some request.Roll
+    else if bytes_eq line (codes "reopen") then Some request.Reopen
     else None
 
 abbrev pub request_cut : Option (List ℕ × List ℕ) → List ℕ → Option Request
@@ -125,6 +126,7 @@ request_text request.Stats = codes "stats"
 request_text request.Locks = codes "locks"
 request_text request.Users = codes "users"
 request_text request.Roll = codes "roll"
+request_text request.Reopen = codes "reopen"
 request_text (request.Stop now wait) = stop_text now wait
 
 abbrev pub HasKeyPrefix : Option (List ℕ) → Type 0
@@ -153,4 +155,5 @@ IsRequest request.Stats = Unit {0}
 IsRequest request.Locks = Unit {0}
 IsRequest request.Users = Unit {0}
 IsRequest request.Roll = Unit {0}
+IsRequest request.Reopen = Unit {0}
 IsRequest (request.Stop now wait) = Unit {0}

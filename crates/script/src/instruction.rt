@@ -27,7 +27,8 @@ pub enum Instruction<'a> {
         user: Name,
         key: Option<Word<'a>>,
     },
-    /// `break NODE USER`, `crash NODE`, `status`, `sessions`, `stats`, `locks`, `users`, `roll`, `kick USER`, `stop` or `stop now`.
+    /// `break NODE USER`, `crash NODE`, `status`, `sessions`, `stats`, `locks`, `users`, `roll`, `reopen`, `kick USER`, `stop` or
+    /// `stop now`.
     Ask(Request),
 }
 

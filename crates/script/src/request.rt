@@ -58,6 +58,8 @@ pub enum Request {
     Users,
     /// `roll`: the epoch ends, and the next one begins with the maildrops that it leaves.
     Roll,
+    /// `reopen`: the service opens its log file anew.
+    Reopen,
     /// `stop`, `stop now`, `stop wait` or `stop now wait`: the service ends.
     Stop {
         /// Open sessions are cut.
@@ -207,6 +209,8 @@ pub(crate) fn single_word(line: &[u8]) -> Option<Request>
         Some(Request::Users)
     } else if line == b"roll".as_slice() {
         Some(Request::Roll)
+    } else if line == b"reopen".as_slice() {
+        Some(Request::Reopen)
     } else {
         None
     }

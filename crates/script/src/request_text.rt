@@ -174,6 +174,7 @@ fn put_text<A: Allocator>(
         Request::Locks => put(out, start, b"locks"),
         Request::Users => put(out, start, b"users"),
         Request::Roll => put(out, start, b"roll"),
+        Request::Reopen => put(out, start, b"reopen"),
         Request::Stop { now, wait } => put(out, start, stop_text(*now, *wait)),
     }
 }
