@@ -1,6 +1,7 @@
 -- The lines of the log.
 use Rattle.std.specs.Prelude.{ℕ, ◌+◌, ◌/◌, ◌%◌, List, [], ◌∷◌, ◌++◌, codes, decimal}
 use Rattle.session_log.specs.Written.{user_text}
+use Rattle.session_log.specs.declared.event_lines.StartLoad.{StartLoad}
 use Rattle.session_log.specs.declared.facts.Ending.{Ending}
 use Rattle.session_log.specs.declared.facts.Ending.TheVariants.{Closed, HungUp, Idle, TooMuch, ReadFault, WriteFault, Stopped, NoMemory}
 use Rattle.session_log.specs.declared.facts.SessionFacts.{SessionFacts}
@@ -56,6 +57,14 @@ with_crash text node = text ++ codes "event=crash node=" ++ decimal node ++ code
 abbrev pub with_break : List ℕ → List ℕ → ℕ → List ℕ
 with_break text user node = text ++ codes "event=break user=" ++ user ++ codes " node=" ++ decimal node ++ codes "\n"
 
+-- an epoch couldn't begin, or end, for this reason
+abbrev pub with_roll_failed : List ℕ → List ℕ → List ℕ
+with_roll_failed text cause = text ++ codes "event=roll_failed cause=" ++ cause ++ codes "\n"
+
+-- so many lines are missing
+abbrev pub with_gap : List ℕ → ℕ → List ℕ
+with_gap text missing = text ++ codes "event=log_gap lines=" ++ decimal missing ++ codes "\n"
+
 -- an epoch begins, with what the one before it has left
 abbrev pub with_roll : List ℕ → ℕ → List ℕ
 with_roll text epoch = text ++ codes "event=roll epoch=" ++ decimal epoch ++ codes "\n"
@@ -64,6 +73,21 @@ with_roll text epoch = text ++ codes "event=roll epoch=" ++ decimal epoch ++ cod
 abbrev pub with_torn : List ℕ → (segment at bytes : ℕ) → List ℕ
 with_torn text segment at bytes =
     text ++ codes "event=torn segment=" ++ decimal segment ++ codes " at=" ++ decimal at ++ codes " bytes=" ++ decimal bytes ++ codes "\n"
+
+-- a service takes clients: it begins with this epoch and so many messages and octets, so many milliseconds after its start, and was
+-- started so
+abbrev pub with_start : List ℕ → (epoch : ℕ) → StartLoad → List ℕ → List ℕ
+with_start text epoch load how =
+    text ++ codes "event=start epoch=" ++ decimal epoch ++ codes " messages=" ++ decimal load.messages
+    ++ codes " octets=" ++ decimal load.octets ++ codes " ms=" ++ decimal load.millis ++ codes " " ++ how ++ codes "\n"
+
+-- the audit of an epoch has ended: the verdict is the rest of the line
+abbrev pub with_audit : List ℕ → ℕ → List ℕ → List ℕ
+with_audit text epoch verdict = text ++ codes "event=audit epoch=" ++ decimal epoch ++ codes " verdict=" ++ verdict ++ codes "\n"
+
+-- the service has ended, with this status
+abbrev pub with_end : List ℕ → ℕ → List ℕ
+with_end text status = text ++ codes "event=end status=" ++ decimal status ++ codes "\n"
 
 -- an event that has only a name
 abbrev pub with_event : List ℕ → List ℕ → List ℕ

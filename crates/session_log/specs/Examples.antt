@@ -3,10 +3,12 @@ use Rattle.std.specs.Prelude.{◌≡◌, refl, true, false, [], codes, Option, S
 use Rattle.std.specs.Fmt.{digits}
 use Rattle.std.specs.declared.time.Instant.{Instant}
 use Rattle.maildrop.specs.declared.outcome.Outcome.TheVariants as outcome
+use Rattle.ports.specs.declared.fault.Fault.TheVariants as fault
 use Rattle.pop3_wire.specs.Reply.{invalid_login, already_locked, maildrop_has, drop_listing}
 use Rattle.session.specs.declared.transcript.End.TheVariants as end
 use Rattle.session_log.specs.Bounds.{bytes_left, line_seconds, time_left}
 use Rattle.session_log.specs.Events as event
+use Rattle.session_log.specs.Reopenings.{fault_of, is_due, number_of, one_less}
 use Rattle.session_log.specs.Sessions.{no_facts, is_message, reply_kind, after_answer, after_awaiting, after_line, after_read, after_write, begins_refusal, ending_of}
 use Rattle.session_log.specs.Stats.{no_counts, after_session, after_torn, text_of}
 use Rattle.session_log.specs.Written.{with_session}
@@ -89,8 +91,8 @@ open_line : with_session [] 12 1 (codes "127.0.0.1:40000") None 3 71
 unfolding digits
 open_line = refl
 
-stats : text_of (record { sessions_open = 2; counts = after_torn 412 (after_session no_facts no_counts); slots = 9; uptime_seconds = 60 })
-    ≡ codes "sessions_open 2\nsessions_served 1\nlogins_refused 0\nmessages_stored 0\nmessages_fetched 0\nmessages_removed 0\noctets_stored 0\nbytes_read 0\nbytes_written 0\nslots 9\nuptime_seconds 60\ntorn_bytes 412\nend\n"
+stats : text_of (record { sessions_open = 2; counts = after_torn 412 (after_session no_facts no_counts); slots = 9; uptime_seconds = 60; log_lines_lost = 3 })
+    ≡ codes "sessions_open 2\nsessions_served 1\nlogins_refused 0\nmessages_stored 0\nmessages_fetched 0\nmessages_removed 0\noctets_stored 0\nbytes_read 0\nbytes_written 0\nslots 9\nuptime_seconds 60\ntorn_bytes 412\nlog_lines_lost 3\nend\n"
 unfolding digits
 stats = refl
 
@@ -102,6 +104,13 @@ session : event.with_session [] 1 (codes "127.0.0.1:40000") (record no_facts { u
     ≡ codes "event=session node=1 peer=127.0.0.1:40000 user=bob fetched=2 removed=0 bytes=123 end=closed\n"
 unfolding digits
 session = refl
+
+failed_roll : event.with_roll_failed [] (codes "accounts: none") ≡ codes "event=roll_failed cause=accounts: none\n"
+failed_roll = refl
+
+gap : event.with_gap [] 812 ≡ codes "event=log_gap lines=812\n"
+unfolding digits
+gap = refl
 
 refusal : event.with_refused_login [] 2 (codes "[::1]:5") ≡ codes "event=login_refused node=2 peer=[::1]:5\n"
 unfolding digits
@@ -122,3 +131,31 @@ torn = refl
 rolled : event.with_roll [] 7 ≡ codes "event=roll epoch=7\n"
 unfolding digits
 rolled = refl
+
+-- the file is opened anew after two lines that wait
+not_due : is_due (Some 2) ≡ false
+not_due = refl
+
+due : is_due (one_less (one_less (Some 2))) ≡ true
+due = refl
+
+-- two requests are answered by one opening
+both_requests : number_of (Some 0) 2 ≡ Some 2
+both_requests = refl
+
+no_request : number_of None 2 ≡ None
+no_request = refl
+
+opened_anew : fault_of 1 2 2 ≡ None
+opened_anew = refl
+
+-- it was opened for the first request, and couldn't be for the second one
+opened_before : fault_of 1 2 1 ≡ None
+opened_before = refl
+
+not_opened : fault_of 2 2 1 ≡ Some fault.Log
+not_opened = refl
+
+-- the writer hasn't come to the request
+not_tried : fault_of 3 2 1 ≡ Some fault.Write
+not_tried = refl

@@ -3,4 +3,5 @@ pub mod Sessions
 pub mod Written
 pub mod Stats
 pub mod Events
+pub mod Reopenings
 pub mod Examples

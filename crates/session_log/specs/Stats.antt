@@ -61,12 +61,13 @@ with_messages text counts =
 
 abbrev pub with_rest : List ℕ → Stats → List ℕ
 with_rest text stats =
-    with_line (with_line (with_line (with_line (with_line text
+    with_line (with_line (with_line (with_line (with_line (with_line text
     (codes "bytes_read ") stats.counts.bytes_read)
     (codes "bytes_written ") stats.counts.bytes_written)
     (codes "slots ") stats.slots)
     (codes "uptime_seconds ") stats.uptime_seconds)
-    (codes "torn_bytes ") stats.counts.torn_bytes
+    (codes "torn_bytes ") stats.counts.torn_bytes)
+    (codes "log_lines_lost ") stats.log_lines_lost
 
 -- what an operator is told
 abbrev pub text_of : Stats → List ℕ

@@ -46,9 +46,9 @@ impl<'a, R: Wait + Clock> BoundedReader<'a, R> {
         }
     }
 
-    /// How many bytes may still be read, and how much time is left for that.
-    fn bounds(&mut self) -> (u64, TimeLeft) {
-        let waited = self.waited();
+    /// How many bytes may still be read, and how much time is left for that. The wait for a new line begins now, or goes on.
+    fn bounds(&mut self, is_new: bool) -> (u64, TimeLeft) {
+        let waited = self.waited(is_new);
         let awaited = if self.has_part { None } else { self.since };
         let mut facts = self.facts.lock(&self.rt);
         facts.await_line(awaited);
@@ -59,9 +59,9 @@ impl<'a, R: Wait + Clock> BoundedReader<'a, R> {
         (left, time_left(seconds, waited))
     }
 
-    /// For how many milliseconds a line is awaited. The wait for a new one begins at the first look.
-    fn waited(&mut self) -> u64 {
-        if !self.has_part {
+    /// For how many milliseconds a line is awaited. The wait for a new one begins now.
+    fn waited(&mut self, is_new: bool) -> u64 {
+        if is_new {
             self.since = Instant::now(&self.rt).ok();
             return 0;
         }
@@ -96,7 +96,8 @@ impl<'a, R: Wait + Clock> BoundedReader<'a, R> {
     fn take(&mut self, room: &mut [u8]) -> io::Result<usize>
         ensures { ReadsAtMost result room.new }
     {
-        match read_again(self.stream, room) {
+        let mut stream = self.stream;
+        match stream.read(room) {
             Ok(count) => {
                 self.note(&room[..count]);
                 Ok(count)
@@ -117,21 +118,6 @@ impl<'a, R: Wait + Clock> BoundedReader<'a, R> {
     }
 }
 
-/// Reads into the room, and again if that was interrupted: Linux interrupts a read with a time limit in a process that was
-/// stopped for a while.
-fn read_again(stream: &TcpStream, room: &mut [u8]) -> io::Result<usize>
-    ensures { ReadsAtMost result room.new }
-{
-    let mut reader = stream;
-    for _ in 0..u64::MAX {
-        match reader.read(room) {
-            Err(error) if error.kind() == io::ErrorKind::Interrupted => {}
-            read => return read,
-        }
-    }
-    Err(io::Error::from(io::ErrorKind::Interrupted))
-}
-
 /// Whether a line is awaited of which a part has come, after this piece.
 fn is_part(had_part: bool, piece: &[u8]) -> bool {
     match memchr(b'\n', piece) {
@@ -148,9 +134,12 @@ pub(crate) fn millis_since<R: Clock>(rt: &R, since: &Instant) -> u64 {
     }
 }
 
-impl<R: Wait + Clock> Read for BoundedReader<'_, R> {
-    fn read(&mut self, room: &mut [u8]) -> io::Result<usize> {
-        let (left, time) = self.bounds();
+impl<'a, R: Wait + Clock> BoundedReader<'a, R> {
+    /// Reads into the room once, within the bounds. The read may be interrupted.
+    fn read_once(&mut self, is_new: bool, room: &mut [u8]) -> io::Result<usize>
+        ensures { ReadsAtMost result room.new }
+    {
+        let (left, time) = self.bounds(is_new);
         if left == 0 {
             return Err(self.cut(Cut::TooMuch));
         }
@@ -162,5 +151,19 @@ impl<R: Wait + Clock> Read for BoundedReader<'_, R> {
         self.set_timeout(millis)?;
         let most = next_read(left, room.len());
         self.take(&mut room[..most])
+    }
+}
+
+impl<R: Wait + Clock> Read for BoundedReader<'_, R> {
+    /// Linux interrupts a read with a time limit in a process that was stopped for a while. Then the rest of the time is waited for.
+    fn read(&mut self, room: &mut [u8]) -> io::Result<usize> {
+        let mut is_new = !self.has_part;
+        for _ in 0..u64::MAX {
+            match self.read_once(is_new, room) {
+                Err(error) if error.kind() == io::ErrorKind::Interrupted => is_new = false,
+                read => return read,
+            }
+        }
+        Err(io::Error::from(io::ErrorKind::Interrupted))
     }
 }

@@ -89,6 +89,8 @@ pub struct Stats {
     pub slots: u64,
     /// How long the service runs.
     pub uptime_seconds: u64,
+    /// Lines that are missing in the log.
+    pub log_lines_lost: u64,
 }
 
 /// Adds the lines that speak of sessions and logins.
@@ -118,7 +120,8 @@ fn put_rest(text: &mut Vec<u8>, stats: &Stats) -> Result<(), Memory>
     put_number_line(text, b"bytes_written ", stats.counts.bytes_written)?;
     put_number_line(text, b"slots ", stats.slots)?;
     put_number_line(text, b"uptime_seconds ", stats.uptime_seconds)?;
-    put_number_line(text, b"torn_bytes ", stats.counts.torn_bytes)
+    put_number_line(text, b"torn_bytes ", stats.counts.torn_bytes)?;
+    put_number_line(text, b"log_lines_lost ", stats.log_lines_lost)
 }
 
 impl Stats {
@@ -167,14 +170,22 @@ impl Counters {
         self.counts.lock(rt).tear(bytes);
     }
 
-    /// What operators get, if so many sessions are open and this is the slot of the node that is furthest.
-    pub fn stats<R: Wait + Clock>(&self, rt: &R, open: u64, slots: u64) -> Stats {
+    /// What operators get, if so many sessions are open, this is the slot of the node that is furthest, and so many lines are missing in
+    /// the log.
+    pub fn stats<R: Wait + Clock>(
+        &self,
+        rt: &R,
+        open: u64,
+        slots: u64,
+        log_lines_lost: u64,
+    ) -> Stats {
         let counts = *self.counts.lock(rt);
         Stats {
             sessions_open: open,
             counts,
             slots,
             uptime_seconds: seconds_since(rt, &self.started),
+            log_lines_lost,
         }
     }
 }

@@ -141,6 +141,68 @@ pub(crate) fn put_torn(text: &mut Vec<u8>, segment: u64, at: u64, bytes: u64) ->
     put_number_line(text, b" bytes=", bytes)
 }
 
+/// Adds the line of an epoch that couldn't begin, or end, for a reason, which is the rest of the line.
+pub(crate) fn put_roll_failed(text: &mut Vec<u8>, cause: &[u8]) -> Result<(), Memory>
+    ensures { OnOk result (text.new.items ≡ spec.with_roll_failed text.old.items cause.now) }
+{
+    put(text, b"event=roll_failed cause=")?;
+    put(text, cause)?;
+    put(text, b"\n")
+}
+
+/// Adds the line of so many lines that are missing.
+pub(crate) fn put_gap(text: &mut Vec<u8>, missing: u64) -> Result<(), Memory>
+    ensures { OnOk result (text.new.items ≡ spec.with_gap text.old.items missing) }
+{
+    put_number_line(text, b"event=log_gap lines=", missing)
+}
+
+/// What a service has as it begins to take clients.
+#[derive(Clone, Copy, Debug, PartialEq, Eq)]
+pub struct StartLoad {
+    /// How many messages.
+    pub messages: u64,
+    /// How many octets these have.
+    pub octets: u64,
+    /// How many milliseconds have passed since its start.
+    pub millis: u64,
+}
+
+/// Adds the line of a service that takes clients from now on. How it was started is the rest of the line.
+pub(crate) fn put_start(
+    text: &mut Vec<u8>,
+    epoch: u64,
+    load: StartLoad,
+    how: &[u8],
+) -> Result<(), Memory>
+    ensures { OnOk result (text.new.items ≡ spec.with_start text.old.items epoch load how.now) }
+{
+    put_labelled(text, b"event=start epoch=", epoch)?;
+    put_labelled(text, b" messages=", load.messages)?;
+    put_labelled(text, b" octets=", load.octets)?;
+    put_labelled(text, b" ms=", load.millis)?;
+    put(text, b" ")?;
+    put(text, how)?;
+    put(text, b"\n")
+}
+
+/// Adds the line of an epoch whose audit has ended. The verdict is the rest of the line.
+pub(crate) fn put_audit(text: &mut Vec<u8>, epoch: u64, verdict: &[u8]) -> Result<(), Memory>
+    ensures { OnOk result (text.new.items ≡ spec.with_audit text.old.items epoch verdict.now) }
+{
+    put_labelled(text, b"event=audit epoch=", epoch)?;
+    put(text, b" verdict=")?;
+    put(text, verdict)?;
+    put(text, b"\n")
+}
+
+/// Adds the line of a service that has ended with this status.
+pub(crate) fn put_end(text: &mut Vec<u8>, status: u8) -> Result<(), Memory>
+    ensures { OnOk result (text.new.items ≡ spec.with_end text.old.items status) }
+{
+    put_number_line(text, b"event=end status=", status as u64)
+}
+
 /// Adds the line of an event that has only a name.
 pub(crate) fn put_event(text: &mut Vec<u8>, name: &[u8]) -> Result<(), Memory>
     ensures { OnOk result (text.new.items ≡ spec.with_event text.old.items name.now) }

@@ -1,108 +1,115 @@
 //! The log: a line for each event.
-ghost use Rattle.std.specs.Prelude.{◌≡◌};
+ghost use Rattle.std.specs.Prelude.{◌≡◌, is_some};
 
 use crate::event_lines::{
-    put_broken, put_crash, put_delivery, put_event, put_fault, put_refused, put_roll, put_session,
-    put_time, put_torn,
+    StartLoad, put_audit, put_broken, put_crash, put_delivery, put_end, put_event, put_fault,
+    put_refused, put_roll, put_roll_failed, put_session, put_start, put_time, put_torn,
 };
 use crate::facts::{Ending, SessionFacts};
+use crate::log_queue::LogQueue;
+use crate::log_writer::{LINE, Target, millis_since_1970, start_writing};
 use crate::open_sessions::peer_text;
 use ballot::{Memory, NodeId};
 use maildrop::Name;
 use ports::Fault;
 use std::alloc::Global;
-use std::fs::{File, OpenOptions};
-use std::io;
-use std::io::Write;
+use std::fs::File;
 use std::net::SocketAddr;
-use std::os::unix::fs::OpenOptionsExt;
 use std::rt::Files;
-use std::sync::{Mutex, Wait};
-use std::time::Clock;
-
-/// Room for most lines.
-const LINE: usize = 256;
-
-/// The permissions of a log that is made: it names users and addresses.
-const FILE_MODE: u32 = 0o640;
+use std::sync::{Arc, Wait};
+use std::thread::Threads;
+use std::time::{Clock, Duration};
 
 /// The path that stands for standard error.
 const STANDARD_ERROR: &str = "-";
 
-/// Where lines are written.
-#[derive(Drop)]
-enum Target {
-    /// Nowhere.
-    Nowhere,
-    /// To the end of a file.
-    File(File),
-    /// To standard error.
-    StandardError,
-}
+/// How long the end of a service waits for the lines that still wait, in milliseconds.
+const END_MS: u64 = 1_000;
 
-impl Target {
-    /// Writes a line by one write. Returns whether it was written whole.
-    fn write(&mut self, line: &[u8]) -> bool {
-        match self {
-            Target::Nowhere => true,
-            Target::File(file) => match file.write(line) {
-                Ok(count) => count == line.len(),
-                Err(_) => false,
-            },
-            Target::StandardError => libc::write(libc::STDERR_FILENO, line) == line.len() as isize,
-        }
-    }
-}
+/// How long an operator waits for the file to be opened anew, in milliseconds.
+const REOPEN_MS: u64 = 2_000;
 
-/// Opens a log's file to append to it. One that isn't there is made.
-fn open_file<R: Files<File = File>>(rt: &R, path: &str) -> io::Result<File> {
-    let mut options = OpenOptions::new();
-    options
-        .append(true)
-        .create(true)
-        .mode(FILE_MODE)
-        .open(rt, path)
-}
-
-/// The log: a line for each event. It is given up at the first line that can't be written, and the service goes on.
+/// The log: a line for each event. Lines are written by a thread of their own, so that nobody waits for the log. A line for which there is
+/// no room or memory is missing: the next one that is written has a line before it that says how many are.
 #[derive(Drop)]
 pub struct EventLog {
     alloc: Global,
-    /// Whether there is one.
-    is_kept: bool,
-    target: Mutex<Target>,
+    /// Nothing if there is no log.
+    queue: Option<Arc<LogQueue>>,
+    /// Whether it is a file, which can be opened anew.
+    is_file: bool,
+}
+
+/// Where the lines of a log of this path go: `-` is standard error.
+fn target_of<R: Files<File = File>>(rt: &R, path: &str) -> Result<Target, Fault> {
+    if path == STANDARD_ERROR {
+        return Ok(Target::StandardError);
+    }
+    match Target::open(rt, path) {
+        Ok(target) => Ok(target),
+        Err(_) => Err(Fault::Log),
+    }
 }
 
 impl EventLog {
-    /// The log of this path: `-` is standard error, and without a path there is none.
-    pub fn open<R: Files<File = File>>(
+    /// The log of this path: `-` is standard error, and without a path there is none. `Memory` if there is no thread for it.
+    pub fn open<R: Files<File = File> + Threads + Wait + Clock + Copy + Send + 'static>(
         rt: &R,
         alloc: Global,
         path: Option<&str>,
-    ) -> Result<EventLog, Fault> {
-        match path {
-            None => Ok(EventLog::to(alloc, false, Target::Nowhere)),
-            Some(STANDARD_ERROR) => Ok(EventLog::to(alloc, true, Target::StandardError)),
-            Some(path) => match open_file(rt, path) {
-                Ok(file) => Ok(EventLog::to(alloc, true, Target::File(file))),
-                Err(_) => Err(Fault::Log),
-            },
-        }
-    }
-
-    fn to(alloc: Global, is_kept: bool, target: Target) -> EventLog {
-        EventLog {
-            alloc,
-            is_kept,
-            target: Mutex::new(target),
-        }
-    }
-
-    /// Whether there is one. It may have been given up.
-    pub fn is_kept(&self) -> bool
-        ensures { result ≡ self.now.is_kept }
+    ) -> Result<EventLog, Fault>
+    where
+        R::Dir: Send,
     {
-        self.is_kept
+        let Some(path) = path else {
+            return Ok(EventLog {
+                alloc,
+                queue: None,
+                is_file: false,
+            });
+        };
+        let target = target_of(rt, path)?;
+        let queue = Arc::new(alloc, LogQueue::new(alloc)?)?;
+        start_writing(rt, alloc, &queue, target, path)?;
+        Ok(EventLog {
+            alloc,
+            queue: Some(queue),
+            is_file: path != STANDARD_ERROR,
+        })
+    }
+
+    /// How many lines are missing so far.
+    pub fn lines_lost<R: Wait>(&self, rt: &R) -> u64 {
+        match &self.queue {
+            Some(queue) => queue.lost(rt),
+            None => 0,
+        }
+    }
+
+    /// Has the file opened anew: lines that were added before go to the old one if it still takes them, and those that come later to
+    /// the one that its path names by now. Waits for that, but for two seconds at most. `Log` if it can't be opened: the old one
+    /// goes on. `Write` if the thread that writes hasn't come to it, since a write hangs, or is at its end: it comes to it as soon as it
+    /// can. Nothing is to do if the log is standard error, or there is none.
+    pub fn reopen<R: Wait + Clock>(&self, rt: &R) -> Result<(), Fault> {
+        match &self.queue {
+            Some(queue) if self.is_file => queue.reopen(rt, Duration::from_millis(REOPEN_MS)),
+            _ => Ok(()),
+        }
+    }
+
+    /// Waits until all lines are written, but for a second at most. Lines that come later are missing.
+    pub fn finish<R: Wait + Clock>(&self, rt: &R) {
+        if let Some(queue) = &self.queue {
+            queue.close(rt);
+            queue.wait_for_end(rt, Duration::from_millis(END_MS));
+        }
+    }
+
+    /// Whether there is one.
+    pub fn is_kept(&self) -> bool
+        ensures { result ≡ is_some self.now.queue }
+    {
+        self.queue.is_some()
     }
 
     /// A session at a node has ended.
@@ -189,10 +196,47 @@ impl EventLog {
         }
     }
 
+    /// The next epoch can't begin, so the present one goes on or, if it has ended, the next one is tried again.
+    pub fn roll_failed<R: Wait + Clock>(&self, rt: &R, fault: Fault) {
+        if let Some(mut line) = self.begin(rt) {
+            let put = self.put_cause(&mut line, fault);
+            self.end(rt, line, put);
+        }
+    }
+
+    fn put_cause(&self, line: &mut Vec<u8>, fault: Fault) -> Result<(), Memory> {
+        let cause = format!(in self.alloc; "{fault}")?;
+        put_roll_failed(line, cause.as_bytes())
+    }
+
     /// A start has dropped so many bytes of a segment, those from this place on.
     pub fn torn<R: Wait + Clock>(&self, rt: &R, segment: u64, at: u64, bytes: u64) {
         if let Some(mut line) = self.begin(rt) {
             let put = put_torn(&mut line, segment, at, bytes);
+            self.end(rt, line, put);
+        }
+    }
+
+    /// The service takes clients from now on. It begins with this epoch, and was started so.
+    pub fn start<R: Wait + Clock>(&self, rt: &R, epoch: u64, load: StartLoad, how: &str) {
+        if let Some(mut line) = self.begin(rt) {
+            let put = put_start(&mut line, epoch, load, how.as_bytes());
+            self.end(rt, line, put);
+        }
+    }
+
+    /// The audit of an epoch has ended with this verdict.
+    pub fn audit<R: Wait + Clock>(&self, rt: &R, epoch: u64, verdict: &str) {
+        if let Some(mut line) = self.begin(rt) {
+            let put = put_audit(&mut line, epoch, verdict.as_bytes());
+            self.end(rt, line, put);
+        }
+    }
+
+    /// The service has ended with this status.
+    pub fn ended<R: Wait + Clock>(&self, rt: &R, status: u8) {
+        if let Some(mut line) = self.begin(rt) {
+            let put = put_end(&mut line, status);
             self.end(rt, line, put);
         }
     }
@@ -223,31 +267,30 @@ impl EventLog {
     }
 
     /// A line with its time, if there is a log and memory for it.
-    fn begin<R: Clock>(&self, rt: &R) -> Option<Vec<u8>> {
-        if !self.is_kept {
-            return None;
+    fn begin<R: Wait + Clock>(&self, rt: &R) -> Option<Vec<u8>> {
+        let queue = self.queue.as_ref()?;
+        let line = timed_line(rt, self.alloc);
+        if line.is_err() {
+            queue.lose(rt);
         }
-        let mut line = Vec::with_capacity(self.alloc, LINE).ok()?;
-        put_time(&mut line, millis_since_1970(rt)).ok()?;
-        Some(line)
+        line.ok()
     }
 
-    /// Writes a line, if there was memory for all of it.
+    /// Adds a line to those that wait, if there was memory for all of it.
     fn end<R: Wait>(&self, rt: &R, line: Vec<u8>, put: Result<(), Memory>) {
-        if put.is_err() {
+        let Some(queue) = &self.queue else {
             return;
-        }
-        let mut target = self.target.lock(rt);
-        if !target.write(line.as_slice()) {
-            *target = Target::Nowhere;
+        };
+        match put {
+            Ok(()) => queue.add(rt, line),
+            Err(_) => queue.lose(rt),
         }
     }
 }
 
-/// The time, or 0 if the clock can't be read.
-fn millis_since_1970<R: Clock>(rt: &R) -> u64 {
-    match rt.since_1970() {
-        Ok(time) => u64::try_from(time.as_millis()).unwrap_or(u64::MAX),
-        Err(_) => 0,
-    }
+/// A line that has its time so far.
+fn timed_line<R: Clock>(rt: &R, alloc: Global) -> Result<Vec<u8>, Memory> {
+    let mut line = Vec::with_capacity(alloc, LINE)?;
+    put_time(&mut line, millis_since_1970(rt))?;
+    Ok(line)
 }

@@ -1,8 +1,9 @@
 //! Writes replies, and counts them.
+ghost use Rattle.std.specs.Io.{WritesAtMost};
 
 use crate::facts::SessionFacts;
 use std::io;
-use std::io::{BufWriter, Write};
+use std::io::{BufWriter, ErrorKind, Write};
 use std::net::TcpStream;
 use std::sync::{Mutex, Wait};
 
@@ -40,9 +41,25 @@ impl<'a, R: Wait + Copy> ReplyWriter<'a, R> {
     }
 }
 
+impl<R: Wait> ReplyWriter<'_, R> {
+    /// Gathers or writes a piece, and again if that was interrupted: Linux interrupts a write with a time limit in a process that was
+    /// stopped for a while.
+    fn write_on(&mut self, piece: &[u8]) -> io::Result<usize>
+        ensures { WritesAtMost result piece.now }
+    {
+        for _ in 0..u64::MAX {
+            match self.writer.write(piece) {
+                Err(error) if error.kind() == ErrorKind::Interrupted => {}
+                written => return written,
+            }
+        }
+        Err(io::Error::from(ErrorKind::Interrupted))
+    }
+}
+
 impl<R: Wait> Write for ReplyWriter<'_, R> {
     fn write(&mut self, piece: &[u8]) -> io::Result<usize> {
-        let count = self.writer.write(piece)?;
+        let count = self.write_on(piece)?;
         let is_refusal = self.facts.lock(&self.rt).write(self.refusal, piece, count);
         if is_refusal {
             // If this fails, so does the flush before the next read.
