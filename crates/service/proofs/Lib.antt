@@ -5,4 +5,5 @@ pub mod Judged
 pub mod EpochRuns
 pub mod Pasts
 pub mod Lasts
+pub mod Tells
 pub mod Found

@@ -1,5 +1,6 @@
 -- What becomes of the messages of a delivery.
-use Rattle.std.specs.Prelude.{ℕ, ◌+◌, ◌-◌, ◌^◌, min, List, [], ◌∷◌, ◌++◌}
+use Rattle.std.specs.Prelude.{◌≡◌, refl, ℕ, ◌+◌, ◌-◌, ◌^◌, min, List, [], ◌∷◌, ◌++◌, codes, decimal}
+use Rattle.std.specs.Fmt.{digits}
 use Rattle.maildrop.specs.declared.outcome.Outcome.{Outcome}
 use Rattle.maildrop.specs.declared.outcome.Outcome.TheVariants.{Stored}
 use Rattle.script.specs.Output.{outcome_line}
@@ -31,3 +32,11 @@ abbrev pub outcome_lines : {A : Type 0} → List ℕ → List (Outcome A) → Li
 outcome_lines user [] texts = []
 outcome_lines user (outcome ∷ outcomes) [] = []
 outcome_lines user (outcome ∷ outcomes) (text ∷ texts) = outcome_line user text.ticket outcome ++ outcome_lines user outcomes texts
+
+-- the answer to the delivery of one message that is larger than any that is taken: it has no ticket
+abbrev pub too_large_answer : (user : List ℕ) → (node : ℕ) → List ℕ
+too_large_answer user node = codes "op " ++ user ++ codes " " ++ decimal node ++ codes "/0 too large\nend\n"
+
+too_large : too_large_answer (codes "alice") 1 ≡ codes "op alice 1/0 too large\nend\n"
+unfolding digits
+too_large = refl

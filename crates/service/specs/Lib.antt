@@ -16,8 +16,11 @@ pub mod Locks
 pub mod OperatorExamples
 pub mod Paces
 pub mod Rolls
+pub mod Reserves
+pub mod Retries
 pub mod Wakes
 pub mod Stats
+pub mod Endings
 pub mod Epochs
 pub mod EpochEnds
 pub mod Lives

@@ -20,8 +20,9 @@ after_delivery messages octets load =
     record load { bytes = min (load.bytes + min (min (messages * 2700) highest + octets) highest) highest }
 
 -- what a session leaves, about
-abbrev pub session_bytes : ℕ → ℕ → ℕ
-session_bytes asked listed = min (min (asked * 2700) highest + min (listed * 25) highest) highest
+abbrev pub session_bytes : ℕ → ℕ → ℕ → ℕ
+session_bytes asked listed lines =
+    min (min (min (asked * 2700) highest + min (listed * 25) highest) highest + min (lines * 8) highest) highest
 
 -- at least so many times the limit. A limit of 0 is none
 abbrev pub reaches : ℕ → ℕ → ℕ → Bool
@@ -55,6 +56,6 @@ module _ where
   too_soon : when_due (record { sessions = 50; bytes = 0 }) limits 59999 ≡ Quiet
   too_soon = refl
 
-  -- a login that lists four messages, and its QUIT
-  login : session_bytes 2 4 ≡ 5500
+  -- a login that lists four messages, and its QUIT, in three lines
+  login : session_bytes 2 4 3 ≡ 5524
   login = refl

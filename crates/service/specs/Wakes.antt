@@ -1,6 +1,8 @@
 -- What is to be done for the epochs of a service, by how far they have come.
-use Rattle.std.specs.Prelude.{◌≡◌, refl, ℕ, ◌+◌, ◌*◌, ◌==◌, ◌&&◌, ◌||◌, not, Bool, true, false, Option, None, min, nat_le, if◌then◌else◌}
+use Rattle.std.specs.Prelude.{◌≡◌, refl, ℕ, ◌+◌, ◌*◌, ◌==◌, ◌&&◌, ◌||◌, not, Bool, true, false, Option, None, Some, min, nat_le, nat_lt, if◌then◌else◌}
 use Rattle.std.specs.declared.time.Instant.{Instant}
+use Rattle.ports.specs.declared.fault.Fault.{Fault}
+use Rattle.ports.specs.declared.fault.Fault.TheVariants.{Memory}
 use Rattle.service.specs.Rolls.{highest, no_load, has_reached, when_due}
 use Rattle.service.specs.declared.progress.Progress.{Progress}
 use Rattle.service.specs.declared.progress.Wake.{Wake}
@@ -50,6 +52,17 @@ after_wake Audited tried p = record p { has_audited = false }
 after_wake Quiet tried p = record p { has_tried = true; tried = tried; retry_ms = next_retry p.retry_ms }
 after_wake _ tried p = p
 
+-- operators ask for the end of this epoch, and a majority isn't wanting
+abbrev pub may_refuse : Progress → Bool
+may_refuse p = p.is_asked && not p.is_required
+
+abbrev pub after_refusal : Fault → Progress → Progress
+after_refusal fault p = record p { is_asked = false; refusals = min (p.refusals + 1) highest; refusal = Some fault; refused = p.epoch }
+
+-- the end of this epoch was refused since there were so many refusals
+abbrev pub has_refused : Progress → (epoch refusals : ℕ) → Bool
+has_refused p epoch refusals = (p.refused == epoch) && nat_lt refusals p.refusals
+
 abbrev pub before_all : Progress
 before_all = record {
   epoch = 0;
@@ -61,6 +74,10 @@ before_all = record {
   tried = None;
   retry_ms = 0;
   is_asked = false;
+  is_required = false;
+  refusals = 0;
+  refusal = None;
+  refused = 0;
   is_auditing = false;
   has_audited = false;
   is_stopping = false;
@@ -83,6 +100,10 @@ module _ where
     tried = None;
     retry_ms = 10;
     is_asked = false;
+    is_required = false;
+    refusals = 0;
+    refusal = None;
+    refused = 0;
     is_auditing = false;
     has_audited = false;
     is_stopping = false;
@@ -125,6 +146,19 @@ module _ where
   -- sessions come faster than they are audited
   behind : wake_at (record full { is_auditing = true }) limits 500 0 ≡ Behind
   behind = refl
+
+  -- an operator's roll may be refused, but not one that want of a majority asks for too
+  refused : may_refuse (record full { is_asked = true }) ≡ true
+  refused = refl
+
+  told : has_refused (after_refusal Memory full) 3 0 ≡ true
+  told = refl
+
+  of_another_epoch : has_refused (after_refusal Memory full) 2 0 ≡ false
+  of_another_epoch = refl
+
+  required : may_refuse (record full { is_asked = true; is_required = true }) ≡ false
+  required = refl
 
   quick : look_ms (record full { led = 2 }) limits ≡ 2
   quick = refl

@@ -7,11 +7,12 @@ ghost use Rattle.service.specs.Deliveries.{outcome_lines, delivered_after};
 
 use crate::asking::{Unanswered, await_outcomes};
 use crate::served_node::{OperatorOp, ServedNode};
-use ballot::Memory;
+use ballot::{Memory, NodeId};
 use maildrop::{Key, Name, Outcome, Text, TextBuilder, Ticket, next_line};
 use mboxrd::{MboxError, Reader};
 use ports::{Fault, OperatorStream, PIECE, say};
 use script::{KeyPrefix, LAST_MESSAGE, put_outcome};
+use session_log::{put, put_labelled};
 use std::alloc::Global;
 use std::collections::VecDeque;
 use std::io::Read;
@@ -131,6 +132,18 @@ fn key_of(prefix: &Option<KeyPrefix>, place: usize) -> Option<Key>
         (Some(prefix), Ok(place)) if place < LAST_MESSAGE => Some(prefix.numbered(place + 1)),
         _ => None,
     }
+}
+
+/// The answer to the delivery of one message that is larger than any that is taken. It has no ticket.
+pub(crate) fn too_large_answer(alloc: Global, user: &Name, node: NodeId) -> Result<Vec<u8>, Memory>
+    ensures { IfOk result (λ answer. answer.items ≡ spec.too_large_answer user.now node) }
+{
+    let mut answer = Vec::new(alloc);
+    put(&mut answer, b"op ")?;
+    put(&mut answer, user.get())?;
+    put_labelled(&mut answer, b" ", u64::from(node.get()))?;
+    put(&mut answer, b"/0 too large\nend\n")?;
+    Ok(answer)
 }
 
 /// What has become of the messages of a delivery so far.

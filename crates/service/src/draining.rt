@@ -176,6 +176,7 @@ fn drain<R: Wait + Clock, N: ServedNode>(rt: &R, nodes: &[N], state: &ServiceSta
         found = end_sessions(rt, nodes, state);
     }
     if matches!(found, Found::Failure) {
+        note_want_of_memory(rt, state);
         cut_sessions(rt, nodes, state);
     }
 }
@@ -209,6 +210,13 @@ fn end_sessions<R: Wait + Clock, N: ServedNode>(
         looks = looks.saturating_add(1);
     }
     unreachable!()
+}
+
+/// Notes in the log that nothing more is written for want of memory. The fault of a write is noted as the service ends.
+fn note_want_of_memory<R: Wait + Clock>(rt: &R, state: &ServiceState) {
+    if matches!(state.journal().failure(rt), Some(Fault::Memory)) {
+        state.life().log().fault(rt, "no memory");
+    }
 }
 
 /// Stops all nodes, and cuts the connections of sessions until all have ended. So nobody is answered any more, however slow its

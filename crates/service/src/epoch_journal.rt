@@ -1,5 +1,5 @@
 //! The journal of an epoch.
-ghost use Rattle.std.specs.Prelude.{◌≡◌, if◌then◌else◌};
+ghost use Rattle.std.specs.Prelude.{◌≡◌, None, Some, IfErr, IsErr, IsOk, if◌then◌else◌};
 
 use crate::brand::Service;
 use ballot::Memory;
@@ -36,6 +36,20 @@ fn write_fault(is_in_use: bool) -> Fault
         Fault::InUse
     } else {
         Fault::Write
+    }
+}
+
+/// The fault of a write, unless it is a want of memory.
+fn of_write(failure: Option<Fault>) -> Result<(), Fault>
+    ensures write { failure ≡ Some Fault.Write → IsErr result }
+    ensures in_use { failure ≡ Some Fault.InUse → IsErr result }
+    ensures fault { IfErr result (λ fault. failure ≡ Some fault) }
+    ensures memory { failure ≡ Some Fault.Memory → IsOk result }
+    ensures none { failure ≡ None → IsOk result }
+{
+    match failure {
+        None | Some(Fault::Memory) => Ok(()),
+        Some(fault) => Err(fault),
     }
 }
 
@@ -85,7 +99,7 @@ impl EpochJournal {
         }
     }
 
-    /// Whether a write has failed. No answer waits for a write any more then.
+    /// Whether nothing more is written, since a write has failed or memory was wanting. No answer waits for a write any more then.
     pub(crate) fn has_failed<R: Wait>(&self, rt: &R) -> bool {
         match &self.journal {
             None => false,
@@ -93,12 +107,24 @@ impl EpochJournal {
         }
     }
 
-    /// The fault of a write, if one has failed. The service ends because of it.
-    pub(crate) fn written<R: Wait>(&self, rt: &R) -> Result<(), Fault> {
+    /// Why nothing more is written, if that is so: the fault of a write, or `Memory` if no write has failed.
+    pub(crate) fn failure<R: Wait>(&self, rt: &R) -> Option<Fault> {
         match &self.journal {
-            Some(journal) if journal.has_failed(rt) => { Err(write_fault(journal.is_in_use(rt))) }
-            _ => Ok(()),
+            Some(journal) if journal.has_failed(rt) => {
+                if journal.has_failed_write(rt) {
+                    Some(write_fault(journal.is_in_use(rt)))
+                } else {
+                    Some(Fault::Memory)
+                }
+            }
+            _ => None,
         }
+    }
+
+    /// The fault of a write, if one has failed. The service ends because of it. After a want of memory alone the epoch ends, and
+    /// the next one has all that was answered.
+    pub(crate) fn written<R: Wait>(&self, rt: &R) -> Result<(), Fault> {
+        of_write(self.failure(rt))
     }
 
     /// Ends the segment of the journal, which no other thread has any more. Returns nothing if nothing is written.

@@ -8,18 +8,20 @@ ghost use Rattle.cluster.specs.Starts.{all_nodes, has_window};
 ghost use Rattle.maildrop.specs.Name.{are_different};
 ghost use Rattle.service.specs.Epochs.{TellsOn, epoch_line};
 ghost use Rattle.service.specs.Verdicts.{CanServe};
-ghost use Rattle.service.specs.declared.epoch_run.Ending.TheVariants.{Rolled};
+ghost use Rattle.service.specs.Endings.{IfRolled};
 
 use crate::brand::Service;
 use crate::draining::{wait_for_deliveries, wait_for_last_deliveries};
 use crate::epoch::EndedEpoch;
 use crate::epoch_journal::EpochJournal;
+use crate::furthest::furthest_up;
 use crate::life::ServiceLife;
 use crate::majority::crash_all;
 use crate::options::{OnFault, Settings};
-use crate::past::Past;
+use crate::past::{Past, Prepared};
 use crate::progress::Wake;
-use crate::serve::FIRST_LEADER;
+use crate::reserve::{Needs, needs_of};
+use crate::serve::{FIRST_LEADER, note_audit, note_fault};
 use crate::served_node::ServedNode;
 use crate::served_sessions::ServedSessions;
 use crate::service_nodes::{ServiceDesk, ServiceNodes, StoppedNodes};
@@ -33,7 +35,9 @@ use cluster::{Link, Setup};
 use maildrop::Kept;
 use ports::{Fault, System, say};
 use std::alloc::Global;
+use std::fs::File;
 use std::io::Write;
+use std::rt::Files;
 use std::sync::ledger::{Blank, Share};
 use std::sync::{Arc, Wait};
 use std::thread;
@@ -46,13 +50,23 @@ const QUIET_LOOKS: u32 = 20;
 /// How many milliseconds lie between two such looks.
 const QUIET_LOOK_MS: u64 = 1;
 
+/// How often it is looked whether a write has failed while an audit is awaited, in milliseconds.
+const AUDIT_LOOK_MS: u64 = 50;
+
+/// How long the thread waits that finds an epoch which isn't tried to end yet, in milliseconds.
+const RETRY_LOOK_MS: u64 = 20;
+
 /// How an epoch ends.
 #[derive(Clone, Copy, Debug, PartialEq, Eq)]
 pub(crate) enum Ending {
     /// The service stops, and its sessions go on to their ends.
     Stopped,
-    /// The sessions are ended.
-    Rolled,
+    /// The service ends, and so do its sessions.
+    Over,
+    /// A thread of the epoch couldn't be had, so it has served nobody.
+    Withdrawn,
+    /// The next epoch begins, and the sessions are ended. What it needs was had before.
+    Rolled(Prepared),
 }
 
 /// What an ended epoch leaves: what is audited, and the maildrops of a node that has performed the most.
@@ -123,6 +137,7 @@ pub(crate) fn tell_verdict<R: System, W: Write>(
     if say_verdict(alloc, writer, past.told(), &verdict).is_err() {
         past.fail();
     }
+    note_audit(rt, alloc, life.log(), past.told(), &verdict);
     if !is_wrong(&verdict) {
         return false;
     }
@@ -152,6 +167,132 @@ fn is_quiet<R: System>(rt: &R, ports: &Ports, state: &ServiceState) -> bool {
     false
 }
 
+/// What the next epoch needs of the system, by what the node has that is furthest.
+fn needs_after<N: ServedNode>(ports: &Ports, nodes: &[N]) -> Result<Needs, Memory> {
+    let (mut users, mut messages): (usize, usize) = (0, 0);
+    if let Some(node) = furthest_up(nodes) {
+        for (_, usage) in &node.usage()? {
+            users = users.saturating_add(1);
+            let more = usize::try_from(usage.messages).unwrap_or(usize::MAX);
+            messages = messages.saturating_add(more);
+        }
+    }
+    Ok(needs_of(users, messages, nodes.len(), ports.count()))
+}
+
+/// Reads the accounts anew. If they can't be, an end that operators asked for is refused, and at any other end the accounts stay. Returns
+/// whether they were read.
+fn read_accounts<R: System + Files<File = File>>(
+    rt: &R,
+    alloc: Global,
+    life: &ServiceLife,
+    past: &mut Past,
+) -> Result<bool, Fault>
+    ensures { past.new ≡ past.old }
+{
+    let Err(fault) = past.read_accounts(rt, alloc) else {
+        return Ok(true);
+    };
+    life.rolls().note_accounts(rt, false);
+    if life.rolls().may_refuse(rt) {
+        return Err(fault);
+    }
+    note_fault(rt, alloc, life.log(), None, fault);
+    Ok(false)
+}
+
+/// Has what the next epoch needs, before this one ends.
+fn prepare<R: System + Files<File = File>, N: ServedNode>(
+    rt: R,
+    alloc: Global,
+    ports: &Ports,
+    life: &ServiceLife,
+    nodes: &[N],
+    past: &mut Past,
+) -> Result<Prepared, Fault>
+    ensures { past.new ≡ past.old }
+{
+    let is_read = read_accounts(&rt, alloc, life, past)?;
+    let needs = needs_after(ports, nodes)?;
+    let prepared = past.hold(rt, needs)?;
+    life.rolls().note_accounts(&rt, is_read);
+    Ok(prepared)
+}
+
+/// Prepares the end of the epoch, if it may be tried now. If what the next one needs can't be had, operators who asked for the end are told
+/// so, and the epoch goes on.
+fn prepared<R: System + Files<File = File>, N: ServedNode>(
+    rt: &R,
+    alloc: Global,
+    ports: &Ports,
+    life: &ServiceLife,
+    nodes: &[N],
+    past: &mut Past,
+) -> Option<Prepared>
+    ensures { past.new ≡ past.old }
+{
+    if !life.rolls().may_refuse(rt) && !past.is_try_due(rt) {
+        thread::sleep(rt, Duration::from_millis(RETRY_LOOK_MS));
+        return None;
+    }
+    let rolls = life.rolls();
+    rolls.begin_end(rt, rolls.epoch(rt));
+    match prepare(*rt, alloc, ports, life, nodes, past) {
+        Ok(prepared) => Some(prepared),
+        Err(fault) => {
+            rolls.give_up_end(rt);
+            life.log().roll_failed(rt, fault);
+            life.rolls().refuse(rt, fault);
+            past.note_try(rt);
+            None
+        }
+    }
+}
+
+/// Prepares the end of the epoch, if this wake is for that.
+fn due_end<R: System + Files<File = File>, N: ServedNode>(
+    rt: &R,
+    alloc: Global,
+    ports: &Ports,
+    state: &ServiceState,
+    nodes: &[N],
+    wake: Wake,
+    past: &mut Past,
+) -> Option<Prepared>
+    ensures { past.new ≡ past.old }
+{
+    // The sessions of those who weren't held back may have ended while the audit went on.
+    let is_due = match wake {
+        Wake::Roll => true,
+        Wake::Quiet | Wake::Behind => is_quiet(rt, ports, state),
+        Wake::Stop | Wake::Audited | Wake::Look => false,
+    };
+    if !is_due {
+        return None;
+    }
+    prepared(rt, alloc, ports, state.life(), nodes, past)
+}
+
+/// Holds new POP3 clients back until the audit of the epoch before this one has ended. Else each epoch would grow beyond the one
+/// before it while sessions come faster than they are audited. Returns false, and holds nobody back, if the service stops or a
+/// write has failed.
+fn hold_back<R: System>(rt: &R, ports: &Ports, state: &ServiceState) -> bool {
+    let rolls = state.life().rolls();
+    let look = Duration::from_millis(AUDIT_LOOK_MS);
+    ports.pause_pop(rt);
+    for _ in rt.forever() {
+        let is_over = state.journal().has_failed(rt) || rolls.is_stopping(rt);
+        if is_over {
+            ports.resume_pop(rt);
+            return false;
+        }
+        if !rolls.awaits_audit(rt, look) && !rolls.is_stopping(rt) {
+            return true;
+        }
+    }
+    unreachable!()
+}
+
 /// Notes that the epoch leads, once a node does.
 fn note_leader<R: Wait, N: ServedNode>(rt: &R, life: &ServiceLife, nodes: &[N]) {
     let rolls = life.rolls();
@@ -169,9 +310,16 @@ fn note_leader<R: Wait, N: ServedNode>(rt: &R, life: &ServiceLife, nodes: &[N]) 
     }
 }
 
+/// Stops the nodes of an epoch whose changes can't be written any more. Returns whether the service ends: it does after a write that
+/// failed. After a want of memory the epoch alone ends, if there is a next one.
+fn ends_by_journal<R: Wait, N: ServedNode>(rt: &R, state: &ServiceState, nodes: &[N]) -> bool {
+    crash_all(nodes);
+    state.journal().written(rt).is_err() || !state.life().rolls().require(rt, state.epoch())
+}
+
 /// Waits until the epoch is to end, and reports the verdict on the one before it as soon as it is known. Unless the service
-/// stops, the epoch doesn't end before that.
-fn watch<R: System, W: Write, N: ServedNode>(
+/// stops, the epoch doesn't end before that. After a write that failed nobody waits for a verdict any more.
+fn watch<R: System + Files<File = File>, W: Write, N: ServedNode>(
     rt: &R,
     alloc: Global,
     on_fault: OnFault,
@@ -182,51 +330,39 @@ fn watch<R: System, W: Write, N: ServedNode>(
     writer: &mut W,
 ) -> Ending
     ensures kept { past.new.kept ≡ past.old.kept }
-    ensures rolled { result ≡ Rolled → past.new.pending ≡ None }
+    ensures rolled { IfRolled result (past.new.pending ≡ None) }
     ensures told { TellsOn (W.contents writer.old) (W.contents writer.new) past.old past.new }
 {
     let life = state.life();
     for _ in rt.forever() {
         note_leader(rt, life, nodes);
         let wake = life.rolls().wait(rt);
-        if state.journal().has_failed(rt) {
-            crash_all(nodes);
+        if state.journal().has_failed(rt) && ends_by_journal(rt, state, nodes) {
             life.stop(rt);
-            let _is_over = tell_verdict(rt, alloc, on_fault, life, past, writer);
-            return Ending::Rolled;
+            past.abandon();
+            return Ending::Over;
         }
         if matches!(wake, Wake::Stop) {
             return Ending::Stopped;
         }
-        let is_due = match wake {
-            Wake::Roll => true,
-            Wake::Quiet => is_quiet(rt, ports, state),
-            Wake::Stop | Wake::Audited | Wake::Behind | Wake::Look => false,
-        };
-        if matches!(wake, Wake::Behind) {
-            // Else each epoch would grow beyond the one before it while sessions come faster than they are audited.
-            ports.pause_pop(rt);
+        let is_over = matches!(wake, Wake::Behind) && !hold_back(rt, ports, state);
+        if is_over || matches!(wake, Wake::Look) {
+            continue;
         }
-        if is_due || matches!(wake, Wake::Audited | Wake::Behind) {
-            let is_over = tell_verdict(rt, alloc, on_fault, life, past, writer);
-            if is_over {
-                life.stop(rt);
-            }
-            if is_due || is_over {
-                return Ending::Rolled;
-            }
-            // The sessions of those who aren't held back may have ended meanwhile.
-            if matches!(wake, Wake::Behind) && is_quiet(rt, ports, state) {
-                return Ending::Rolled;
-            }
-            ports.resume_pop(rt);
+        if tell_verdict(rt, alloc, on_fault, life, past, writer) {
+            life.stop(rt);
+            return Ending::Over;
         }
+        if let Some(prepared) = due_end(rt, alloc, ports, state, nodes, wake, past) {
+            return Ending::Rolled(prepared);
+        }
+        ports.resume_pop(rt);
     }
     unreachable!()
 }
 
-/// Ends the threads of an epoch. If its service stops, its sessions go on to their ends; else they are ended. Then operators
-/// are heard no longer, and the nodes need no more time. Returns the threads of operators, who may still wait.
+/// Ends the threads of an epoch. If its service stops, its sessions go on to their ends; else they are ended. Then the nodes need no more
+/// time. Operators are heard until the next epoch hears them, or the service ends. Returns their threads.
 pub(crate) fn end_threads<R: System>(
     rt: &R,
     threads: EpochThreads,
@@ -240,23 +376,19 @@ pub(crate) fn end_threads<R: System>(
         peers,
         operators,
     } = threads;
-    match ending {
-        Ending::Stopped => ports.close_pop(rt),
-        Ending::Rolled => {
-            ports.hand_over_pop(rt);
-            ports.pause_ctl(rt);
-            state.draining().begin(rt);
-        }
-    }
-    if matches!(ending, Ending::Rolled) {
+    if matches!(ending, Ending::Stopped) {
+        ports.close_pop(rt);
+    } else {
+        ports.end_pop(rt);
+        state.close_deliveries(rt);
+        state.draining().begin(rt);
         wait_for_deliveries(rt, state);
     }
     join_all(rt, sessions);
     state.draining().end(rt);
     state.stages().end(rt);
-    match ending {
-        Ending::Stopped => ports.close_ctl(rt),
-        Ending::Rolled => ports.hand_over_ctl(rt),
+    if matches!(ending, Ending::Stopped | Ending::Over) {
+        ports.close_ctl(rt);
     }
     join_all(rt, nodes);
     ports.close_peers(rt);
@@ -298,7 +430,7 @@ struct NodesEnd<D: Service> {
 }
 
 /// Watches an epoch whose threads were started until it is to end. If they weren't, it ends at once.
-fn watch_started<R: System, W: Write, N: ServedNode>(
+fn watch_started<R: System + Files<File = File>, W: Write, N: ServedNode>(
     rt: &R,
     alloc: Global,
     started: Result<(), Fault>,
@@ -315,10 +447,12 @@ fn watch_started<R: System, W: Write, N: ServedNode>(
     let life = state.life();
     if started.is_err() {
         life.rolls().withdraw(rt);
-        return Ending::Rolled;
+        return Ending::Withdrawn;
     }
     if state.epoch() > 1 {
         life.log().roll(rt, state.epoch());
+    } else {
+        life.note_start(rt, state.epoch(), nodes);
     }
     watch(rt, alloc, on_fault, ports, state, nodes, past, writer)
 }
@@ -327,7 +461,7 @@ fn watch_started<R: System, W: Write, N: ServedNode>(
 /// be had: then nobody was served.
 fn serve_clients<
     D: Service + Send + Sync + 'static,
-    R: System,
+    R: System + Files<File = File>,
     L: Link + Drop + Send + Sync + 'static,
     W: Write,
 >(
@@ -354,9 +488,10 @@ fn serve_clients<
 }
 
 /// Serves clients over these nodes until the epoch ends, and stops them. After a fault nobody was served.
+#[tactic(auto, using(crate::proofs::Tells::after_same))]
 fn serve_nodes<
     D: Service + Send + Sync + 'static,
-    R: System,
+    R: System + Files<File = File>,
     L: Link + Drop + Send + Sync + 'static,
     W: Write,
 >(
@@ -385,6 +520,7 @@ fn serve_nodes<
     let (operators, served) = serve_clients(
         rt, alloc, settings, ports, &state, sessions, &desks, past, writer,
     );
+    past.release_memory();
     let stopped = service_nodes.stop();
     if journal.is_kept() && life.rolls().is_stopping(&rt) {
         // A write that they wait for may still fail, which is then why the service ends.
@@ -398,7 +534,7 @@ fn serve_nodes<
 }
 
 /// Starts the nodes of an epoch, serves clients until it ends, and stops them. After a fault nobody was served.
-fn run_nodes<D: Service + Send + Sync + 'static, R: System, W: Write>(
+fn run_nodes<D: Service + Send + Sync + 'static, R: System + Files<File = File>, W: Write>(
     rt: R,
     alloc: Global,
     settings: &Settings,
@@ -479,7 +615,11 @@ fn sessions_of<D: Service>(
 }
 
 /// Runs the nodes of an epoch and its sessions until it ends. After a fault nobody was served.
-pub(crate) fn run_epoch<D: Service + Send + Sync + 'static, R: System, W: Write>(
+pub(crate) fn run_epoch<
+    D: Service + Send + Sync + 'static,
+    R: System + Files<File = File>,
+    W: Write,
+>(
     rt: R,
     alloc: Global,
     settings: &Settings,

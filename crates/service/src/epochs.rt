@@ -1,7 +1,5 @@
 //! The epochs of a service, one after another.
-ghost use Rattle.std.specs.Arc.{arc_value};
-ghost use Rattle.std.specs.Prelude.{◌≡◌, ◌<◌, None, Ok, length, map, option_map, IfOk, IfSome};
-ghost use Rattle.apop.specs.Accounts.{name_of};
+ghost use Rattle.std.specs.Prelude.{◌≡◌, None, Ok, option_map, IfErr, IfOk, IfSome, IsErr};
 ghost use Rattle.cluster.specs.Ends.{IsLeftBy};
 ghost use Rattle.service.specs.Epochs as spec;
 ghost use Rattle.service.specs.EpochEnds.{IsLeftOf};
@@ -10,12 +8,11 @@ ghost use Rattle.service.specs.Epochs.{TellsOn};
 use crate::epoch::EndedEpoch;
 use crate::epoch_run::{EpochEnd, EpochLeft, run_epoch, tell_verdict};
 use crate::life::ServiceLife;
-use crate::options::{ServeOptions, Settings};
+use crate::options::{OnFault, Settings};
 use crate::past::Past;
-use crate::serve::{accounts_of, note_fault, setup_of};
+use crate::serve::setup_of;
 use crate::storage::Storage;
 use crate::threads::{Ports, join_all};
-use apop::Accounts;
 use ports::{Fault, System};
 use std::alloc::Global;
 use std::fs::File;
@@ -26,6 +23,7 @@ use std::rt::Files;
 use std::sync::Arc;
 use std::sync::ledger::Blank;
 use std::thread::JoinHandle;
+use std::time::Duration;
 
 /// The last epoch of a service.
 #[derive(Drop)]
@@ -69,46 +67,13 @@ impl PastOperators {
     }
 }
 
-/// The accounts of the file of this path. `NoAccounts` if it has none: it may be one that is being written.
-fn some_accounts_of<R: System + Files<File = File>>(
-    rt: &R,
-    alloc: Global,
-    path: &str,
-) -> Result<Arc<Accounts>, Fault>
-    ensures { IfOk result (λ accounts. 0 < length (map name_of (arc_value accounts))) }
-{
-    let accounts = accounts_of(rt, alloc, path)?;
-    if accounts.names().is_empty() {
-        return Err(Fault::NoAccounts);
-    }
-    Ok(Arc::new(alloc, accounts)?)
-}
-
-/// The accounts of the file, or those of the last epoch if it is faulty now.
-fn next_accounts<R: System + Files<File = File>>(
-    rt: &R,
-    alloc: Global,
-    options: &ServeOptions<'_>,
-    life: &ServiceLife,
-    last: Arc<Accounts>,
-) -> Arc<Accounts> {
-    match some_accounts_of(rt, alloc, options.accounts) {
-        Ok(accounts) => accounts,
-        Err(fault) => {
-            note_fault(rt, alloc, life.log(), None, fault);
-            last
-        }
-    }
-}
-
-/// Runs the next epoch with these accounts, once the segment for its changes is open.
+/// Runs the next epoch, once the segment for its changes is open.
 fn run_next<R: System + Files<File = File>, W: Write>(
     rt: R,
     alloc: Global,
     settings: &Settings,
     ports: &Ports,
     life: &Arc<ServiceLife>,
-    accounts: &Arc<Accounts>,
     storage: &mut Storage<R>,
     past: &mut Past,
     writer: &mut W,
@@ -117,10 +82,13 @@ fn run_next<R: System + Files<File = File>, W: Write>(
     ensures told { TellsOn (W.contents writer.old) (W.contents writer.new) past.old past.new }
     ensures end { IfOk result (λ end. IfSome end.left (IsLeftOf settings.now.cluster settings.now.window settings.now.limits settings.now.keys past.old.kept)) }
 {
-    let setup = setup_of(alloc, settings, accounts, past.kept()?)?;
-    let accounts = Arc::try_clone(accounts)?;
+    ports.pause_ctl(&rt);
+    past.release_descriptors();
+    let accounts = past.accounts()?;
+    let setup = setup_of(alloc, settings, &accounts, past.kept()?)?;
     let book = Blank::new(1);
     let journal = storage.begin_epoch(&rt, alloc, &setup)?;
+    past.release(&rt);
     run_epoch::<Brand, R, W>(
         rt, alloc, settings, ports, life, setup, accounts, book, &journal, past, writer,
     )
@@ -135,7 +103,6 @@ fn run_one<R: System + Files<File = File>, W: Write>(
     settings: &Settings,
     ports: &Ports,
     life: &Arc<ServiceLife>,
-    accounts: &Arc<Accounts>,
     operators: &mut PastOperators,
     storage: &mut Storage<R>,
     past: &mut Past,
@@ -149,24 +116,44 @@ fn run_one<R: System + Files<File = File>, W: Write>(
         operators: theirs,
         served,
         written,
-    } = run_next(
-        rt, alloc, settings, ports, life, accounts, storage, past, writer,
-    )?;
-    let is_over = tell_verdict(&rt, alloc, settings.on_fault, life, past, writer);
+    } = run_next(rt, alloc, settings, ports, life, storage, past, writer)?;
+    let is_over = tell_or_abandon(&rt, alloc, settings.on_fault, life, &written, past, writer);
     if is_over {
         life.stop(&rt);
     }
     if served.is_ok() {
         operators.add(&rt, life, theirs);
     } else {
-        // The ports stayed closed to them, so they answer nobody, and the next try has the number of this epoch.
+        // The ports were never handed over to them, so they answer nobody, and the next try has the number of this epoch.
         join_all(&rt, theirs);
     }
     add_or_end(rt, alloc, life, is_over, written, served, left, past)
 }
 
-/// Adds an epoch to those that have ended, or returns it if the service is over, as it is after a write that failed. An epoch in
-/// which nobody was served is dropped, and its fault is returned.
+/// Reports the verdict on the epoch before this one, and returns whether the service is to end because of it. After a write that
+/// failed nobody waits for the verdict.
+fn tell_or_abandon<R: System, W: Write>(
+    rt: &R,
+    alloc: Global,
+    on_fault: OnFault,
+    life: &ServiceLife,
+    written: &Result<(), Fault>,
+    past: &mut Past,
+    writer: &mut W,
+) -> bool
+    ensures kept { past.new.kept ≡ past.old.kept }
+    ensures pending { past.new.pending ≡ None }
+    ensures told { TellsOn (W.contents writer.old) (W.contents writer.new) past.old past.new }
+{
+    if written.is_err() {
+        past.abandon();
+        return true;
+    }
+    tell_verdict(rt, alloc, on_fault, life, past, writer)
+}
+
+/// Adds an epoch to those that have ended, or returns it if the service is over. An epoch in which nobody was served, or a write has
+/// failed, is dropped without an audit, and the fault is returned.
 fn add_or_end<R: System>(
     rt: R,
     alloc: Global,
@@ -184,18 +171,16 @@ fn add_or_end<R: System>(
     ensures good { past.new.is_good ≡ past.old.is_good }
     ensures added { result ≡ Ok None → option_map (λ left. left.epoch) left ≡ past.new.pending }
     ensures last { IfOk result (λ found. IfSome found (λ last. (past.new ≡ past.old) × (last.ended ≡ option_map (λ left. left.epoch) left))) }
+    ensures unwritten { IfErr written (λ _. IsErr result) }
 {
     served?;
-    let fault = written.err();
+    written?;
     let Some(EpochLeft { epoch, kept }) = left else {
-        return Ok(Some(LastEpoch { ended: None, fault }));
-    };
-    if fault.is_some() {
         return Ok(Some(LastEpoch {
-            ended: Some(epoch),
-            fault,
+            ended: None,
+            fault: None,
         }));
-    }
+    };
     if is_over || life.rolls().is_stopping(&rt) {
         return Ok(Some(LastEpoch {
             ended: Some(epoch),
@@ -212,17 +197,26 @@ fn add_or_end<R: System>(
     Ok(None)
 }
 
+/// How many seconds after an epoch couldn't begin it is tried again. The time doubles with each try.
+const FIRST_TRY_SECONDS: u64 = 1;
+
+/// After how many seconds without success the service ends.
+const LAST_TRY_SECONDS: u64 = 32;
+
+/// Whether what an epoch needs may be had later: memory, threads, or descriptors to read the data folder with.
+fn may_be_had_later(fault: Fault) -> bool {
+    matches!(fault, Fault::Memory | Fault::Read)
+}
+
 /// Runs epoch after epoch until the service is over, and returns the last one. It is judged by the caller, and all others are
-/// judged here. The accounts are read anew for each epoch. After a fault the last of those that have ended may still be
-/// audited.
+/// judged here. If one can't begin for want of memory, threads or descriptors, nothing is lost, and it is tried again for a
+/// minute, after 1 s, 2 s and so on. After a fault the last of those that have ended may still be audited.
 pub(crate) fn run_epochs<R: System + Files<File = File>, W: Write>(
     rt: R,
     alloc: Global,
-    options: &ServeOptions<'_>,
     settings: &Settings,
     ports: &Ports,
     life: &Arc<ServiceLife>,
-    accounts: Arc<Accounts>,
     operators: &mut PastOperators,
     storage: &mut Storage<R>,
     past: &mut Past,
@@ -231,24 +225,33 @@ pub(crate) fn run_epochs<R: System + Files<File = File>, W: Write>(
     ensures told { TellsOn (W.contents writer.old) (W.contents writer.new) past.old past.new }
     ensures last { IfOk result (λ last. (past.new.pending ≡ None) × IfSome last.ended (spec.IsEpochOf settings.now.cluster settings.now.window settings.now.limits settings.now.keys past.new.kept)) }
 {
-    let mut accounts = accounts;
+    let on_fault = settings.on_fault;
+    let mut seconds = FIRST_TRY_SECONDS;
     for _ in rt.forever() {
-        let was_auditing = past.is_auditing();
         let epoch = life.rolls().epoch(&rt);
         let ran = run_one(
-            rt, alloc, settings, ports, life, &accounts, operators, storage, past, writer,
+            rt, alloc, settings, ports, life, operators, storage, past, writer,
         );
         // If clients were served, what they were told is lost with their epoch, and no other one may take its place.
         let was_served = life.rolls().epoch(&rt) != epoch;
-        let may_try_again = was_auditing && !was_served;
+        let may_try_again = epoch > 0 && !was_served && seconds <= LAST_TRY_SECONDS;
         match ran {
             Ok(Some(last)) => return Ok(last),
-            Ok(None) => accounts = next_accounts(&rt, alloc, options, life, accounts),
-            Err(Fault::Memory) if may_try_again => {
+            Ok(None) => seconds = FIRST_TRY_SECONDS,
+            Err(fault) if may_try_again && may_be_had_later(fault) => {
+                ports.resume_ctl(&rt);
+                life.log().roll_failed(&rt, fault);
                 // There is more memory once the audit has ended.
-                if tell_verdict(&rt, alloc, settings.on_fault, life, past, writer) {
+                if tell_verdict(&rt, alloc, on_fault, life, past, writer) {
                     life.stop(&rt);
                 }
+                if life
+                    .rolls()
+                    .pauses_unless_over(&rt, Duration::from_secs(seconds))
+                {
+                    return Err(fault);
+                }
+                seconds = seconds.saturating_mul(2);
             }
             Err(fault) => return Err(fault),
         }

@@ -5,6 +5,8 @@ ghost use Rattle.service.specs.Stats as spec;
 
 use crate::announcements::Announcements;
 use crate::rolls::{EpochStats, RollLimits, Rolls};
+use crate::served_node::ServedNode;
+use crate::start_note::StartNote;
 use apop::{Stamp, stamp};
 use ballot::{Items, Memory};
 use pop3_wire::Reply;
@@ -35,6 +37,8 @@ pub(crate) struct ServiceLife {
     sessions: OpenSessions,
     counters: Counters,
     log: EventLog,
+    /// How it was started.
+    start: Option<StartNote>,
 }
 
 /// The reply to a login that is refused.
@@ -89,7 +93,26 @@ impl ServiceLife {
             sessions: OpenSessions::new(alloc),
             counters: Counters::new(rt),
             log,
+            start: None,
         })
+    }
+
+    /// The same, which knows how it was started.
+    pub(crate) fn with_start(mut self, start: StartNote) -> Self {
+        self.start = Some(start);
+        self
+    }
+
+    /// Notes in the log that the service takes clients from now on, beginning with this epoch over these nodes.
+    pub(crate) fn note_start<R: Wait + Clock, N: ServedNode>(
+        &self,
+        rt: &R,
+        epoch: u64,
+        nodes: &[N],
+    ) {
+        if let Some(start) = &self.start {
+            start.note(rt, &self.log, epoch, nodes);
+        }
     }
 
     /// The reply to a login that is refused.
@@ -158,7 +181,8 @@ impl ServiceLife {
         slots: u64,
     ) -> Result<Vec<u8>, Memory> {
         let open = self.sessions.count(rt);
-        let mut text = self.counters.stats(rt, open, slots).text(alloc)?;
+        let lost = self.log.lines_lost(rt);
+        let mut text = self.counters.stats(rt, open, slots, lost).text(alloc)?;
         text.truncate(text.len().saturating_sub(END.len()));
         put_epoch(&mut text, &self.rolls.stats(rt))?;
         if let Some(line) = &self.agreement {

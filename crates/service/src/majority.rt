@@ -107,7 +107,7 @@ pub(crate) fn crash_all<N: ServedNode>(nodes: &[N]) {
 /// Asks for the next epoch, and waits for the end of this one. Returns false if there is no next one, or the service stops.
 fn is_rolled<R: Wait + Clock>(rt: &R, state: &ServiceState) -> bool {
     let life = state.life();
-    if !life.rolls().ask(rt, state.epoch()) {
+    if !life.rolls().require(rt, state.epoch()) {
         return false;
     }
     for _ in rt.forever() {

@@ -1,15 +1,16 @@
 //! The connections of operators.
-ghost use Rattle.std.specs.Prelude.{◌≤◌, IfSome};
-ghost use Rattle.script.specs.Requests.{longest_request};
 
 use crate::asking::{Absence, Unanswered, ask};
-use crate::delivery::{Delivered, Delivery, DeliveryError, message_in, texts_in};
+use crate::delivery::{Delivered, Delivery, DeliveryError, message_in, texts_in, too_large_answer};
 use crate::furthest::{furthest_slot, furthest_up};
 use crate::maildrop_lines::{lock_lines, user_lines};
 use crate::operator_limits::{
-    BRIEF_LINE_MS, BROKEN_LOOK_MS, CUT_MS, END_LOOK_MS, LINE_MS, LOOK_MS, MOST_BROKEN_LOOKS,
+    BRIEF_LINE_MS, BROKEN_LOOK_MS, CUT_MS, END_LOOK_MS, ENDING_LOOK_MS, LINE_MS, LOOK_MS,
+    MOST_BROKEN_LOOKS, NEXT_EPOCH_MS,
 };
+use crate::operator_requests::{EpochReader, Unheard, hear};
 use crate::pop::node_for;
+use crate::rolls::{Asked, RollEnd};
 use crate::served_node::{OperatorOp, ServedNode};
 use crate::standing::put_standing;
 use crate::state::ServiceState;
@@ -17,13 +18,12 @@ use ballot::{Memory, NodeId};
 use ctl::awaits_nodes;
 use maildrop::{Key, Name, Outcome};
 use ports::{
-    Connection, DeliveryBudget, Fault, Handler, LONGEST_PAUSE_MS, OperatorReader, OperatorStream,
-    RequestPlaces, say,
+    Connection, DeliveryBudget, Fault, Handler, LONGEST_PAUSE_MS, OperatorConnection,
+    OperatorStream, RequestPlaces, ServeEnd, say,
 };
-use script::{KeyPrefix, LONGEST_REQUEST, Request, parse_request};
+use script::{KeyPrefix, Request};
 use session_log::{put, put_number_line};
 use std::alloc::Global;
-use std::io::Read;
 use std::net::{Shutdown, SocketAddr};
 use std::sync::{Arc, Wait};
 use std::time::{Clock, Duration};
@@ -56,46 +56,40 @@ pub(crate) struct OperatorHandler<R, N: ServedNode> {
     answer: Vec<u8>,
 }
 
-/// Reads up to the line feed into the buffer. Returns how many bytes stand before it, or nothing if these are too many or
-/// there is none.
-fn read_line<S: Read>(reader: &mut S, line: &mut [u8; LONGEST_REQUEST]) -> Option<usize>
-    ensures { IfSome result (λ len. len ≤ longest_request) }
-{
-    let mut byte = [0u8];
-    for len in 0..=LONGEST_REQUEST {
-        match reader.read(&mut byte) {
-            Ok(1) => {}
-            _ => return None,
-        }
-        if byte[0] == b'\n' {
-            return Some(len);
-        }
-        *line.get_mut(len)? = byte[0];
-    }
-    None
+/// What was done with a request.
+#[derive(Clone, Copy, Debug, PartialEq, Eq)]
+enum Answered {
+    /// It has its answer.
+    Told,
+    /// It waits for the next epoch.
+    NextEpoch,
 }
 
-/// Hears a request.
-fn hear<S: Read>(reader: &mut S) -> Option<Request> {
-    let mut line = [0u8; LONGEST_REQUEST];
-    match read_line(reader, &mut line) {
-        Some(len) => parse_request(&line[..len]),
-        None => None,
-    }
+/// Why a delivery has no room for its file.
+#[derive(Clone, Copy, Debug, PartialEq, Eq)]
+enum NoRoom {
+    /// The node is down.
+    Down,
+    /// The client has gone.
+    Gone,
+    /// No delivery begins in this epoch any more.
+    NextEpoch,
 }
 
 /// Says a line.
-fn tell(stream: &OperatorStream, line: &[u8]) -> Result<(), Fault> {
+fn tell(stream: &OperatorStream, line: &[u8]) -> Result<Answered, Fault> {
     let mut writer = stream;
-    say(&mut writer, line)
+    say(&mut writer, line)?;
+    Ok(Answered::Told)
 }
 
-/// Says why a node didn't answer. It writes nothing to a client that has gone.
-fn tell_why(stream: &OperatorStream, why: Unanswered) -> Result<(), Fault> {
-    match why {
-        Unanswered::Stopped => tell(stream, b"down\n"),
-        Unanswered::Gone => Err(Fault::Write),
-    }
+/// Whether a request asks for what only nodes know or do, and is answered at once. It is better asked once the next epoch has begun than
+/// while there are no nodes.
+fn asks_nodes(request: &Request) -> bool {
+    matches!(
+        request,
+        Request::Status | Request::Locks | Request::Users | Request::Crash { .. }
+    )
 }
 
 /// Whether a node is up.
@@ -154,55 +148,91 @@ impl<R: Wait + Clock + Copy, N: ServedNode + Drop> OperatorHandler<R, N> {
     }
 
     /// Serves a connection that has a place. One whose request waits for nodes keeps it until it is answered.
-    fn serve_in_place(&mut self, stream: &OperatorStream) {
-        let Ok(mut reader) = OperatorReader::new(self.rt, stream, LINE_MS) else {
+    fn serve_in_place(&mut self, connection: &OperatorConnection) -> ServeEnd {
+        let Ok(mut reader) = EpochReader::new(self.rt, connection, &self.state, LINE_MS) else {
             self.limits.places.leave(&self.rt);
-            return;
+            return ServeEnd::Closed;
         };
-        match hear(&mut reader) {
-            Some(request) if awaits_nodes(&request) => {
-                let _closed = self.answer_by_nodes(&request, &mut reader, stream);
+        let stream = connection.stream();
+        let heard = hear(&mut reader);
+        if let Ok(request) = &heard {
+            if awaits_nodes(request) {
+                let answered = self.answer_by_nodes(request, &mut reader, stream);
                 self.limits.places.leave(&self.rt);
-            }
-            request => {
-                self.limits.places.leave(&self.rt);
-                let _closed = self.answer_at_once(&request, stream, true);
+                return self.end_of(answered, &reader, stream);
             }
         }
+        self.limits.places.leave(&self.rt);
+        let answered = match &heard {
+            Err(Unheard::Unfinished) if self.state.is_followed(&self.rt) => Ok(Answered::NextEpoch),
+            Ok(request) if asks_nodes(request) && self.is_next_better() => Ok(Answered::NextEpoch),
+            Ok(request) => self.answer_at_once(request, stream, true),
+            Err(_) => self.tell_unheard(stream),
+        };
+        self.end_of(answered, &reader, stream)
     }
 
     /// Serves a connection that has no place, or may not even wait for the end of the service.
-    fn serve_without_place(&mut self, stream: &OperatorStream, may_wait: bool) {
-        let Ok(mut reader) = OperatorReader::new(self.rt, stream, BRIEF_LINE_MS) else {
+    fn serve_without_place(&mut self, connection: &OperatorConnection, may_wait: bool) {
+        let Ok(mut reader) = EpochReader::new(self.rt, connection, &self.state, BRIEF_LINE_MS)
+        else {
             return;
         };
-        let request = hear(&mut reader);
-        let _closed = self.answer_at_once(&request, stream, may_wait);
+        let stream = connection.stream();
+        let _closed = match &hear(&mut reader) {
+            Ok(request) => self.answer_at_once(request, stream, may_wait),
+            Err(_) => self.tell_unheard(stream),
+        };
+    }
+
+    /// What becomes of the connection of a request. If there is no memory to put it back, its sender may send the request again.
+    fn end_of(
+        &self,
+        answered: Result<Answered, Fault>,
+        reader: &EpochReader<'_, R>,
+        stream: &OperatorStream,
+    ) -> ServeEnd {
+        match answered {
+            Ok(Answered::NextEpoch) if reader.put_back(self.alloc).is_ok() => ServeEnd::PutBack,
+            Ok(Answered::NextEpoch) => {
+                let _untold = tell(stream, b"down\n");
+                ServeEnd::Closed
+            }
+            Ok(Answered::Told) | Err(_) => ServeEnd::Closed,
+        }
+    }
+
+    /// Whether this epoch has ended, and the next one answers within 2 s.
+    fn is_next_better(&self) -> bool {
+        let time = Duration::from_millis(NEXT_EPOCH_MS);
+        self.state.stages().has_ended(&self.rt)
+            && self.state.is_followed(&self.rt)
+            && self
+                .state
+                .life()
+                .rolls()
+                .follows_within(&self.rt, self.state.epoch(), time)
     }
 
     /// Answers a request that needs no place: it waits for no node, or for 10 seconds at most. Others are not answered.
     fn answer_at_once(
         &mut self,
-        request: &Option<Request>,
+        request: &Request,
         stream: &OperatorStream,
         may_wait: bool,
-    ) -> Result<(), Fault> {
+    ) -> Result<Answered, Fault> {
         match request {
-            None => tell(stream, b"bad request\n"),
-            Some(Request::Status) => self.tell_status(stream),
-            Some(Request::Sessions) => self.tell_sessions(stream),
-            Some(Request::Stats) => self.tell_stats(stream),
-            Some(Request::Kick { user }) => self.kick(user, stream),
-            Some(Request::Locks) => self.tell_locks(stream),
-            Some(Request::Users) => self.tell_users(stream),
-            Some(Request::Crash { node }) => self.crash(*node, stream, may_wait),
-            Some(Request::Stop { now, wait }) => self.stop(*now, *wait, stream, may_wait),
-            Some(
-                Request::Deliver { .. }
-                | Request::Put { .. }
-                | Request::Break { .. }
-                | Request::Roll,
-            ) => Ok(()),
+            Request::Status => self.tell_status(stream),
+            Request::Sessions => self.tell_sessions(stream),
+            Request::Stats => self.tell_stats(stream),
+            Request::Kick { user } => self.kick(user, stream),
+            Request::Locks => self.tell_locks(stream),
+            Request::Users => self.tell_users(stream),
+            Request::Reopen => self.reopen(stream),
+            Request::Crash { node } => self.crash(*node, stream, may_wait),
+            Request::Stop { now, wait } => self.stop(*now, *wait, stream, may_wait),
+            Request::Deliver { .. } | Request::Put { .. } | Request::Break { .. } | Request::Roll =>
+                Ok(Answered::Told),
         }
     }
 
@@ -210,12 +240,19 @@ impl<R: Wait + Clock + Copy, N: ServedNode + Drop> OperatorHandler<R, N> {
     fn answer_by_nodes(
         &self,
         request: &Request,
-        reader: &mut OperatorReader<'_, R>,
+        reader: &mut EpochReader<'_, R>,
         stream: &OperatorStream,
-    ) -> Result<(), Fault> {
+    ) -> Result<Answered, Fault> {
         match request {
-            Request::Deliver { count, .. } | Request::Put { count, .. }
-                if *count > self.most_file => { tell(stream, b"bad request\n") }
+            Request::Deliver { count, .. } if *count > self.most_file => {
+                tell(stream, b"bad request\n")
+            }
+            Request::Put {
+                node,
+                user,
+                count,
+                ..
+            } if *count > self.most_file => self.tell_too_large(node, user, stream),
             Request::Deliver {
                 node,
                 user,
@@ -230,28 +267,36 @@ impl<R: Wait + Clock + Copy, N: ServedNode + Drop> OperatorHandler<R, N> {
             } => self.put_message(node, *user, *count, key, reader, stream),
             Request::Break { node, user } => self.break_lock(*node, *user, stream),
             Request::Roll => self.roll(stream),
-            _ => Ok(()),
+            _ => Ok(Answered::Told),
         }
     }
 
-    fn tell_status(&mut self, stream: &OperatorStream) -> Result<(), Fault> {
+    /// Reports that a request can't be read, or wasn't whole as the service ended: then it may be sent again.
+    fn tell_unheard(&self, stream: &OperatorStream) -> Result<Answered, Fault> {
+        if self.state.stages().has_ended(&self.rt) && !self.state.is_followed(&self.rt) {
+            return tell(stream, b"down\n");
+        }
+        tell(stream, b"bad request\n")
+    }
+
+    fn tell_status(&mut self, stream: &OperatorStream) -> Result<Answered, Fault> {
         self.answer.clear();
         put_status(&self.nodes, &mut self.answer)?;
         tell(stream, self.answer.as_slice())
     }
 
-    fn tell_sessions(&self, stream: &OperatorStream) -> Result<(), Fault> {
+    fn tell_sessions(&self, stream: &OperatorStream) -> Result<Answered, Fault> {
         let lines = self.state.life().sessions().lines(&self.rt, self.alloc)?;
         tell(stream, lines.as_slice())
     }
 
-    fn tell_stats(&self, stream: &OperatorStream) -> Result<(), Fault> {
+    fn tell_stats(&self, stream: &OperatorStream) -> Result<Answered, Fault> {
         let slots = furthest_slot(&self.nodes);
         let lines = self.state.life().stats(&self.rt, self.alloc, slots)?;
         tell(stream, lines.as_slice())
     }
 
-    fn tell_locks(&self, stream: &OperatorStream) -> Result<(), Fault> {
+    fn tell_locks(&self, stream: &OperatorStream) -> Result<Answered, Fault> {
         let Some(node) = furthest_up(&self.nodes) else {
             return tell(stream, b"down\n");
         };
@@ -260,7 +305,7 @@ impl<R: Wait + Clock + Copy, N: ServedNode + Drop> OperatorHandler<R, N> {
         tell(stream, lines.as_slice())
     }
 
-    fn tell_users(&self, stream: &OperatorStream) -> Result<(), Fault> {
+    fn tell_users(&self, stream: &OperatorStream) -> Result<Answered, Fault> {
         let Some(node) = furthest_up(&self.nodes) else {
             return tell(stream, b"down\n");
         };
@@ -270,15 +315,31 @@ impl<R: Wait + Clock + Copy, N: ServedNode + Drop> OperatorHandler<R, N> {
     }
 
     /// Cuts the sessions of a user, and reports how many these are.
-    fn kick(&mut self, user: &Name, stream: &OperatorStream) -> Result<(), Fault> {
+    fn kick(&mut self, user: &Name, stream: &OperatorStream) -> Result<Answered, Fault> {
         let count = self.state.life().sessions().kick(&self.rt, user);
         self.answer.clear();
         put_number_line(&mut self.answer, b"kicked ", count as u64)?;
         tell(stream, self.answer.as_slice())
     }
 
+    /// Has the log's file opened anew, and reports that.
+    fn reopen(&self, stream: &OperatorStream) -> Result<Answered, Fault> {
+        match self.state.life().log().reopen(&self.rt) {
+            Ok(()) => tell(stream, b"reopened\n"),
+            Err(fault) => {
+                let line = format!(in self.alloc; "reopen failed: {fault}\n")?;
+                tell(stream, line.as_bytes())
+            }
+        }
+    }
+
     /// Stops a node, and reports it once the locks of its sessions are broken, if that takes no longer than it may.
-    fn crash(&self, number: NodeId, stream: &OperatorStream, may_wait: bool) -> Result<(), Fault> {
+    fn crash(
+        &self,
+        number: NodeId,
+        stream: &OperatorStream,
+        may_wait: bool,
+    ) -> Result<Answered, Fault> {
         match node_up(&self.nodes, Some(number)) {
             Some(node) if node.crash() => {
                 self.state.life().log().crash(&self.rt, number);
@@ -312,7 +373,7 @@ impl<R: Wait + Clock + Copy, N: ServedNode + Drop> OperatorHandler<R, N> {
         waits: bool,
         stream: &OperatorStream,
         may_wait: bool,
-    ) -> Result<(), Fault> {
+    ) -> Result<Answered, Fault> {
         self.state.life().log().stop(&self.rt);
         self.state.life().stop(&self.rt);
         let told = tell(stream, b"stopping\n");
@@ -326,7 +387,7 @@ impl<R: Wait + Clock + Copy, N: ServedNode + Drop> OperatorHandler<R, N> {
         if waits && may_wait {
             return self.tell_end(stream);
         }
-        Ok(())
+        Ok(Answered::Told)
     }
 
     /// Cuts the sessions that are open, and those that come until all have ended.
@@ -342,7 +403,7 @@ impl<R: Wait + Clock + Copy, N: ServedNode + Drop> OperatorHandler<R, N> {
     }
 
     /// Reports how the service has ended, once it has.
-    fn tell_end(&self, stream: &OperatorStream) -> Result<(), Fault> {
+    fn tell_end(&self, stream: &OperatorStream) -> Result<Answered, Fault> {
         let life = self.state.life();
         let look = Duration::from_millis(END_LOOK_MS);
         for _ in self.rt.forever() {
@@ -355,40 +416,83 @@ impl<R: Wait + Clock + Copy, N: ServedNode + Drop> OperatorHandler<R, N> {
                 let line = announcement.line(self.alloc)?;
                 tell(stream, line.as_bytes())
             }
-            None => Ok(()),
+            None => Ok(Answered::Told),
         }
     }
 
-    /// Ends the epoch, and reports that the next one has begun once a node of it leads. A service whose nodes have ports has
-    /// only one epoch.
-    fn roll(&self, stream: &OperatorStream) -> Result<(), Fault> {
-        let rolls = self.state.life().rolls();
-        if !rolls.ask(&self.rt, self.state.epoch()) {
-            return tell(stream, b"bad request\n");
+    /// Asks for the end of the epoch. If it is about to end, and the accounts were read before this request, waits until it is certain
+    /// whether it ends.
+    fn ask_to_roll(&self) -> Asked {
+        let life = self.state.life();
+        let look = Duration::from_millis(ENDING_LOOK_MS);
+        for _ in self.rt.forever() {
+            let asked = life.rolls().ask(&self.rt, self.state.epoch());
+            let is_certain = !matches!(asked, Asked::TooLate)
+                || self.state.is_followed(&self.rt)
+                || life.stages().is_stopping(&self.rt);
+            if is_certain || life.rolls().pauses(&self.rt, self.state.epoch(), look) {
+                return asked;
+            }
         }
-        if rolls.waits_for_next(&self.rt, self.state.epoch()) {
-            tell(stream, b"rolled\n")
-        } else {
-            tell(stream, b"down\n")
+        unreachable!()
+    }
+
+    /// Ends the epoch, and reports that the next one has begun once a node of it leads, or why the epoch goes on. A service whose
+    /// nodes have ports has only one epoch.
+    fn roll(&self, stream: &OperatorStream) -> Result<Answered, Fault> {
+        let (rolls, epoch) = (self.state.life().rolls(), self.state.epoch());
+        let refusals = match self.ask_to_roll() {
+            Asked::Never => return tell(stream, b"bad request\n"),
+            Asked::TooLate => return self.tell_closed(stream),
+            Asked::Noted(refusals) => refusals,
+        };
+        match rolls.waits_for_next(&self.rt, epoch, refusals) {
+            RollEnd::Rolled => tell(stream, b"rolled\n"),
+            RollEnd::Over => tell(stream, b"down\n"),
+            RollEnd::Refused(fault) => {
+                let line = format!(in self.alloc; "roll failed: {fault}\n")?;
+                tell(stream, line.as_bytes())
+            }
         }
     }
 
-    /// Waits until a file of so many bytes may come, for as long as its node is up and its client is there.
-    fn take_room(&self, node: &N, count: u64, stream: &OperatorStream) -> Result<(), Unanswered> {
+    /// Waits until a file of so many bytes may come, for as long as its node is up, its client is there, and deliveries begin in this
+    /// epoch.
+    fn take_room(&self, node: &N, count: u64, stream: &OperatorStream) -> Result<(), NoRoom> {
         let look = Duration::from_millis(LOOK_MS);
         let mut absence = Absence::new();
         for _ in self.rt.forever() {
             if self.limits.budget.take_within(&self.rt, count, look) {
                 return Ok(());
             }
+            if self.state.is_followed(&self.rt) {
+                return Err(NoRoom::NextEpoch);
+            }
             if !is_up(node) {
-                return Err(Unanswered::Stopped);
+                return Err(NoRoom::Down);
             }
             if absence.look(stream) {
-                return Err(Unanswered::Gone);
+                return Err(NoRoom::Gone);
             }
         }
         unreachable!()
+    }
+
+    /// Reports that nothing can be delivered, unless the next epoch takes deliveries.
+    fn tell_closed(&self, stream: &OperatorStream) -> Result<Answered, Fault> {
+        if self.state.is_followed(&self.rt) {
+            return Ok(Answered::NextEpoch);
+        }
+        tell(stream, b"down\n")
+    }
+
+    /// Reports why there is no room for a file.
+    fn tell_no_room(&self, why: NoRoom, stream: &OperatorStream) -> Result<Answered, Fault> {
+        match why {
+            NoRoom::Down => tell(stream, b"down\n"),
+            NoRoom::Gone => Err(Fault::Write),
+            NoRoom::NextEpoch => self.tell_closed(stream),
+        }
     }
 
     /// The node at which mail is stored: that of this number, or any that is up. None once the service stops, since its mail
@@ -407,22 +511,35 @@ impl<R: Wait + Clock + Copy, N: ServedNode + Drop> OperatorHandler<R, N> {
         user: Name,
         count: u64,
         key: &Option<KeyPrefix>,
-        reader: &mut OperatorReader<'_, R>,
+        reader: &mut EpochReader<'_, R>,
         stream: &OperatorStream,
-    ) -> Result<(), Fault> {
-        let Some(node) = self.node_to_store(Some(number)) else {
-            return tell(stream, b"down\n");
-        };
-        self.state.begin_delivery(&self.rt);
-        let told = match self.take_room(node, count, stream) {
-            Ok(()) => {
-                let told = self.deliver_file(node, user, count, key, reader, stream);
-                self.limits.budget.give(&self.rt, count);
-                told
-            }
-            Err(why) => tell_why(stream, why),
+    ) -> Result<Answered, Fault> {
+        if !self.state.begin_delivery(&self.rt) {
+            return self.tell_closed(stream);
+        }
+        let told = match self.node_to_store(Some(number)) {
+            Some(node) => self.deliver_at(node, user, count, key, reader, stream),
+            None => tell(stream, b"down\n"),
         };
         self.state.end_delivery(&self.rt);
+        told
+    }
+
+    /// The same at a node, once there is room for the file.
+    fn deliver_at(
+        &self,
+        node: &N,
+        user: Name,
+        count: u64,
+        key: &Option<KeyPrefix>,
+        reader: &mut EpochReader<'_, R>,
+        stream: &OperatorStream,
+    ) -> Result<Answered, Fault> {
+        if let Err(why) = self.take_room(node, count, stream) {
+            return self.tell_no_room(why, stream);
+        }
+        let told = self.deliver_file(node, user, count, key, reader, stream);
+        self.limits.budget.give(&self.rt, count);
         told
     }
 
@@ -432,9 +549,9 @@ impl<R: Wait + Clock + Copy, N: ServedNode + Drop> OperatorHandler<R, N> {
         user: Name,
         count: u64,
         key: &Option<KeyPrefix>,
-        reader: &mut OperatorReader<'_, R>,
+        reader: &mut EpochReader<'_, R>,
         stream: &OperatorStream,
-    ) -> Result<(), Fault> {
+    ) -> Result<Answered, Fault> {
         if reader.begin_file().is_err() {
             return Err(Fault::Read);
         }
@@ -446,7 +563,34 @@ impl<R: Wait + Clock + Copy, N: ServedNode + Drop> OperatorHandler<R, N> {
         let delivery = self.delivery(node, user, stream);
         let told = delivery.deliver_all(texts, key, &mut delivered);
         self.note(node, &user, count, &delivered);
-        told
+        told?;
+        Ok(Answered::Told)
+    }
+
+    /// Reports that a message is larger than any that is taken, if the user has an account.
+    fn tell_too_large(
+        &self,
+        number: &Option<NodeId>,
+        user: &Name,
+        stream: &OperatorStream,
+    ) -> Result<Answered, Fault> {
+        let Some(node) = self.node_to_store(*number) else {
+            return self.tell_closed(stream);
+        };
+        if !self.state.accounts().has(user) {
+            return self.tell_no_user(stream);
+        }
+        let answer = too_large_answer(self.alloc, user, node.me())?;
+        tell(stream, answer.as_slice())
+    }
+
+    /// Reports that there is no account of this name. If the accounts file couldn't be read last time nobody knows that, and the
+    /// message may be sent again.
+    fn tell_no_user(&self, stream: &OperatorStream) -> Result<Answered, Fault> {
+        if !self.state.life().rolls().has_read_accounts(&self.rt) {
+            return tell(stream, b"down\n");
+        }
+        tell(stream, b"no such user\n")
     }
 
     /// Has the message that follows delivered, and reports its outcome.
@@ -456,25 +600,36 @@ impl<R: Wait + Clock + Copy, N: ServedNode + Drop> OperatorHandler<R, N> {
         user: Name,
         count: u64,
         key: &Option<Key>,
-        reader: &mut OperatorReader<'_, R>,
+        reader: &mut EpochReader<'_, R>,
         stream: &OperatorStream,
-    ) -> Result<(), Fault> {
-        let Some(node) = self.node_to_store(*number) else {
-            return tell(stream, b"down\n");
-        };
-        if !self.state.accounts().has(&user) {
-            return tell(stream, b"no such user\n");
+    ) -> Result<Answered, Fault> {
+        if !self.state.begin_delivery(&self.rt) {
+            return self.tell_closed(stream);
         }
-        self.state.begin_delivery(&self.rt);
-        let told = match self.take_room(node, count, stream) {
-            Ok(()) => {
-                let told = self.put_file(node, user, count, key, reader, stream);
-                self.limits.budget.give(&self.rt, count);
-                told
-            }
-            Err(why) => tell_why(stream, why),
+        let told = match self.node_to_store(*number) {
+            Some(_) if !self.state.accounts().has(&user) => self.tell_no_user(stream),
+            Some(node) => self.put_at(node, user, count, key, reader, stream),
+            None => tell(stream, b"down\n"),
         };
         self.state.end_delivery(&self.rt);
+        told
+    }
+
+    /// The same at a node, once there is room for the message.
+    fn put_at(
+        &self,
+        node: &N,
+        user: Name,
+        count: u64,
+        key: &Option<Key>,
+        reader: &mut EpochReader<'_, R>,
+        stream: &OperatorStream,
+    ) -> Result<Answered, Fault> {
+        if let Err(why) = self.take_room(node, count, stream) {
+            return self.tell_no_room(why, stream);
+        }
+        let told = self.put_file(node, user, count, key, reader, stream);
+        self.limits.budget.give(&self.rt, count);
         told
     }
 
@@ -484,9 +639,9 @@ impl<R: Wait + Clock + Copy, N: ServedNode + Drop> OperatorHandler<R, N> {
         user: Name,
         count: u64,
         key: &Option<Key>,
-        reader: &mut OperatorReader<'_, R>,
+        reader: &mut EpochReader<'_, R>,
         stream: &OperatorStream,
-    ) -> Result<(), Fault> {
+    ) -> Result<Answered, Fault> {
         if reader.begin_file().is_err() {
             return Err(Fault::Read);
         }
@@ -498,16 +653,20 @@ impl<R: Wait + Clock + Copy, N: ServedNode + Drop> OperatorHandler<R, N> {
         let delivery = self.delivery(node, user, stream);
         let told = delivery.deliver_one(text, *key, &mut delivered);
         self.note(node, &user, count, &delivered);
-        told
+        told?;
+        Ok(Answered::Told)
     }
 
     /// Reports why nothing of a file is delivered. One that is cut short as the epoch ends may be sent again.
-    fn tell_cut(&self, error: DeliveryError, stream: &OperatorStream) -> Result<(), Fault> {
+    fn tell_cut(&self, error: DeliveryError, stream: &OperatorStream) -> Result<Answered, Fault> {
         match error {
             DeliveryError::Short if self.state.stages().has_ended(&self.rt) => {
                 tell(stream, b"down\n")
             }
-            error => error.tell(stream),
+            error => {
+                error.tell(stream)?;
+                Ok(Answered::Told)
+            }
         }
     }
 
@@ -544,15 +703,32 @@ impl<R: Wait + Clock + Copy, N: ServedNode + Drop> OperatorHandler<R, N> {
     }
 
     /// Has a user's lock broken, and reports the outcome.
-    fn break_lock(&self, number: NodeId, user: Name, stream: &OperatorStream) -> Result<(), Fault> {
+    fn break_lock(
+        &self,
+        number: NodeId,
+        user: Name,
+        stream: &OperatorStream,
+    ) -> Result<Answered, Fault> {
         let Some(node) = node_up(&self.nodes, Some(number)) else {
-            return tell(stream, b"down\n");
+            return self.tell_unbroken(&user, stream);
         };
         match ask(&self.rt, node, stream, user, OperatorOp::Break) {
             Ok((_, Outcome::Done)) => tell(stream, b"done\n"),
             Ok(_) => tell(stream, b"no such user\n"),
-            Err(why) => tell_why(stream, why),
+            Err(Unanswered::Stopped) => self.tell_unbroken(&user, stream),
+            Err(Unanswered::Gone) => Err(Fault::Write),
         }
+    }
+
+    /// Reports that a node that is down breaks no lock. If it is down as its epoch has ended, so has the lock.
+    fn tell_unbroken(&self, user: &Name, stream: &OperatorStream) -> Result<Answered, Fault> {
+        if !self.state.stages().has_ended(&self.rt) || !self.state.is_followed(&self.rt) {
+            return tell(stream, b"down\n");
+        }
+        if self.state.accounts().has(user) {
+            return tell(stream, b"done\n");
+        }
+        tell(stream, b"no such user\n")
     }
 }
 
@@ -562,20 +738,24 @@ fn prepare(stream: &OperatorStream, pause_ms: u64) {
     stream.set_write_timeout(Duration::from_millis(pause_ms));
 }
 
-impl<R: Wait + Clock + Copy, N: ServedNode + Drop> Handler<OperatorStream>
+impl<R: Wait + Clock + Copy, N: ServedNode + Drop> Handler<OperatorConnection>
     for OperatorHandler<R, N> {
-    fn serve(&mut self, stream: &Arc<OperatorStream>, _peer: SocketAddr) {
-        prepare(stream, LONGEST_PAUSE_MS);
+    fn serve(&mut self, connection: &Arc<OperatorConnection>, _peer: SocketAddr) -> ServeEnd {
+        prepare(connection.stream(), LONGEST_PAUSE_MS);
         if self.limits.places.take(&self.rt) {
-            self.serve_in_place(stream);
-        } else {
-            self.serve_without_place(stream, true);
+            return self.serve_in_place(connection);
         }
+        self.serve_without_place(connection, true);
+        ServeEnd::Closed
     }
 
-    fn serve_briefly(&mut self, stream: &OperatorStream, _peer: SocketAddr) {
-        prepare(stream, BRIEF_LINE_MS);
-        self.serve_without_place(stream, false);
+    fn turn_away(&self, connection: &OperatorConnection) {
+        let _untold = tell(connection.stream(), b"down\n");
+    }
+
+    fn serve_briefly(&mut self, connection: &OperatorConnection, _peer: SocketAddr) {
+        prepare(connection.stream(), BRIEF_LINE_MS);
+        self.serve_without_place(connection, false);
     }
 
     fn share(&self) -> Result<Self, Memory> {

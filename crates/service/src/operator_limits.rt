@@ -9,11 +9,17 @@ pub(crate) const BRIEF_LINE_MS: u64 = 1_000;
 /// After how many milliseconds a request that waits looks again whether its client has gone.
 pub(crate) const LOOK_MS: u64 = 400;
 
+/// For how many milliseconds a request that needs the nodes waits for the next epoch, once this one has ended.
+pub(crate) const NEXT_EPOCH_MS: u64 = 1_500;
+
 /// How often the sessions are cut that come although the service stops at once, in milliseconds.
 pub(crate) const CUT_MS: u64 = 100;
 
 /// After how many milliseconds a request that waits for the end of the service looks again.
 pub(crate) const END_LOOK_MS: u64 = 1_000;
+
+/// After how many milliseconds a request for the end of an epoch looks again whether it ends already.
+pub(crate) const ENDING_LOOK_MS: u64 = 20;
 
 /// How many milliseconds lie between two looks whether the locks are broken that sessions of a stopped node hold.
 pub(crate) const BROKEN_LOOK_MS: u64 = 50;

@@ -7,7 +7,7 @@ use crate::state::ServiceState;
 use ballot::{Cluster, Envelope, Memory};
 use maildrop::SharedCommand;
 use peer_wire::{Inbox, receive};
-use ports::Handler;
+use ports::{Handler, ServeEnd};
 use std::alloc::Global;
 use std::net::{SocketAddr, TcpStream};
 use std::sync::{Arc, Wait};
@@ -68,10 +68,15 @@ impl<R: Wait, N: ServedNode> Inbox<Envelope<SharedCommand>> for PeerHandler<R, N
 }
 
 impl<R: Wait + Copy, N: ServedNode + Drop> Handler<TcpStream> for PeerHandler<R, N> {
-    fn serve(&mut self, stream: &Arc<TcpStream>, _peer: SocketAddr) {
+    fn serve(&mut self, stream: &Arc<TcpStream>, _peer: SocketAddr) -> ServeEnd {
         let mut reader: &TcpStream = stream;
         let alloc = self.alloc;
         let _ended = receive(alloc, LONGEST_CONTENT, &mut reader, self);
+        ServeEnd::Closed
+    }
+
+    fn turn_away(&self, _stream: &TcpStream) {
+        // None is put back.
     }
 
     fn serve_briefly(&mut self, _stream: &TcpStream, _peer: SocketAddr) {

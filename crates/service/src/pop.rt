@@ -9,7 +9,7 @@ use crate::state::ServiceState;
 use apop::Stamp;
 use ballot::{Memory, NodeId};
 use cluster::Link;
-use ports::Handler;
+use ports::{Handler, ServeEnd};
 use session::End;
 use session_log::{
     BoundedReader, OpenSession, ReplyWriter, SessionFacts, SharedFacts, WRITE_SECONDS, ending_of,
@@ -164,16 +164,20 @@ impl<D: Service, R: RandomSource + Wait + Clock + Copy, L: Link + Drop> PopHandl
 
 impl<D: Service, R: RandomSource + Wait + Clock + Copy, L: Link + Drop> Handler<TcpStream>
     for PopHandler<D, R, L> {
-    fn serve(&mut self, stream: &Arc<TcpStream>, peer: SocketAddr) {
+    fn serve(&mut self, stream: &Arc<TcpStream>, peer: SocketAddr) -> ServeEnd {
         // What is written goes out at once, and a client that takes nothing isn't waited for without an end.
         let _slower = stream.set_nodelay(true);
         let _unbounded = stream.set_write_timeout(Some(Duration::from_secs(WRITE_SECONDS)));
-        let Some(node) = self.node() else {
-            return;
-        };
-        if let Some((number, stamp)) = self.state.life().new_stamp(&self.rt, self.alloc) {
-            self.serve_at(node, number, stamp, stream, peer);
+        if let Some(node) = self.node() {
+            if let Some((number, stamp)) = self.state.life().new_stamp(&self.rt, self.alloc) {
+                self.serve_at(node, number, stamp, stream, peer);
+            }
         }
+        ServeEnd::Closed
+    }
+
+    fn turn_away(&self, _stream: &TcpStream) {
+        // None is put back.
     }
 
     fn serve_briefly(&mut self, _stream: &TcpStream, _peer: SocketAddr) {

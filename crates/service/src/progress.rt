@@ -1,9 +1,10 @@
 //! How far the epochs of a service have come, and what is to be done for them.
-ghost use Rattle.std.specs.Prelude.{◌≡◌, ◌||◌, ℕ, true, false, None};
+ghost use Rattle.std.specs.Prelude.{◌≡◌, ◌||◌, ℕ, true, false, None, if◌then◌else◌};
 ghost use Rattle.service.specs.Rolls.{highest, no_load};
 ghost use Rattle.service.specs.Wakes as spec;
 
 use crate::rolls::{Due, EpochLoad, RollLimits, has_reached, when_due};
+use ports::Fault;
 use std::time::{Clock, Instant};
 
 /// After how many milliseconds the epoch is looked at again.
@@ -59,6 +60,14 @@ pub(crate) struct Progress {
     pub retry_ms: u64,
     /// Whether an operator, or want of a majority, asks for the end of this epoch.
     pub is_asked: bool,
+    /// Whether want of a majority does.
+    pub is_required: bool,
+    /// How many times the end of an epoch was refused to operators.
+    pub refusals: u64,
+    /// Why it was refused last.
+    pub refusal: Option<Fault>,
+    /// The epoch whose end was refused last.
+    pub refused: u64,
     /// Whether the audit of the epoch before this one goes on.
     pub is_auditing: bool,
     /// Whether it has ended, and nobody was told so yet.
@@ -95,6 +104,10 @@ impl Progress {
             tried: None,
             retry_ms: 0,
             is_asked: false,
+            is_required: false,
+            refusals: 0,
+            refusal: None,
+            refused: 0,
             is_auditing: false,
             has_audited: false,
             is_stopping: false,
@@ -108,7 +121,7 @@ impl Progress {
         ensures load { self.new.load ≡ no_load }
         ensures untried { (self.new.has_tried ≡ false) × (self.new.tried ≡ None) }
         ensures retry { self.new.retry_ms ≡ 10 }
-        ensures unasked { self.new.is_asked ≡ false }
+        ensures unasked { (self.new.is_asked ≡ false) × (self.new.is_required ≡ false) }
         ensures rest { self.new ≡ record self.old {
           epoch = self.new.epoch;
           began = self.new.began;
@@ -117,6 +130,7 @@ impl Progress {
           tried = self.new.tried;
           retry_ms = self.new.retry_ms;
           is_asked = self.new.is_asked;
+          is_required = self.new.is_required;
         } }
     {
         self.epoch = self.epoch.saturating_add(1);
@@ -126,6 +140,30 @@ impl Progress {
         self.tried = None;
         self.retry_ms = FIRST_RETRY_MS;
         self.is_asked = false;
+        self.is_required = false;
+    }
+
+    /// Whether the end of this epoch was refused since there were so many refusals.
+    pub(crate) fn has_refused(&self, epoch: u64, refusals: u64) -> bool
+        ensures { result ≡ spec.has_refused self.now epoch refusals }
+    {
+        self.refused == epoch && self.refusals > refusals
+    }
+
+    /// Refuses the end of this epoch to the operators who ask for it, for this reason. Returns false if none asks, or a majority is
+    /// wanting: then the epoch ends in any case.
+    pub(crate) fn refuse(&mut self, fault: Fault) -> bool
+        ensures refused { result ≡ spec.may_refuse self.old }
+        ensures so { self.new ≡ (if spec.may_refuse self.old then spec.after_refusal fault self.old else self.old) }
+    {
+        if !self.is_asked || self.is_required {
+            return false;
+        }
+        self.is_asked = false;
+        self.refusals = self.refusals.saturating_add(1);
+        self.refusal = Some(fault);
+        self.refused = self.epoch;
+        true
     }
 
     /// Whether the epoch has as much as a limit, and no moment without an open session was looked for yet.

@@ -3,6 +3,7 @@ ghost use Rattle.std.specs.Prelude.{◌≡◌};
 ghost use Rattle.service.specs.Rolls as spec;
 
 use crate::progress::{Progress, Wake, millis_since};
+use ports::Fault;
 use std::sync::{Condvar, Mutex, Wait};
 use std::time::{Clock, Duration};
 
@@ -17,6 +18,9 @@ const COMMAND_BYTES: u64 = 2_700;
 
 /// How many bytes are kept for a message that a login lists, about.
 const LISTED_BYTES: u64 = 25;
+
+/// How many bytes are kept for a line of a session beside its own: four, and room for as many more.
+const LINE_BYTES: u64 = 8;
 
 /// From how many sessions on, and from how many bytes kept for its audit on, an epoch ends: 0 for any number.
 #[derive(Clone, Copy, Debug, PartialEq, Eq)]
@@ -73,12 +77,16 @@ impl EpochLoad {
     }
 }
 
-/// How many bytes a session leaves that asked for so much and was listed so many messages, about.
-pub(crate) fn session_bytes(asked: usize, listed: usize) -> u64
-    ensures { result ≡ spec.session_bytes asked listed }
+/// How many bytes a session leaves that asked for so much, was listed so many messages, and sent so many lines, about, beside the bytes
+/// of these lines.
+pub(crate) fn session_bytes(asked: usize, listed: usize, lines: usize) -> u64
+    ensures { result ≡ spec.session_bytes asked listed lines }
 {
     let commands = (asked as u64).saturating_mul(COMMAND_BYTES);
-    commands.saturating_add((listed as u64).saturating_mul(LISTED_BYTES))
+    let messages = (listed as u64).saturating_mul(LISTED_BYTES);
+    commands
+        .saturating_add(messages)
+        .saturating_add((lines as u64).saturating_mul(LINE_BYTES))
 }
 
 /// Whether a number is at least so many times its limit, if there is one.
@@ -120,6 +128,28 @@ pub(crate) struct EpochStats {
     pub is_auditing: bool,
 }
 
+/// Whether an operator's request for the end of an epoch counts.
+#[derive(Clone, Copy, Debug, PartialEq, Eq)]
+pub(crate) enum Asked {
+    /// There is only one epoch.
+    Never,
+    /// The epoch ends already, and what the next one opens with was looked at before the request.
+    TooLate,
+    /// It counts. So many were refused before it.
+    Noted(u64),
+}
+
+/// What has become of an operator's request for the end of an epoch.
+#[derive(Clone, Copy, Debug, PartialEq, Eq)]
+pub(crate) enum RollEnd {
+    /// A node of a later epoch leads.
+    Rolled,
+    /// What the next epoch needs couldn't be had, so this one goes on.
+    Refused(Fault),
+    /// The service stops or ends.
+    Over,
+}
+
 /// How far the epochs of a service have come, for all its threads.
 #[derive(Drop)]
 pub(crate) struct Rolls {
@@ -127,6 +157,10 @@ pub(crate) struct Rolls {
     limits: Option<RollLimits>,
     progress: Mutex<Progress>,
     changes: Condvar,
+    /// Whether the accounts file could be read when that was tried last.
+    has_read_accounts: Mutex<bool>,
+    /// The last epoch that ends, or has ended, for which a request to end it comes too late.
+    ending: Mutex<u64>,
 }
 
 impl Rolls {
@@ -136,7 +170,31 @@ impl Rolls {
             limits,
             progress: Mutex::new(Progress::new()),
             changes: Condvar::new(),
+            has_read_accounts: Mutex::new(true),
+            ending: Mutex::new(0),
         }
+    }
+
+    /// This epoch is about to end: what the next one opens with is looked at from now on.
+    pub(crate) fn begin_end<R: Wait>(&self, rt: &R, epoch: u64) {
+        *self.ending.lock(rt) = epoch;
+    }
+
+    /// It goes on.
+    pub(crate) fn give_up_end<R: Wait>(&self, rt: &R) {
+        let mut ending = self.ending.lock(rt);
+        *ending = ending.saturating_sub(1);
+        self.changes.notify_all();
+    }
+
+    /// The accounts file could be read, or not.
+    pub(crate) fn note_accounts<R: Wait>(&self, rt: &R, is_read: bool) {
+        *self.has_read_accounts.lock(rt) = is_read;
+    }
+
+    /// Whether the accounts file could be read when that was tried last.
+    pub(crate) fn has_read_accounts<R: Wait>(&self, rt: &R) -> bool {
+        *self.has_read_accounts.lock(rt)
     }
 
     /// The next epoch begins. Returns its number.
@@ -173,25 +231,95 @@ impl Rolls {
         progress.led == progress.epoch
     }
 
-    /// Asks for the end of this epoch, unless it has ended. Returns false if there is only one.
-    pub(crate) fn ask<R: Wait>(&self, rt: &R, epoch: u64) -> bool {
+    /// Asks for the end of this epoch for an operator.
+    pub(crate) fn ask<R: Wait>(&self, rt: &R, epoch: u64) -> Asked {
         if self.limits.is_none() {
-            return false;
+            return Asked::Never;
+        }
+        let ending = self.ending.lock(rt);
+        if *ending >= epoch {
+            return Asked::TooLate;
         }
         let mut guard = self.progress.lock(rt);
         let progress = &mut *guard;
         progress.is_asked = progress.is_asked | (progress.epoch == epoch);
         self.changes.notify_all();
+        Asked::Noted(progress.refusals)
+    }
+
+    /// Asks for the end of this epoch, unless it has ended, since a majority is wanting. Returns false if there is only one.
+    pub(crate) fn require<R: Wait>(&self, rt: &R, epoch: u64) -> bool {
+        if self.limits.is_none() {
+            return false;
+        }
+        let mut guard = self.progress.lock(rt);
+        let progress = &mut *guard;
+        progress.is_required = progress.is_required | (progress.epoch == epoch);
+        progress.is_asked = progress.is_asked | progress.is_required;
+        self.changes.notify_all();
         true
     }
 
-    /// Waits until a node of a later epoch leads. Returns false if the service stops or ends first.
-    pub(crate) fn waits_for_next<R: Wait>(&self, rt: &R, epoch: u64) -> bool {
+    /// Refuses the end of this epoch to the operators who ask for it, for this reason.
+    pub(crate) fn refuse<R: Wait>(&self, rt: &R, fault: Fault) {
+        let mut guard = self.progress.lock(rt);
+        let progress = &mut *guard;
+        let _asked = progress.refuse(fault);
+        self.changes.notify_all();
+    }
+
+    /// Waits until a node of a later epoch leads, two later ones have begun, the end of this one is refused once more than so many times,
+    /// or the service stops or ends.
+    pub(crate) fn waits_for_next<R: Wait>(&self, rt: &R, epoch: u64, refusals: u64) -> RollEnd {
         let guard = self.progress.lock(rt);
         let progress = self.changes.wait_while(rt, guard, |progress| {
-            progress.led <= epoch && progress.joined < epoch && !progress.is_over()
+            progress.led <= epoch
+                && !progress.has_refused(epoch, refusals)
+                && progress.joined < epoch
+                && !progress.is_over()
         });
+        match progress.refusal {
+            // The epoch two after this one has begun, perhaps before a node of the next one led.
+            _ if progress.led > epoch || progress.joined >= epoch => RollEnd::Rolled,
+            Some(fault) if progress.has_refused(epoch, refusals) => RollEnd::Refused(fault),
+            _ => RollEnd::Over,
+        }
+    }
+
+    /// Waits at most so long until a node of a later epoch leads. Returns whether one does.
+    pub(crate) fn follows_within<R: Wait + Clock>(
+        &self,
+        rt: &R,
+        epoch: u64,
+        time: Duration,
+    ) -> bool {
+        let guard = self.progress.lock(rt);
+        let (progress, _) = self
+            .changes
+            .wait_timeout_while(rt, guard, time, |progress| {
+                progress.led <= epoch && !progress.is_over()
+            });
         progress.led > epoch
+    }
+
+    /// Whether a node of a later epoch leads.
+    pub(crate) fn follows<R: Wait>(&self, rt: &R, epoch: u64) -> bool {
+        self.progress.lock(rt).led > epoch
+    }
+
+    /// Whether an operator asks for the end of this epoch, and may be refused.
+    pub(crate) fn may_refuse<R: Wait>(&self, rt: &R) -> bool {
+        let progress = self.progress.lock(rt);
+        progress.is_asked && !progress.is_required
+    }
+
+    /// Waits so long, or until the service stops or ends. Returns whether it does.
+    pub(crate) fn pauses_unless_over<R: Wait + Clock>(&self, rt: &R, time: Duration) -> bool {
+        let guard = self.progress.lock(rt);
+        let (progress, _) = self
+            .changes
+            .wait_timeout_while(rt, guard, time, |progress| !progress.is_over());
+        progress.is_over()
     }
 
     /// Waits at most so long for the end of the service, or until the threads of this epoch's operators are to be joined.
@@ -246,6 +374,17 @@ impl Rolls {
         progress.is_auditing = false;
         progress.has_audited = true;
         self.changes.notify_all();
+    }
+
+    /// Waits at most so long for the end of the audit. Returns whether it goes on, and the service doesn't stop.
+    pub(crate) fn awaits_audit<R: Wait + Clock>(&self, rt: &R, time: Duration) -> bool {
+        let guard = self.progress.lock(rt);
+        let (progress, _) = self
+            .changes
+            .wait_timeout_while(rt, guard, time, |progress| {
+                progress.is_auditing && !progress.is_over()
+            });
+        progress.is_auditing && !progress.is_over()
     }
 
     /// From how much on an epoch ends.

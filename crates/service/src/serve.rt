@@ -1,17 +1,15 @@
 //! `maildropd serve`: nodes, sessions and an operator's port in one process.
-ghost use Rattle.std.specs.Prelude.{◌≡◌, ◌≤◌, ◌++◌, ◌∷◌, [], ◌⊎◌, Ok, None, Some, true, false, is_some, IsTrue, IsErrOf, IfOk, IfErr, IfSome, OnOk, map, if◌then◌else◌};
+ghost use Rattle.std.specs.Prelude.{◌≡◌, ◌≤◌, ◌++◌, ◌∷◌, [], None, Some, true, false, is_some, IsTrue, IsErrOf, IfOk, IfErr, IfSome, OnOk, map, if◌then◌else◌};
 ghost use Rattle.std.specs.Io.KnownBytes.{Appends};
 ghost use Rattle.service.specs.Options as spec;
-ghost use Rattle.service.specs.Faults as faults;
 ghost use Rattle.ports.specs.Faults.{status_at};
 ghost use Rattle.service.specs.Verdicts as verdicts;
 ghost use Rattle.service.specs.Epochs.{FoundLegal, WasLegalEpoch, epoch_lines};
 ghost use Rattle.service.specs.declared.verdict.Verdict.TheVariants.{Legal};
-ghost use Rattle.apop.specs.Accounts as table;
 ghost use Rattle.apop.specs.Accounts.{name_of};
 ghost use Rattle.maildrop.specs.Name.{are_different};
 
-use crate::account_lines::{AccountLines, LARGEST_ACCOUNTS};
+use crate::accounts_file::accounts_of;
 use crate::agreement::agreement_line;
 use crate::announcement::Announcement;
 use crate::epoch::{Left, left_by};
@@ -19,15 +17,16 @@ use crate::epochs::{LastEpoch, PastOperators, run_epochs};
 use crate::life::ServiceLife;
 use crate::options::{ServeOptions, Settings, settings_of};
 use crate::past::Past;
+use crate::start_note::StartNote;
 use crate::storage::{OpenedStorage, Storage, Torn};
 use crate::threads::{Ports, join_all};
 use crate::verdict::Verdict;
-use apop::{Accounts, AccountsError};
+use apop::Accounts;
 use ballot::Items;
 use cluster::Setup;
 use maildrop::{Kept, Shared};
 use node::NodeLog;
-use ports::{Fault, System, read_file, say};
+use ports::{Fault, System, say};
 use session::Transcript;
 use session_log::EventLog;
 use std::alloc::Global;
@@ -40,39 +39,6 @@ use std::time::Clock;
 
 /// The node that asks to lead as soon as the service starts.
 pub(crate) const FIRST_LEADER: u8 = 1;
-
-/// The fault of an accounts file that is refused.
-fn fault_of(error: AccountsError) -> Fault
-    ensures { result ≡ faults.fault_of error }
-{
-    match error {
-        AccountsError::Line(line) => Fault::Account(line),
-        AccountsError::Twice(line) => Fault::NameTwice(line),
-        AccountsError::Memory => Fault::Memory,
-    }
-}
-
-/// The accounts of a file of these bytes.
-fn accounts_in(alloc: Global, bytes: &[u8]) -> Result<Accounts, Fault>
-    ensures value { IfOk result (λ accounts. table.accounts_of bytes.now ≡ Ok accounts) }
-    ensures refused { IfErr result
-        (λ fault. (fault ≡ Fault.Memory) ⊎ (faults.fault_in (table.accounts_of bytes.now) ≡ Some fault)) }
-{
-    match Accounts::read(alloc, bytes) {
-        Ok(accounts) => Ok(accounts),
-        Err(error) => Err(fault_of(error)),
-    }
-}
-
-/// The accounts of the file of this path. `Value` if it is too large. It is read up to the first line that is no account.
-pub(crate) fn accounts_of<R: Files>(rt: &R, alloc: Global, path: &str) -> Result<Accounts, Fault> {
-    let mut lines = AccountLines::new();
-    let bytes = read_file(rt, alloc, path, LARGEST_ACCOUNTS, &mut lines)?;
-    if bytes.len() as u64 > LARGEST_ACCOUNTS {
-        return Err(Fault::Value);
-    }
-    accounts_in(alloc, bytes.as_slice())
-}
 
 /// What the nodes begin with, over these accounts and with these maildrops.
 pub(crate) fn setup_of(
@@ -123,7 +89,10 @@ pub(crate) fn life_of<R: System + Files<File = File>>(
     options: &ServeOptions<'_>,
     settings: &Settings,
     accounts: &Accounts,
-) -> Result<Arc<ServiceLife>, Fault> {
+) -> Result<Arc<ServiceLife>, Fault>
+where
+    R::Dir: Send,
+{
     let log = EventLog::open(rt, alloc, options.log)?;
     let host = settings.host.copy()?;
     let (agreement, limits) = match settings.peer_port {
@@ -134,8 +103,9 @@ pub(crate) fn life_of<R: System + Files<File = File>>(
         ),
     };
     let idle_seconds = settings.idle_seconds;
+    let start = StartNote::new(rt, alloc, options, settings)?;
     let life = ServiceLife::new(rt, alloc, host, idle_seconds, agreement, limits, log)?;
-    Ok(Arc::new(alloc, life)?)
+    Ok(Arc::new(alloc, life.with_start(start))?)
 }
 
 /// Notes a fault in the log, those of a data folder after its path. Without memory for its text nothing is noted.
@@ -155,6 +125,20 @@ pub(crate) fn note_fault<R: Wait + Clock>(
     }
 }
 
+/// Notes the verdict on an epoch in the log. Without memory for its text nothing is noted.
+pub(crate) fn note_audit<R: Wait + Clock>(
+    rt: &R,
+    alloc: Global,
+    log: &EventLog,
+    epoch: u64,
+    verdict: &Verdict,
+) {
+    if let Ok(line) = verdict.line(alloc) {
+        let text = line.as_str().trim_end();
+        log.audit(rt, epoch, text.strip_prefix("audit ").unwrap_or(text));
+    }
+}
+
 /// Counts the bytes that a start has dropped of the folder's newest segment, and reports them in the log, or on standard error
 /// if there is no log.
 fn tell_torn<R: Wait + Clock + Eprint>(rt: &R, life: &ServiceLife, folder: &str, torn: Torn) {
@@ -169,8 +153,7 @@ fn tell_torn<R: Wait + Clock + Eprint>(rt: &R, life: &ServiceLife, folder: &str,
     }
 }
 
-/// Judges the last epoch of a service, and announces the verdict on it, or the first one that isn't that all was in order. After
-/// a write that failed nothing is announced.
+/// Judges the last epoch of a service, and announces the verdict on it, or the first one that isn't that all was in order.
 fn judge<R: System>(
     rt: &R,
     alloc: Global,
@@ -188,10 +171,15 @@ fn judge<R: System>(
 {
     let LastEpoch { ended, fault } = last;
     let left = left_by(alloc, ended);
-    if !matches!(&fault, Some(Fault::Write) | Some(Fault::InUse)) {
-        let announcement = Announcement::audited(past.first_bad(), &left);
-        life.announcements().announce(rt, announcement);
-    }
+    note_audit(
+        rt,
+        alloc,
+        life.log(),
+        past.told().saturating_add(1),
+        &left.verdict,
+    );
+    let announcement = Announcement::audited(past.first_bad(), &left);
+    life.announcements().announce(rt, announcement);
     let fault = match fault {
         None if life.stages().lacks_majority(rt) => Some(Fault::NoMajority),
         fault => fault,
@@ -249,16 +237,15 @@ fn run_life<R: System + Files<File = File>, W: Write>(
     ensures legal { IfOk result (λ end. end.left.verdict ≡ Legal → end.is_good ≡ true → FoundLegal settings.now.cluster settings.now.window settings.now.limits settings.now.keys (is_some options.now.data)
         end.epochs end.left.logs.items end.left.transcripts.items end.left.greeted) }
 {
-    let mut past = Past::new(kept)?;
+    let path = String::from_str(alloc, options.accounts)?;
+    let mut past = Past::new(alloc, kept, accounts, path)?;
     ports.start_taking(rt, life, &mut threads.takers)?;
     let ran = run_epochs(
         rt,
         alloc,
-        options,
         settings,
         ports,
         life,
-        accounts,
         &mut threads.operators,
         storage,
         &mut past,
@@ -268,7 +255,7 @@ fn run_life<R: System + Files<File = File>, W: Write>(
     match ran {
         Ok(last) => Ok(judge(&rt, alloc, life, &past, last)),
         Err(fault) => {
-            let _unreported = past.collect(&rt);
+            past.abandon();
             Err(fault)
         }
     }
@@ -360,6 +347,17 @@ fn fault_after(end: &Result<RunEnd, Fault>) -> Option<Fault> {
     }
 }
 
+/// The exit status of a service that has ended, if its last verdict can be written.
+fn status_of(end: &Result<RunEnd, Fault>) -> u8 {
+    match end {
+        Ok(end) => match end.fault {
+            None => status_after(end.left.verdict.status(), end.is_good),
+            Some(fault) => fault.status(),
+        },
+        Err(fault) => fault.status(),
+    }
+}
+
 /// Runs a service with these settings.
 fn run_with<R: System + Files<File = File> + Eprint, W: Write>(
     rt: R,
@@ -368,6 +366,8 @@ fn run_with<R: System + Files<File = File> + Eprint, W: Write>(
     settings: &Settings,
     writer: &mut W,
 ) -> Result<RunEnd, Fault>
+where
+    R::Dir: Send,
     ensures told { IfOk result (λ end. end.is_good ≡ true → Appends (W.contents writer.old) (W.contents writer.new) (epoch_lines end.epochs)) }
     ensures legal { IfOk result (λ end. end.left.verdict ≡ Legal → end.is_good ≡ true → FoundLegal settings.now.cluster settings.now.window settings.now.limits settings.now.keys (is_some options.now.data)
         end.epochs end.left.logs.items end.left.transcripts.items end.left.greeted) }
@@ -375,7 +375,13 @@ fn run_with<R: System + Files<File = File> + Eprint, W: Write>(
     let accounts = accounts_of(&rt, alloc, options.accounts)?;
     let life = life_of(&rt, alloc, options, settings, &accounts)?;
     let accounts = Arc::new(alloc, accounts)?;
-    let opened = Storage::open(rt, alloc, options)?;
+    let opened = match Storage::open(rt, alloc, options) {
+        Ok(opened) => opened,
+        Err(fault) => {
+            life.log().finish(&rt);
+            return Err(fault);
+        }
+    };
     if let (Some(folder), Some(torn)) = (options.data, opened.torn) {
         tell_torn(&rt, &life, folder, torn);
     }
@@ -385,6 +391,8 @@ fn run_with<R: System + Files<File = File> + Eprint, W: Write>(
     if let Some(fault) = fault_after(&end) {
         note_fault(&rt, alloc, life.log(), options.data, fault);
     }
+    life.log().ended(&rt, status_of(&end));
+    life.log().finish(&rt);
     end
 }
 
@@ -394,6 +402,8 @@ fn run<R: System + Files<File = File> + Eprint, W: Write>(
     options: &ServeOptions<'_>,
     writer: &mut W,
 ) -> Result<RunEnd, Fault>
+where
+    R::Dir: Send,
     ensures values { (¬ spec.AreGood options.now) → IsErrOf result Fault.Value }
     ensures told { IfOk result (λ end. end.is_good ≡ true → Appends (W.contents writer.old) (W.contents writer.new) (epoch_lines end.epochs)) }
     ensures legal { IfOk result (λ end. end.left.verdict ≡ Legal → end.is_good ≡ true → FoundLegal options.now.nodes options.now.window (spec.limits_of options.now) options.now.keys (is_some options.now.data)
@@ -458,6 +468,8 @@ pub struct ServiceEnd {
     pub transcripts: Vec<Transcript>,
     /// How many sessions were greeted in the last epoch. 0 without an audit, and after a fault.
     pub greeted: usize,
+    /// Why the service has ended, unless an operator stopped it. It was reported on standard error.
+    pub fault: Option<Fault>,
 }
 
 /// Writes the verdict on a service that has ended, or reports why it ended on standard error.
@@ -477,6 +489,7 @@ fn tell_end<R: Eprint, W: Write>(
     ensures logs { result.status ≡ 0 → result.logs.items ≡ end.left.logs.items }
     ensures transcripts { result.status ≡ 0 → result.transcripts.items ≡ end.left.transcripts.items }
     ensures greeted { result.status ≡ 0 → result.greeted ≡ end.left.greeted }
+    ensures fault { IfSome result.fault (λ fault. result.status ≡ status_at fault) }
 {
     match report(alloc, writer, &end) {
         Ok(status) => ServiceEnd {
@@ -485,6 +498,7 @@ fn tell_end<R: Eprint, W: Write>(
             logs: end.left.logs,
             transcripts: end.left.transcripts,
             greeted: end.left.greeted,
+            fault: None,
         },
         Err(fault) => fail(rt, alloc, folder, fault),
     }
@@ -504,7 +518,8 @@ pub(crate) fn report_fault<R: Eprint>(rt: &R, folder: Option<&str>, fault: Fault
 
 /// Reports a fault on standard error.
 fn fail<R: Eprint>(rt: &R, alloc: Global, folder: Option<&str>, fault: Fault) -> ServiceEnd
-    ensures { result.status ≡ status_at fault }
+    ensures status { result.status ≡ status_at fault }
+    ensures fault { result.fault ≡ Some fault }
 {
     report_fault(rt, folder, fault);
     ServiceEnd {
@@ -513,6 +528,7 @@ fn fail<R: Eprint>(rt: &R, alloc: Global, folder: Option<&str>, fault: Fault) ->
         logs: Vec::new(alloc),
         transcripts: Vec::new(alloc),
         greeted: 0,
+        fault: Some(fault),
     }
 }
 
@@ -529,8 +545,11 @@ pub fn serve_run<R: System + Files<File = File> + Eprint, W: Write>(
     writer: &mut W,
     options: &ServeOptions<'_>,
 ) -> ServiceEnd
+where
+    R::Dir: Send,
     ensures values { (¬ spec.AreGood options.now) → result.status ≡ 2 }
     ensures statuses { result.status ≤ 2 }
+    ensures fault { IfSome result.fault (λ fault. result.status ≡ status_at fault) }
 
     // The status 0 comes only after lines which report that audits found each epoch in order, the last one too.
     ensures told { result.status ≡ 0

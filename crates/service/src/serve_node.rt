@@ -6,6 +6,7 @@ ghost use Rattle.service.specs.Options as spec;
 ghost use Rattle.apop.specs.Accounts.{name_of};
 ghost use Rattle.maildrop.specs.Name.{are_different};
 
+use crate::accounts_file::accounts_of;
 use crate::announcement::Announcement;
 use crate::brand::Service;
 use crate::epoch_journal::EpochJournal;
@@ -13,7 +14,7 @@ use crate::epoch_run::{Ending, end_threads, state_of};
 use crate::life::ServiceLife;
 use crate::mark::mark_start;
 use crate::options::{NodeOptions, Settings, node_settings_of};
-use crate::serve::{FIRST_LEADER, accounts_of, life_of, note_fault, setup_of};
+use crate::serve::{FIRST_LEADER, life_of, note_fault, setup_of};
 use crate::served_sessions::ServedSessions;
 use crate::service_nodes::ServiceNodes;
 use crate::threads;
@@ -66,10 +67,11 @@ fn serve_one<D: Service + Send + Sync + 'static, R: System>(
     let (threads, started) = threads::start(rt, alloc, &desks, ports, &state, sessions, settings);
     let ending = match started {
         Ok(()) => {
+            life.note_start(&rt, state.epoch(), &desks);
             life.stages().wait_for_stop(&rt);
             Ending::Stopped
         }
-        Err(_) => Ending::Rolled,
+        Err(_) => Ending::Over,
     };
     let operators = end_threads(&rt, threads, ports, &state, ending);
     let announcement = Announcement::stopped(&nodes.stop_unaudited());
@@ -98,14 +100,12 @@ fn mark_and_serve<D: Service + Send + Sync + 'static, R: System + Files<File = F
 {
     let socket = options.service.ctl_socket;
     let ports = Ports::open(&rt, alloc, settings, socket)?;
-    let marked = match options.mark {
-        Some(folder) => mark_start(&rt, alloc, folder, place.node),
-        None => Ok(()),
-    };
     let mut takers = Vec::new(alloc);
-    let ready = match marked {
-        Ok(()) => ports.start_taking(rt, life, &mut takers),
-        Err(fault) => Err(fault),
+    // They take nobody before the service begins.
+    let taken = ports.start_taking(rt, life, &mut takers);
+    let ready = match (taken, options.mark) {
+        (Ok(()), Some(folder)) => mark_start(&rt, alloc, folder, place.node),
+        (taken, _) => taken,
     };
     let end = match ready {
         Ok(()) => serve_one::<D, R>(
@@ -133,6 +133,8 @@ fn run_node<D: Service + Send + Sync + 'static, R: System + Files<File = File>>(
     accounts: Arc<Accounts>,
     book: Blank,
 ) -> Result<(), Fault>
+where
+    R::Dir: Send,
     requires deployment { setup.now ≡ D.setup }
     requires accounts { arc_value accounts ≡ D.accounts }
     requires name { book.name ≡ D.name }
@@ -151,9 +153,13 @@ fn run_node<D: Service + Send + Sync + 'static, R: System + Files<File = File>>(
         Ok(()) if life.stages().lacks_majority(&rt) => Err(Fault::NoMajority),
         end => end,
     };
+    let mut status = 0;
     if let Err(fault) = &end {
         note_fault(&rt, alloc, life.log(), None, *fault);
+        status = fault.status();
     }
+    life.log().ended(&rt, status);
+    life.log().finish(&rt);
     end
 }
 
@@ -163,7 +169,10 @@ fn run_with<R: System + Files<File = File>>(
     alloc: Global,
     options: &NodeOptions<'_>,
     settings: &Settings,
-) -> Result<(), Fault> {
+) -> Result<(), Fault>
+where
+    R::Dir: Send,
+{
     let (Some(node), Some(base)) = (settings.node, settings.peer_port) else {
         return Err(Fault::Value);
     };
@@ -181,6 +190,8 @@ fn run<R: System + Files<File = File>>(
     alloc: Global,
     options: &NodeOptions<'_>,
 ) -> Result<(), Fault>
+where
+    R::Dir: Send,
     ensures { (¬ spec.AreNodeGood options.now) → IsErrOf result Fault.Value }
 {
     match node_settings_of(alloc, options) {
@@ -196,6 +207,8 @@ fn run_and_tell<R: System + Files<File = File>, W: Write>(
     writer: &mut W,
     options: &NodeOptions<'_>,
 ) -> Result<(), Fault>
+where
+    R::Dir: Send,
     ensures values { (¬ spec.AreNodeGood options.now) → IsErrOf result Fault.Value }
     ensures written { OnOk result (Appends (W.contents writer.old) (W.contents writer.new) (codes "stopped" ++ 10 ∷ [])) }
 {
@@ -217,6 +230,8 @@ pub fn serve_node_run<R: System + Files<File = File> + Eprint, W: Write>(
     writer: &mut W,
     options: &NodeOptions<'_>,
 ) -> u8
+where
+    R::Dir: Send,
     ensures values { (¬ spec.AreNodeGood options.now) → result ≡ 2 }
     ensures statuses { result ≤ 2 }
 

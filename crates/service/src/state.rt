@@ -1,5 +1,6 @@
 //! What all threads of an epoch share.
 
+use crate::deliveries::Deliveries;
 use crate::draining::Draining;
 use crate::epoch_journal::EpochJournal;
 use crate::hearing::HeardNodes;
@@ -22,8 +23,7 @@ pub(crate) struct ServiceState {
     draining: Draining,
     lock_breaker: LockBreaker,
     heard_nodes: HeardNodes,
-    /// How many deliveries are under way.
-    deliveries: Mutex<u64>,
+    deliveries: Mutex<Deliveries>,
     journal: EpochJournal,
 }
 
@@ -44,7 +44,7 @@ impl ServiceState {
             draining: Draining::new(),
             lock_breaker: LockBreaker::new(alloc),
             heard_nodes: HeardNodes::new(),
-            deliveries: Mutex::new(0),
+            deliveries: Mutex::new(Deliveries::new()),
             journal,
         }
     }
@@ -89,20 +89,38 @@ impl ServiceState {
         &self.journal
     }
 
-    /// A delivery begins.
-    pub(crate) fn begin_delivery<R: Wait>(&self, rt: &R) {
-        let mut deliveries = self.deliveries.lock(rt);
-        *deliveries = deliveries.saturating_add(1);
+    /// Whether the epoch has ended, or ends, and the service goes on with the next one.
+    pub(crate) fn is_followed<R: Wait>(&self, rt: &R) -> bool {
+        (self.stages.has_ended(rt) || self.are_deliveries_closed(rt))
+            && !self.life.stages().is_stopping(rt)
+    }
+
+    /// A delivery begins, unless it is to wait for the next epoch. Returns whether it begins.
+    pub(crate) fn begin_delivery<R: Wait>(&self, rt: &R) -> bool {
+        let mut guard = self.deliveries.lock(rt);
+        let deliveries = &mut *guard;
+        deliveries.begin()
     }
 
     /// A delivery has ended.
     pub(crate) fn end_delivery<R: Wait>(&self, rt: &R) {
-        let mut deliveries = self.deliveries.lock(rt);
-        *deliveries = deliveries.saturating_sub(1);
+        let mut guard = self.deliveries.lock(rt);
+        let deliveries = &mut *guard;
+        deliveries.end();
+    }
+
+    /// Lets no delivery begin any more.
+    pub(crate) fn close_deliveries<R: Wait>(&self, rt: &R) {
+        self.deliveries.lock(rt).are_closed = true;
+    }
+
+    /// Whether no delivery begins any more.
+    pub(crate) fn are_deliveries_closed<R: Wait>(&self, rt: &R) -> bool {
+        self.deliveries.lock(rt).are_closed
     }
 
     /// Whether a delivery is under way.
     pub(crate) fn is_delivering<R: Wait>(&self, rt: &R) -> bool {
-        *self.deliveries.lock(rt) > 0
+        self.deliveries.lock(rt).count > 0
     }
 }

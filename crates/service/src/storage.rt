@@ -69,7 +69,7 @@ fn random_salt<R: RandomSource>(rt: &R) -> Result<u64, Fault> {
     let mut bytes = [0u8; 8];
     match rt.fill_bytes(&mut bytes) {
         Ok(()) => Ok(u64::from_be_bytes(bytes)),
-        Err(_) => Err(Fault::Write),
+        Err(_) => Err(Fault::Read),
     }
 }
 
@@ -136,7 +136,7 @@ impl<R: System + Files<File = File> + Drop> Storage<R> {
     }
 
     /// Ends the segment of the last epoch, and notes that, once no thread has its journal any more. Then the folder's lock is given
-    /// back. If a write fails or has failed that is the fault, and nothing is noted. Without a folder there is nothing to end.
+    /// back. If a write fails or has failed, or memory was wanting for one, that is the fault, and nothing is noted. Without a folder there is nothing to end.
     pub(crate) fn end(self, rt: &R) -> Result<(), Fault> {
         let Storage {
             folder,
@@ -144,7 +144,9 @@ impl<R: System + Files<File = File> + Drop> Storage<R> {
             read: _,
             journal,
         } = self;
-        journal.written(rt)?;
+        if let Some(fault) = journal.failure(rt) {
+            return Err(fault);
+        }
         let Some(mut folder) = folder else {
             return Ok(());
         };

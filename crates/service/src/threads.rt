@@ -16,7 +16,7 @@ use crate::{draining, majority, ticker};
 use ballot::NodeId;
 use cluster::Link;
 use ports::{
-    Fault, Handler, OperatorListener, OperatorStream, Port, System, listen_at, start_reserve,
+    Fault, Handler, OperatorConnection, OperatorListener, Port, System, listen_at, start_reserve,
     start_serving, start_taking,
 };
 use std::alloc::Global;
@@ -38,6 +38,9 @@ const MOST_PEERS: usize = 64;
 /// How many operators for whom there is no thread, no place or no memory wait for the thread of the reserve.
 const MOST_IN_RESERVE: usize = 16;
 
+/// How many operators wait for the next epoch at most.
+const MOST_PUT_BACK: usize = MOST_OPERATORS - MOST_IN_RESERVE;
+
 /// A port of POP3 clients.
 #[derive(Drop)]
 struct PopPort {
@@ -58,7 +61,7 @@ struct PeerPort {
 pub(crate) struct Ports {
     pop: Vec<PopPort>,
     peers: Vec<PeerPort>,
-    ctl: Arc<Port<OperatorStream, OperatorListener>>,
+    ctl: Arc<Port<OperatorConnection, OperatorListener>>,
 }
 
 /// Listens at a port of POP3 clients.
@@ -73,7 +76,7 @@ fn open_pop_port<R: System>(
     ensures { IfErr result (λ fault. IsFaultAt address number fault) }
 {
     let listener = listen_at(rt, address, number)?;
-    let port = Port::new(alloc, listener, MOST_SESSIONS, 0)?;
+    let port = Port::new(alloc, listener, MOST_SESSIONS, 0, 0)?;
     let port = Arc::new(alloc, port)?;
     ports.push(PopPort { own, port })?;
     Ok(())
@@ -155,7 +158,7 @@ fn open_peer_port<R: System>(
     ensures { IfErr result (λ fault. IsLocalFaultAt number fault) }
 {
     let listener = listen_at(rt, IpAddr::V4(Ipv4Addr::LOCALHOST), number)?;
-    let port = Port::new(alloc, listener, MOST_PEERS, 0)?;
+    let port = Port::new(alloc, listener, MOST_PEERS, 0, 0)?;
     let port = Arc::new(alloc, port)?;
     ports.push(PeerPort { node, port })?;
     Ok(())
@@ -176,7 +179,13 @@ impl Ports {
         let mut peers = Vec::new(alloc);
         open_peer_ports(rt, alloc, settings, &mut peers)?;
         let listener = OperatorListener::listen(rt, settings.ctl_port, socket)?;
-        let ctl = Port::new(alloc, listener, MOST_OPERATORS, MOST_IN_RESERVE)?;
+        let ctl = Port::new(
+            alloc,
+            listener,
+            MOST_OPERATORS,
+            MOST_IN_RESERVE,
+            MOST_PUT_BACK,
+        )?;
         let ctl = Arc::new(alloc, ctl)?;
         Ok(Ports { pop, peers, ctl })
     }
@@ -211,27 +220,53 @@ impl Ports {
         }
     }
 
-    /// Lets POP3 clients wait who come from now on, until the next epoch serves them.
-    pub(crate) fn hand_over_pop<R: Wait>(&self, rt: &R) {
+    /// Lets POP3 clients wait who come from now on, until the next epoch serves them. Operators are heard until then by the threads that
+    /// hear them now.
+    pub(crate) fn end_pop<R: Wait>(&self, rt: &R) {
         for port in &self.pop {
+            port.port.pause(rt);
+            let _nobody = port.port.new_generation(rt);
             port.port.hand_over(rt);
         }
     }
 
-    /// Lets operators wait who come from now on, until `resume`.
-    pub(crate) fn pause_ctl<R: Wait>(&self, rt: &R) {
-        self.ctl.pause(rt);
-    }
-
-    /// Lets operators wait who come from now on, until the next epoch serves them. Those who are there are heard no longer.
-    pub(crate) fn hand_over_ctl<R: Wait>(&self, rt: &R) {
+    /// Has the threads that were started last serve clients, operators and nodes, with those who have waited.
+    fn hand_over<R: Wait>(&self, rt: &R) {
+        for peer in &self.peers {
+            peer.port.hand_over(rt);
+        }
+        for pop in &self.pop {
+            pop.port.hand_over(rt);
+        }
         self.ctl.hand_over(rt);
+        self.ctl.resume_taking(rt);
+        self.resume_pop(rt);
     }
 
-    /// Serves clients and operators, with those who have waited.
-    pub(crate) fn resume<R: Wait>(&self, rt: &R) {
-        self.resume_pop(rt);
-        self.ctl.resume(rt);
+    /// Takes no operator for a moment, so that what the next epoch needs isn't taken by them.
+    pub(crate) fn pause_ctl<R: Wait>(&self, rt: &R) {
+        self.ctl.pause_taking(rt);
+    }
+
+    /// Takes operators again.
+    pub(crate) fn resume_ctl<R: Wait>(&self, rt: &R) {
+        self.ctl.resume_taking(rt);
+    }
+
+    /// The threads that were started last end: they serve nobody.
+    fn withdraw<R: Wait>(&self, rt: &R) {
+        for peer in &self.peers {
+            peer.port.withdraw(rt);
+        }
+        for pop in &self.pop {
+            pop.port.withdraw(rt);
+        }
+        self.ctl.withdraw(rt);
+    }
+
+    /// How many ports of POP3 clients and of nodes there are.
+    pub(crate) fn count(&self) -> usize {
+        self.pop.len().saturating_add(self.peers.len())
     }
 
     /// Lets no POP3 client come any more.
@@ -275,11 +310,12 @@ pub(crate) struct EpochThreads {
     pub(crate) nodes: Vec<JoinHandle<()>>,
     /// Those of the nodes' ports. They end once these are closed.
     pub(crate) peers: Vec<JoinHandle<()>>,
-    /// Those that serve operators. They end once the port is handed over or closed, and its connections have ended.
+    /// Those that serve operators. They end once the next epoch serves these or the port is closed, and its connections have ended.
     pub(crate) operators: Vec<JoinHandle<()>>,
 }
 
-/// Starts all threads of an epoch, and then has clients and operators served. If a thread can't be had, nobody is served.
+/// Starts all threads of an epoch, and then has clients and operators served. If a thread can't be had, nobody is served, but operators are
+/// by whom they were served before.
 pub(crate) fn start<
     D: Service + Send + Sync + 'static,
     R: System,
@@ -302,7 +338,9 @@ pub(crate) fn start<
     let started = threads.start_all(rt, alloc, nodes, ports, state, sessions, settings);
     if started.is_ok() {
         state.life().stages().begin(&rt);
-        ports.resume(&rt);
+        ports.hand_over(&rt);
+    } else {
+        ports.withdraw(&rt);
     }
     (threads, started)
 }
@@ -381,7 +419,8 @@ fn start_peer<R: System, N: ServedNode + Send + Sync + Drop + 'static>(
                 is_alone: settings.node.is_some(),
                 state: Arc::try_clone(state)?,
             };
-            return start_serving(rt, alloc, &peer.port, handler, threads);
+            let generation = peer.port.new_generation(&rt);
+            return start_serving(rt, alloc, &peer.port, handler, generation, threads);
         }
     }
     Ok(())
@@ -405,7 +444,8 @@ fn start_pop<D: Service + Send + Sync + 'static, R: System, L: Link + Drop + Sen
         state: Arc::try_clone(state)?,
         sessions: Arc::try_clone(sessions)?,
     };
-    start_serving(rt, alloc, &pop.port, handler, threads)
+    let generation = pop.port.new_generation(&rt);
+    start_serving(rt, alloc, &pop.port, handler, generation, threads)
 }
 
 /// Starts what serves operators.
@@ -413,7 +453,7 @@ fn start_operators<R: System, N: ServedNode + Send + Sync + Drop + 'static>(
     rt: R,
     alloc: Global,
     nodes: &Arc<Vec<N>>,
-    port: &Arc<Port<OperatorStream, OperatorListener>>,
+    port: &Arc<Port<OperatorConnection, OperatorListener>>,
     state: &Arc<ServiceState>,
     settings: &Settings,
     threads: &mut Vec<JoinHandle<()>>,
@@ -426,8 +466,9 @@ fn start_operators<R: System, N: ServedNode + Send + Sync + Drop + 'static>(
         settings.delivery_bytes,
         most_file(settings.peer_port, state.journal().is_kept()),
     )?;
-    start_reserve(rt, port, handler.share()?, threads)?;
-    start_serving(rt, alloc, port, handler, threads)
+    let generation = port.new_generation(&rt);
+    start_reserve(rt, port, handler.share()?, generation, threads)?;
+    start_serving(rt, alloc, port, handler, generation, threads)
 }
 
 /// Waits until these threads have ended.

@@ -74,15 +74,19 @@ impl<D: Service> Served<D> {
         self.transcript.end
     }
 
-    /// How many bytes it takes until it is audited, with what the nodes keep for it, about.
+    /// How many bytes it takes until it is audited, with what the nodes keep for it, about. One that asked nothing isn't kept.
     pub(crate) fn bytes(&self) -> u64 {
+        if self.transcript.asked.len() == 0 {
+            return 0;
+        }
         let mut listed: usize = 0;
         for asked in self.transcript.asked.get() {
             if let Some(Outcome::Taken(taken)) = &asked.outcome {
                 listed = listed.saturating_add(taken.get().len());
             }
         }
-        session_bytes(self.transcript.asked.len(), listed)
+        let lines = self.transcript.lines.len();
+        session_bytes(self.transcript.asked.len(), listed, lines)
     }
 
     /// Drops it: the service has ended, or isn't audited.

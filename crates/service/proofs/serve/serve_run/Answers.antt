@@ -12,7 +12,7 @@ returns-in-Err-clause-values g c bad =
     let refused : c.run.result ≡ Err fault.Value = c.run.ensures.values bad in
     let is = c.in-Err.is in
     let same : c.in-Err.fault ≡ fault.Value = cc in
-    c.fail.ensures ∙ ap status_at same
+    c.fail.ensures.status ∙ ap status_at same
 
 pub returns-in-Ok-clause-told : goal.returns-in-Ok-clause-told
 returns-in-Ok-clause-told g c zero =
