@@ -1,5 +1,6 @@
 //! Options of the command line.
 
+use crate::range::Range;
 use clap::{Arg, ArgAction, ArgMatches, Command, Error, value_parser};
 use std::alloc::Global;
 
@@ -8,8 +9,8 @@ use std::alloc::Global;
 pub(crate) enum Kind {
     /// Any text. It may begin with a hyphen.
     Text,
-    /// A number of 64 bits.
-    Number,
+    /// A number of 64 bits, which is to be in this range.
+    Number(Range),
 }
 
 /// Whether an option must be given, and what it is if it isn't.
@@ -18,6 +19,8 @@ pub(crate) enum Presence {
     Required,
     Optional,
     Default(&'static str),
+    /// It is this if there is a data folder. Else it must not be given.
+    DefaultWithData(&'static str),
 }
 
 /// An option of a command, with a value.
@@ -40,11 +43,11 @@ fn arg_of<'a>(alloc: Global, choice: Choice) -> Arg<'a> {
         .action(ArgAction::Set);
     let arg = match choice.kind {
         Kind::Text => arg.allow_hyphen_values(true),
-        Kind::Number => arg.value_parser(value_parser!(u64)),
+        Kind::Number(_) => arg.value_parser(value_parser!(u64)),
     };
     match choice.presence {
         Presence::Required => arg.required(true),
-        Presence::Optional => arg,
+        Presence::Optional | Presence::DefaultWithData(_) => arg,
         Presence::Default(value) => arg.default_value(value),
     }
 }
@@ -57,6 +60,20 @@ pub(crate) fn with_options<'a>(
 ) -> Result<Command<'a>, Error> {
     for choice in choices {
         command = command.arg(arg_of(alloc, *choice))?;
+    }
+    Ok(command)
+}
+
+/// The command with these options, none of which must be given or has a default.
+pub(crate) fn with_optional<'a>(
+    alloc: Global,
+    mut command: Command<'a>,
+    choices: &[Choice],
+) -> Result<Command<'a>, Error> {
+    for choice in choices {
+        let mut choice = *choice;
+        choice.presence = Presence::Optional;
+        command = command.arg(arg_of(alloc, choice))?;
     }
     Ok(command)
 }

@@ -1,6 +1,7 @@
 //! `maildropd begin`, `check` and `export`: what is done with a data folder beside `serve`.
 
 use crate::arguments::{Choice, Kind, Presence, text_of, with_options};
+use crate::mistake::{Mistake, hint};
 use clap::{Arg, ArgAction, ArgMatches, Command, Error};
 use maildrop::{Kept, Message, Name};
 use mboxrd::write;
@@ -10,9 +11,11 @@ use records::Ending;
 use service::fault_of_store;
 use std::alloc::Global;
 use std::fs::File;
-use std::io;
+use std::io::ErrorKind;
+use std::path::Path;
 use std::random::RandomSource;
 use std::rt::Files;
+use std::{fs, io};
 use store::{DataFolder, Found, Report, StoreFault, check, read_newest};
 
 /// The line that begins each exported message.
@@ -66,9 +69,63 @@ pub(crate) fn refuse<R: Eprint>(rt: &R, fault: Fault) -> u8 {
     fault.status()
 }
 
-/// Reports why a folder can't be used. Returns the status.
-pub(crate) fn refuse_folder<R: Eprint>(rt: &R, path: &str, fault: StoreFault) -> u8 {
+/// Whether nothing has this path.
+fn is_absent<R: Files>(rt: &R, path: &str) -> bool {
+    match fs::metadata(rt, path) {
+        Ok(_) => false,
+        Err(error) => error.kind() == ErrorKind::NotFound,
+    }
+}
+
+/// Whether the folder of this path has nothing in it.
+fn is_empty<R: AllocGlobal + Files + Copy>(rt: &R, path: &str) -> bool {
+    match fs::read_dir(rt, path) {
+        Ok(mut entries) => entries.next().is_none(),
+        Err(_) => false,
+    }
+}
+
+/// Why there is no mail in this folder, if it isn't there, or is empty.
+pub(crate) fn mistake_in_folder<'a, R: AllocGlobal + Files + Copy>(
+    rt: &R,
+    path: &'a str,
+) -> Option<Mistake<'a>> {
+    if is_absent(rt, path) || is_empty(rt, path) {
+        Some(Mistake::NotBegun(path))
+    } else {
+        None
+    }
+}
+
+/// Which mistake led to a fault of a data folder, if that is known.
+fn mistake_in<'a, R: AllocGlobal + Files + Copy>(
+    rt: &R,
+    path: &'a str,
+    fault: StoreFault,
+) -> Option<Mistake<'a>> {
+    match fault {
+        StoreFault::NotBegun => mistake_in_folder(rt, path),
+        StoreFault::NotEmpty => Some(Mistake::NotEmpty),
+        StoreFault::Write => {
+            let parent = Path::new(path).parent()?.as_str();
+            if !parent.is_empty() && is_absent(rt, parent) {
+                Some(Mistake::NoParent(parent))
+            } else {
+                None
+            }
+        }
+        _ => None,
+    }
+}
+
+/// Reports why a folder can't be used, and which mistake led to that, if it is known. Returns the status.
+pub(crate) fn refuse_folder<R: AllocGlobal + Files + Copy + Eprint>(
+    rt: &R,
+    path: &str,
+    fault: StoreFault,
+) -> u8 {
     let _untold = eprintln!(rt; "maildropd: {path}{fault}");
+    hint(rt, mistake_in(rt, path, fault));
     fault_of_store(fault).status()
 }
 
@@ -191,7 +248,9 @@ pub(crate) fn run_export<R: AllocGlobal + Files<File = File> + Copy + Print + Ep
     let path = text_of(matches, "data");
     let word = text_of(matches, "name");
     let Some(name) = Name::new(word.as_bytes()) else {
-        return refuse(rt, Fault::Value);
+        let status = refuse(rt, Fault::Value);
+        hint(rt, Some(Mistake::Name));
+        return status;
     };
     let (kept, status) = match read_mail(rt, path) {
         Ok(read) => read,

@@ -1,7 +1,11 @@
 //! `maildropd lone`.
 
 use crate::arguments::{Choice, Kind, Presence, bytes_of, with_options};
+use crate::mistake::{Mistake, hint};
+use crate::unread::Unread;
+use apop::{Accounts, Method, stamp};
 use clap::{ArgMatches, Command, Error};
+use maildrop::Name;
 use mboxrd::can_begin;
 use ports::{ReadOn, read_file};
 use server::{Fault, LoneOptions, lone_run};
@@ -12,6 +16,9 @@ use std::rt::Files;
 
 /// How many bytes of replies are gathered at most before they are written.
 const GATHERED: usize = 65_536;
+
+/// What a message of a mailbox file begins with.
+const FROM: &[u8] = b"From ";
 
 /// What `--help` shows below the options.
 const EXAMPLE: &str = "Example, which serves a mailbox file at port 1100:
@@ -88,6 +95,43 @@ fn tell<R: Eprint>(rt: &R, fault: Fault) -> u8 {
     fault.status()
 }
 
+/// A host that can stand behind every nonce.
+const ANY_HOST: &[u8] = b"localhost";
+
+/// What is wrong with the account that the options name, if that is known.
+fn mistake_in_account(alloc: Global, options: &LoneOptions<'_>) -> Option<Mistake<'static>> {
+    let Some(name) = Name::new(options.user) else {
+        return Some(Mistake::User);
+    };
+    let Some(method) = Method::from_word(options.method) else {
+        return Some(Mistake::Method);
+    };
+    match Accounts::single(alloc, name, method, options.secret) {
+        Ok(None) => Some(Mistake::Secret),
+        Ok(Some(_)) | Err(_) => None,
+    }
+}
+
+/// What is wrong with the nonce or the host, if one of them is none.
+fn mistake_in_stamp(options: &LoneOptions<'_>) -> Option<Mistake<'static>> {
+    if stamp(options.nonce, ANY_HOST).is_none() {
+        Some(Mistake::Nonce)
+    } else if stamp(options.nonce, options.host).is_none() {
+        Some(Mistake::Host)
+    } else {
+        None
+    }
+}
+
+/// What is wrong with the mailbox file, whose path this is, if its first line doesn't begin a message.
+fn mistake_in_mailbox<'a>(path: Option<&'a str>, mbox: Option<&[u8]>) -> Option<Mistake<'a>> {
+    if mbox?.starts_with(FROM) {
+        None
+    } else {
+        Some(Mistake::NoMailbox(path?))
+    }
+}
+
 /// Runs `lone`, with the mailbox file's bytes, if there is one.
 fn run_with<R: AllocGlobal + Input + Print + Eprint>(
     rt: &R,
@@ -102,10 +146,17 @@ fn run_with<R: AllocGlobal + Input + Print + Eprint>(
         host: bytes_of(matches, "host"),
         mbox,
     };
-    match BufWriter::with_capacity(rt.alloc(), GATHERED, io::writer(rt)) {
-        Ok(mut writer) => lone_run(rt, &mut rt.reader(), &mut writer, &options),
-        Err(_) => tell(rt, Fault::Memory),
+    let Ok(mut writer) = BufWriter::with_capacity(rt.alloc(), GATHERED, io::writer(rt)) else {
+        return tell(rt, Fault::Memory);
+    };
+    let status = lone_run(rt, &mut rt.reader(), &mut writer, &options);
+    if status == Fault::Value.status() {
+        let mistake = mistake_in_account(rt.alloc(), &options)
+            .or(mistake_in_stamp(&options))
+            .or(mistake_in_mailbox(matches.get_str("mbox"), mbox));
+        hint(rt, mistake);
     }
+    status
 }
 
 pub(crate) fn run_lone<R: AllocGlobal + Files + Input + Print + Eprint>(
@@ -118,6 +169,11 @@ pub(crate) fn run_lone<R: AllocGlobal + Files + Input + Print + Eprint>(
     match read_file(rt, rt.alloc(), path, u64::MAX, &mut Mailbox) {
         Ok(bytes) => run_with(rt, matches, Some(bytes.as_slice())),
         Err(ports::Fault::Memory) => tell(rt, Fault::Memory),
-        Err(_) => tell(rt, Fault::Read),
+        Err(_) => {
+            let status = tell(rt, Fault::Read);
+            let cause = Unread::look(rt, path);
+            hint(rt, cause.map(|cause| Mistake::CannotRead(path, cause)));
+            status
+        }
     }
 }

@@ -1,24 +1,43 @@
 //! The program `maildropd`: its command line, over the libraries `server`, `simulator`, `service` and `ctl`.
 #![tactic(auto)]
 
+mod account_lines;
+mod accounts;
 mod arguments;
+mod config;
+mod ctl_place;
 mod data;
+mod dry_run;
+mod greeting_writer;
 mod lone;
 mod mending;
+mod mistake;
+mod noting_runtime;
 mod operator;
 mod put_words;
+mod range;
+mod requests;
 mod serve;
+mod serve_faults;
+mod serve_mistakes;
+mod serve_options;
+mod settings_file;
 mod sim;
+mod unread;
 
+use crate::config::{Config, config_of, words_of_serve};
+use crate::ctl_place::option_by_environment;
 use crate::data::{begin_command, check_command, export_command, run_begin, run_check, run_export};
 use crate::lone::{lone, run_lone};
 use crate::mending::{mend_command, run_mend};
 use crate::operator::{ctl, run_ctl};
 use crate::put_words::status_without_memory;
-use crate::serve::{run_serve, serve};
+use crate::serve::run_serve;
+use crate::serve_options::{OPTIONS, serve, serve_in_part};
 use crate::sim::{run_sim, sim};
 use clap::error::ErrorKind;
 use clap::{Command, Error};
+use service::VERSION;
 use std::alloc::Global;
 use std::env::Env;
 use std::fs::File;
@@ -30,9 +49,6 @@ use std::rt::Files;
 use std::sync::Wait;
 use std::thread::Threads;
 use std::time::Clock;
-
-/// What `--version` prints after the program's name.
-const VERSION: &str = "0.1.0";
 
 fn command<'a>(alloc: Global) -> Result<Command<'a>, Error> {
     let maildropd = Command::new(alloc, "maildropd")
@@ -64,13 +80,28 @@ fn run<
         + Files<File = File>
         + Input
         + Print
-        + Eprint,
->(rt: &R, words: &[String]) -> Result<u8, Error> {
-    let matches = command(rt.alloc())?.try_get_matches_from(words)?;
+        + Eprint
+        + Env,
+>(rt: &R, words: &[String]) -> Result<u8, Error>
+where
+    R::Dir: Send,
+{
+    let alloc = rt.alloc();
+    let place = option_by_environment(rt, words)?;
+    let config = match words_of_serve(words) {
+        None => Ok(Config::none(alloc)),
+        Some(words) => config_of(rt, serve_in_part(alloc)?, words, OPTIONS),
+    };
+    let config = match config {
+        Ok(config) => config,
+        Err(fault) => return Ok(fault.report(rt)),
+    };
+    let words = config.joined(alloc, words, &place)?;
+    let matches = command(alloc)?.try_get_matches_from(words.as_slice())?;
     match matches.subcommand() {
         Some(("lone", inner)) => Ok(run_lone(rt, inner)),
         Some(("sim", _)) => Ok(run_sim(rt)),
-        Some(("serve", inner)) => Ok(run_serve(rt, inner)),
+        Some(("serve", inner)) => Ok(run_serve(rt, inner, &config)),
         Some(("ctl", inner)) => Ok(run_ctl(rt, inner)),
         Some(("begin", inner)) => Ok(run_begin(rt, inner)),
         Some(("check", inner)) => Ok(run_check(rt, inner)),

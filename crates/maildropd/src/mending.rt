@@ -1,17 +1,19 @@
 //! `maildropd mend`: what can be had of a data folder that a start refuses.
 
+use crate::accounts::accounts_in;
 use crate::arguments::{Choice, Kind, Presence, optional_text_of, text_of, with_options};
 use crate::data::{refuse, refuse_folder};
-use apop::{Accounts, AccountsError};
+use crate::mistake::{Mistake, hint};
+use apop::Accounts;
 use clap::{Arg, ArgAction, ArgMatches, Command, Error};
 use mend::{Base, Behind, Condition, Gap, MendFault, Mending, Survey, Way, most_messages};
 use ports::{Fault, say};
 use std::alloc::Global;
 use std::fs::File;
 use std::io;
-use std::io::Read;
 use std::random::RandomSource;
 use std::rt::Files;
+use std::time::Clock;
 use store::StoreFault;
 
 /// The options that have a value.
@@ -28,7 +30,7 @@ const OPTIONS: &[Choice] = &[
         value: "FILE",
         kind: Kind::Text,
         presence: Presence::Optional,
-        help: "The accounts file of the service: no user in it is given a unique id again, also if nothing can be read of this user",
+        help: "The accounts file of the service. It is needed if what can't be read may have names of users: no user in it is given a unique id again",
     },
 ];
 
@@ -55,23 +57,6 @@ fn way_of(matches: &ArgMatches<'_>) -> Result<Option<Way>, Fault> {
         (true, false) => Ok(Some(Way::Cut)),
         (false, true) => Ok(Some(Way::Salvage)),
         (true, true) => Err(Fault::Value),
-    }
-}
-
-/// The accounts of this file.
-fn accounts_in<R: AllocGlobal + Files<File = File>>(rt: &R, path: &str) -> Result<Accounts, Fault> {
-    let Ok(mut file) = std::fs::open(rt, path) else {
-        return Err(Fault::Read);
-    };
-    let mut bytes = Vec::new(rt.alloc());
-    if file.read_to_end(&mut bytes).is_err() {
-        return Err(Fault::Read);
-    }
-    match Accounts::read(rt.alloc(), &bytes) {
-        Ok(accounts) => Ok(accounts),
-        Err(AccountsError::Line(line)) => Err(Fault::Account(line)),
-        Err(AccountsError::Twice(line)) => Err(Fault::NameTwice(line)),
-        Err(AccountsError::Memory) => Err(Fault::Memory),
     }
 }
 
@@ -134,8 +119,8 @@ fn tell_user<R: AllocGlobal + Print>(rt: &R, user: &Behind) -> Result<(), Fault>
     )
 }
 
-/// Prints what was found.
-fn tell_survey<R: AllocGlobal + Print>(rt: &R, survey: &Survey) -> Result<(), Fault> {
+/// Prints what was found. Next unique ids become at least this one, if it isn't 0.
+fn tell_survey<R: AllocGlobal + Print>(rt: &R, survey: &Survey, least: u64) -> Result<(), Fault> {
     let alloc = rt.alloc();
     tell_base(rt, survey)?;
     for gap in &survey.behind.gaps {
@@ -148,6 +133,12 @@ fn tell_survey<R: AllocGlobal + Print>(rt: &R, survey: &Survey) -> Result<(), Fa
     )?;
     for user in &survey.users(alloc)? {
         tell_user(rt, user)?;
+    }
+    if least > 0 {
+        tell(
+            rt,
+            format!(in alloc; "first next ids become at least {least}\n"),
+        )?;
     }
     for (word, dropped) in [
         ("cut", survey.cut.dropped),
@@ -162,6 +153,17 @@ fn tell_survey<R: AllocGlobal + Print>(rt: &R, survey: &Survey) -> Result<(), Fa
     Ok(())
 }
 
+/// The first second of 2020, in seconds since 1970.
+const YEAR_2020: u64 = 1_577_836_800;
+
+/// The seconds since 2020: more than a user is given unique ids by a service that doesn't get a message a second for years.
+fn seconds_since_2020<R: Clock>(rt: &R) -> Result<u64, Fault> {
+    match rt.since_1970() {
+        Ok(time) => Ok(time.as_secs().saturating_sub(YEAR_2020)),
+        Err(_) => Err(Fault::Read),
+    }
+}
+
 /// A number that no sender of mail can know.
 fn random_salt<R: RandomSource>(rt: &R) -> Result<u64, Fault> {
     let mut salt = [0u8; 8];
@@ -172,7 +174,11 @@ fn random_salt<R: RandomSource>(rt: &R) -> Result<u64, Fault> {
 }
 
 /// Reports why a folder isn't mended. Returns the status.
-fn refuse_mending<R: Eprint>(rt: &R, path: &str, fault: MendFault) -> u8 {
+fn refuse_mending<R: AllocGlobal + Files + Copy + Eprint>(
+    rt: &R,
+    path: &str,
+    fault: MendFault,
+) -> u8 {
     if let MendFault::Store(fault) = fault {
         return refuse_folder(rt, path, fault);
     }
@@ -181,14 +187,24 @@ fn refuse_mending<R: Eprint>(rt: &R, path: &str, fault: MendFault) -> u8 {
 }
 
 /// Reports what a start refuses, and which words would mend it. Returns the status.
-fn ask<R: Eprint>(rt: &R, path: &str, fault: StoreFault) -> u8 {
+fn ask<R: AllocGlobal + Files + Copy + Eprint>(
+    rt: &R,
+    path: &str,
+    fault: StoreFault,
+    lacks_names: bool,
+) -> u8 {
     refuse_folder(rt, path, fault);
-    let _untold = eprintln!(rt; "maildropd: nothing was changed; say --cut or --salvage");
+    let accounts = if lacks_names {
+        ", with --accounts FILE"
+    } else {
+        ""
+    };
+    let _untold = eprintln!(rt; "maildropd: nothing was changed; say --cut or --salvage{accounts}");
     1
 }
 
 /// Reports what was found, and mends a folder in this way. Returns the status.
-fn mend_segment<R: AllocGlobal + Files<File = File> + RandomSource + Copy + Print + Eprint>(
+fn mend_segment<R: AllocGlobal + Files<File = File> + RandomSource + Clock + Copy + Print + Eprint>(
     rt: &R,
     path: &str,
     mending: &Mending<R>,
@@ -196,11 +212,15 @@ fn mend_segment<R: AllocGlobal + Files<File = File> + RandomSource + Copy + Prin
     way: Option<Way>,
 ) -> Result<u8, Fault> {
     let (fault, survey) = found;
-    tell_survey(rt, &survey)?;
-    let Some(way) = way else {
-        return Ok(ask(rt, path, fault));
+    let least = match mending.least(&survey, seconds_since_2020(rt)?) {
+        Ok(least) => least,
+        Err(fault) => return Ok(refuse_folder(rt, path, fault)),
     };
-    let mended = mending.mend(survey, way, random_salt(rt)?);
+    tell_survey(rt, &survey, least)?;
+    let Some(way) = way else {
+        return Ok(ask(rt, path, fault, survey.lacks_names()));
+    };
+    let mended = mending.mend(survey, way, random_salt(rt)?, least);
     tell_end(rt, path, mended)
 }
 
@@ -215,13 +235,13 @@ fn mend_note<R: AllocGlobal + Files<File = File> + Copy + Print + Eprint>(
     let alloc = rt.alloc();
     tell(rt, format!(in alloc; "the newest segment is whole\n"))?;
     if way.is_none() {
-        return Ok(ask(rt, path, fault));
+        return Ok(ask(rt, path, fault, false));
     }
     tell_end(rt, path, mending.forget_note())
 }
 
 /// Reports whether a folder was mended. Returns the status.
-fn tell_end<R: AllocGlobal + Print + Eprint>(
+fn tell_end<R: AllocGlobal + Files + Copy + Print + Eprint>(
     rt: &R,
     path: &str,
     mended: Result<(), MendFault>,
@@ -235,7 +255,7 @@ fn tell_end<R: AllocGlobal + Print + Eprint>(
 }
 
 /// Mends a folder as the words say. Returns the status.
-fn apply<R: AllocGlobal + Files<File = File> + RandomSource + Copy + Print + Eprint>(
+fn apply<R: AllocGlobal + Files<File = File> + RandomSource + Clock + Copy + Print + Eprint>(
     rt: &R,
     path: &str,
     matches: &ArgMatches<'_>,
@@ -260,10 +280,9 @@ fn apply<R: AllocGlobal + Files<File = File> + RandomSource + Copy + Print + Epr
     }
 }
 
-pub(crate) fn run_mend<R: AllocGlobal + Files<File = File> + RandomSource + Copy + Print + Eprint>(
-    rt: &R,
-    matches: &ArgMatches<'_>,
-) -> u8 {
+pub(crate) fn run_mend<
+    R: AllocGlobal + Files<File = File> + RandomSource + Clock + Copy + Print + Eprint,
+>(rt: &R, matches: &ArgMatches<'_>) -> u8 {
     let path = text_of(matches, "data");
     let mending = match Mending::open(rt, rt.alloc(), path) {
         Ok(mending) => mending,
@@ -271,6 +290,11 @@ pub(crate) fn run_mend<R: AllocGlobal + Files<File = File> + RandomSource + Copy
     };
     match apply(rt, path, matches, &mending) {
         Ok(status) => status,
+        Err(Fault::Value) => {
+            let status = refuse(rt, Fault::Value);
+            hint(rt, Some(Mistake::BothWays));
+            status
+        }
         Err(fault) => refuse(rt, fault),
     }
 }

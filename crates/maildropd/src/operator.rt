@@ -1,46 +1,27 @@
 //! `maildropd ctl`.
 
 use crate::arguments::{optional_number_of, optional_text_of};
+use crate::ctl_place::{await_listener, place_of};
+use crate::greeting_writer::GreetingWriter;
+use crate::mistake::{Mistake, hint};
+use crate::noting_runtime::NotingRuntime;
+use crate::range::{Bound, LAST_PORT};
+use crate::requests::{REQUESTS, mistake_in_words};
 use clap::{Arg, ArgAction, ArgMatches, Command, Error, value_parser};
 use ctl::{CtlOptions, ctl_run};
 use std::alloc::Global;
 use std::io;
 use std::net::{Net, TcpListener, TcpStream};
 use std::rt::Files;
+use std::time::Clock;
 
-/// What `--help` shows below the options.
-const REQUESTS: &str = "Requests:
-  deliver NODE USER FILE [KEY]  Delivers the messages of a mailbox file (mboxrd); under a key of 1 to 54 visible ASCII characters, each is stored once, however often it is sent
-  put NODE USER [KEY]           Delivers one message, which is read from standard input as it is; NODE 0 is any node that is up. Under a key of any characters it is stored once
-  break NODE USER               Takes the user's lock from the session that has it
-  kick USER                     Cuts the user's sessions, and reports how many these were
-  crash NODE                    Stops a node until the epoch ends, and takes the locks from its sessions
-  status                        Reports the state of each node
-  sessions                      Lists the sessions that are open
-  stats                         Reports what the service has done so far
-  locks                         Lists the users whose maildrop is locked, and by which node's session
-  users                         Lists the users, and what their maildrops have
-  roll                          Ends the epoch: the next one reads the accounts anew and has all nodes up, with the same mail
-  stop                          Ends the service, once its sessions have ended
-  stop now                      Ends the service, and cuts its sessions
-After the first word of a request nothing is an option.
-The status is 0 after an answer, 3 if that is `bad request`, `bad mbox` or `down`, 2 for words that are no request, else 1.
-After `put` it is 0 if the message is stored, 67 if there is no such user, 65 if it is too large, 64 for words that are no request, and 75 if it may be sent again later.
-After `--wait stop` it is 0 if the verdict is `audit ok`, or if a node in a process of its own has `stopped`, else 1.
-Examples:
-  maildropd ctl --port 11999 deliver 1 alice mail.mbox
-  maildropd ctl --port 11999 put 0 alice monday-7 <message
-  maildropd ctl --port 11999 break 1 alice
-  maildropd ctl --port 11999 kick alice
-  maildropd ctl --port 11999 crash 3
-  maildropd ctl --port 11999 status
-  maildropd ctl --port 11999 sessions
-  maildropd ctl --port 11999 stats
-  maildropd ctl --port 11999 locks
-  maildropd ctl --port 11999 users
-  maildropd ctl --port 11999 roll
-  maildropd ctl --port 11999 --wait stop
-  maildropd ctl --socket /run/maildropd/ctl stop now";
+/// The status after a fault of the system or the network.
+const FAILED: u8 = 1;
+
+/// The statuses after words or options that are none: of `put`, and of any other request.
+const BAD_PUT: u8 = 64;
+
+const BAD_VALUE: u8 = 2;
 
 /// The options that name the service: a port or a socket.
 fn places<'a>(alloc: Global) -> Result<(Arg<'a>, Arg<'a>), Error> {
@@ -74,7 +55,9 @@ pub(crate) fn ctl<'a>(alloc: Global) -> Result<Command<'a>, Error> {
         .action(ArgAction::Append);
     let wait = Arg::new(alloc, "wait")
         .long("wait")
-        .help("Waits for the verdict after `stop` or `stop now`, and prints it")
+        .help(
+            "Waits for the verdict after `stop` or `stop now`, and prints it. Before `status` it waits until the service takes requests, for a minute at most",
+        )
         .action(ArgAction::SetTrue);
     let (port, socket) = places(alloc)?;
     let ctl = Command::new(alloc, "ctl")
@@ -83,25 +66,116 @@ pub(crate) fn ctl<'a>(alloc: Global) -> Result<Command<'a>, Error> {
     Ok(ctl.arg(port)?.arg(socket)?.arg(wait)?.arg(words)?)
 }
 
+/// Whether a request is `status`.
+fn is_status(words: &[&str]) -> bool {
+    match words {
+        [word] => *word == "status",
+        _ => false,
+    }
+}
+
+/// Whether a request is `stop` or `stop now`.
+fn is_stop(words: &[&str]) -> bool {
+    match words {
+        [word] => *word == "stop",
+        [word, second] => *word == "stop" && *second == "now",
+        _ => false,
+    }
+}
+
+/// What is wrong with the words of a request, if that is known.
+fn mistake_in<'a>(alloc: Global, words: &[&'a str], waits: bool) -> Option<Mistake<'a>> {
+    let mistake = mistake_in_words(alloc, words);
+    if mistake.is_none() && waits && !is_stop(words) {
+        return Some(Mistake::NotWaitedFor);
+    }
+    mistake
+}
+
+/// The path of the file that a request has delivered.
+fn file_of<'a>(words: &[&'a str]) -> Option<&'a str> {
+    match words {
+        [_, _, _, file, ..] => Some(*file),
+        _ => None,
+    }
+}
+
+/// Why a request failed, if that is known, by what it was refused, or by who answered at this port.
+fn mistake_seen<'a, R>(
+    noted: &NotingRuntime<'_, R>,
+    port: Option<u64>,
+    file: Option<&'a str>,
+    is_greeted: bool,
+) -> Option<Mistake<'a>> {
+    if noted.lacks_listener() {
+        return Some(match port {
+            Some(_) => Mistake::NobodyAtPort,
+            None => Mistake::NobodyAtSocket,
+        });
+    }
+    if let Some(cause) = noted.unread() {
+        return Some(Mistake::CannotRead(file?, cause));
+    }
+    match port {
+        Some(port) if is_greeted => Some(Mistake::PopPort(port)),
+        _ => None,
+    }
+}
+
+/// What is wrong with the options or the words of a request, if that is known.
+fn mistake_asked<'a>(alloc: Global, matches: &ArgMatches<'a>, waits: bool) -> Option<Mistake<'a>> {
+    let port = optional_number_of(matches, "port");
+    if place_of(port, optional_text_of(matches, "socket")).is_none() {
+        return Some(Mistake::OutOfRange("port", 1, Bound(LAST_PORT)));
+    }
+    mistake_in(alloc, matches.get_strs("words").unwrap_or(&[]), waits)
+}
+
+/// Waits until the service listens, if that is asked for before `status`. Returns whether a verdict is to be waited for.
+fn waits_for_verdict<R: Net<Listener = TcpListener, Stream = TcpStream> + Clock>(
+    rt: &R,
+    matches: &ArgMatches<'_>,
+) -> bool {
+    let waits = matches.get_flag("wait");
+    if !waits || !is_status(matches.get_strs("words").unwrap_or(&[])) {
+        return waits;
+    }
+    let port = optional_number_of(matches, "port");
+    if let Some(place) = place_of(port, optional_text_of(matches, "socket")) {
+        await_listener(rt, &place);
+    }
+    false
+}
+
+/// Runs `ctl`.
 pub(crate) fn run_ctl<
     R: Net<Listener = TcpListener, Stream = TcpStream>
+        + Clock
         + AllocGlobal
         + Files
         + Input
         + Print
         + Eprint,
 >(rt: &R, matches: &ArgMatches<'_>) -> u8 {
+    let waits = waits_for_verdict(rt, matches);
     let options = CtlOptions {
         port: optional_number_of(matches, "port"),
         socket: optional_text_of(matches, "socket"),
-        waits: matches.get_flag("wait"),
+        waits,
         words: matches.get_strs("words").unwrap_or(&[]),
     };
-    ctl_run(
-        rt,
-        rt.alloc(),
-        &mut rt.reader(),
-        &mut io::writer(rt),
-        &options,
-    )
+    let noted = NotingRuntime::new(rt);
+    let mut writer = GreetingWriter::new(io::writer(rt));
+    let alloc = rt.alloc();
+    let status = ctl_run(&noted, alloc, &mut rt.reader(), &mut writer, &options);
+    match status {
+        FAILED => {
+            let port = optional_number_of(matches, "port");
+            let file = file_of(matches.get_strs("words").unwrap_or(&[]));
+            hint(rt, mistake_seen(&noted, port, file, writer.is_greeted()));
+        }
+        BAD_VALUE | BAD_PUT => hint(rt, mistake_asked(alloc, matches, waits)),
+        _ => {}
+    }
+    status
 }
