@@ -16,7 +16,7 @@ import subprocess
 import time
 
 from tests import processes
-from tests.expectations import PATIENCE, Failed, expect, expect_equal, shown
+from tests.expectations import PATIENCE, Failed, expect, expect_equal, first_line, shown
 from tests.groups import Group
 
 DATA = os.path.join(os.path.dirname(os.path.dirname(os.path.abspath(__file__))), "crates", "cases", "data")
@@ -129,6 +129,10 @@ def counting(case, output):
 def play_at_once(fixture, case, words):
     ran = fixture.run(*words, given=case.sent)
     got = (ran.status, ran.errors, counting(case, ran.output))
+    if words[0] == "lone" and case.status == 2:
+        # The program also names the mistake, in a line of its own.
+        expect(ran.errors.count(b"\n") == case.told.count(b"\n") + 1, f"no line, or too many, below the fault: {ran.errors!r}")
+        got = (ran.status, first_line(ran.errors), counting(case, ran.output))
     expect_equal(got, (case.status, case.told, case.wanted), "status, standard error and output")
 
 

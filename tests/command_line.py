@@ -30,7 +30,7 @@ def stored_run(fixture):
 @COMMAND_LINE.test
 def help_and_version(fixture):
     ran = fixture.run("--version")
-    expect_equal((ran.status, ran.output), (0, b"maildropd 0.1.0\n"), "--version")
+    expect_equal((ran.status, ran.output), (0, b"maildropd 0.2.0\n"), "--version")
     lines = fixture.run("--help").output.decode()
     for command in COMMANDS:
         expect(re.search(rf"^  {command} +[A-Z]", lines, re.MULTILINE), f"--help doesn't list {command}: {lines}")
@@ -105,4 +105,4 @@ def output_that_cannot_be_written(fixture):
 @COMMAND_LINE.test
 def a_mailbox_that_cannot_be_read(fixture):
     ran = fixture.run("lone", "--user", "alice", "--secret", "s", "--mbox", "absent")
-    expect_equal((ran.status, ran.output, ran.errors), (1, b"", b"maildropd: read failed\n"), "lone --mbox absent")
+    expect_equal((ran.status, ran.output, ran.errors), (1, b"", b"maildropd: read failed\nmaildropd: cannot read absent: no such file\n"), "lone --mbox absent")

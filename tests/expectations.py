@@ -35,5 +35,10 @@ def wait_until(holds, what, seconds=PATIENCE):
         time.sleep(0.005)
 
 
+def first_line(text):
+    """The fault that standard error names. A line below it may name the mistake."""
+    return text.partition(b"\n")[0] + b"\n" if text else text
+
+
 def octets(text):
     return text if isinstance(text, bytes) else text.encode()

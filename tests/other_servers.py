@@ -11,11 +11,12 @@ GROUPS = [OTHER_SERVERS]
 
 READ_FAILED = b"maildropd: read failed\n"
 NO_MEMORY = b"maildropd: no memory\n"
+POP_PORT = b"maildropd: 127.0.0.1:PORT is a POP3 port, not the operator's\n"
 # The words after `ctl --port PORT`, what the server sends before it closes, and the status, output and standard error of `ctl`.
 ANSWERS = [
     ("status", b"", 1, b"", READ_FAILED),
     # Lines are printed as they come.
-    ("status", b"+OK POP3 server ready\r\n", 1, b"+OK POP3 server ready\r\n", READ_FAILED),
+    ("status", b"+OK POP3 server ready\r\n", 1, b"+OK POP3 server ready\r\n", READ_FAILED + POP_PORT),
     ("status", b"node 1 up active slot 1\n", 1, b"node 1 up active slot 1\n", READ_FAILED),
     ("status", b"node 1 up active slot 1\nend\n", 0, b"node 1 up active slot 1\nend\n", b""),
     # A line is too long once over 1,000,000 bytes have come, with those that come in one read.
@@ -60,4 +61,5 @@ def answers_are_read(fixture):
         server.start()
         ran = fixture.run("ctl", "--port", first, *words.split(" "), given=message)
         server.join()
+        errors = errors.replace(b"PORT", b"%d" % first)
         expect_equal((ran.status, ran.output, ran.errors), (status, output, errors), f"ctl {words} at a server that sends {answer[:80]!r}")

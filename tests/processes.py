@@ -9,6 +9,8 @@ from tests.expectations import PATIENCE, Failed
 
 # As ./maildropd sets them.
 ENVIRONMENT = {"MALLOC_ARENA_MAX": "2", "MALLOC_TRIM_THRESHOLD_": "131072"}
+# No service is named: `ctl` takes an empty value as none.
+UNNAMED = {"MAILDROPD_CTL": ""}
 
 _running = set()
 # (a signal may come while its own thread holds the lock)
@@ -25,7 +27,7 @@ class Ran:
 
 def start(words, **how):
     """Starts a process in a process group of its own."""
-    given = {"stdin": subprocess.DEVNULL, "env": {**ENVIRONMENT, **os.environ}, **how}
+    given = {"stdin": subprocess.DEVNULL, "env": {**ENVIRONMENT, **os.environ, **UNNAMED}, **how}
     with _lock:
         if _state["ends"]:
             raise Failed("interrupted")

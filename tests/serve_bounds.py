@@ -230,7 +230,7 @@ def stats_count_what_ended(fixture):
     wanted = {
         "sessions_open": 1, "sessions_served": 1, "logins_refused": 0, "messages_stored": 1, "messages_fetched": 1, "messages_removed": 1,
         "octets_stored": 30, "bytes_read": len(given), "bytes_written": len(came), "epoch": 1, "epoch_sessions": 1, "audits_running": 0,
-        "torn_bytes": 0,
+        "torn_bytes": 0, "log_lines_lost": 0,
         # The next change is the fourth, after the message, the login, and the removal.
         "slots": 4,
     }

@@ -23,7 +23,8 @@ BEFORE = [
         "USER alice\r\nPASS s3\r\nDELE 1\r\nQUIT\r\n",
         "+OK send PASS\r\n+OK maildrop has 2 messages (8 octets)\r\n+OK message 1 deleted\r\n+OK signing off\r\n",
     ),
-    Ctl("deliver 2 alice FILE tuesday", 0, "op alice 2/1 stored 3\nop alice 2/2 stored 4\nend\n"),
+    # At the leader: at a node that lags, unique ids may have another order than the file.
+    Ctl("deliver 1 alice FILE tuesday", 0, "op alice 1/1 stored 3\nop alice 1/2 stored 4\nend\n"),
     Connects(1),
     Says(
         1,
@@ -71,6 +72,20 @@ def begun(fixture):
 def expect_run(fixture, words, output=b"", status=0, errors=b""):
     ran = fixture.run(*words)
     expect_equal((ran.status, ran.output, ran.errors), (status, output, errors), " ".join(words))
+
+
+@DATA.test
+def a_message_that_never_fits(fixture):
+    """It is refused for good before it comes, but only for who has an account. A file may be sent in parts."""
+    folder, most = fixture.path("mail"), 240 << 20
+    expect_equal(fixture.run("begin", "--data", folder).status, 0, "begin")
+    service = serve(fixture, data=folder)
+    play_to_end(service, [
+        Asks(f"put 1 alice {most + 1}\n", "op alice 1/0 too large\nend\n"),
+        Asks(f"put 1 zoe {most + 1}\n", "no such user\n"),
+        Asks(f"deliver 1 alice {most + 1}\n", "bad request\n"),
+        STOP,
+    ])
 
 
 @DATA.test
@@ -124,7 +139,7 @@ def segments_are_checked_and_mail_is_exported(fixture):
     exported = b"From maildropd Thu Jan  1 00:00:00 1970\nhi\n\nFrom maildropd Thu Jan  1 00:00:00 1970\nho\n\n"
     expect_run(fixture, ["export", "--data", folder, "alice"], exported)
     expect_run(fixture, ["export", "--data", folder, "bob"], b"", 1, f"maildropd: {folder} never had mail for bob\n".encode())
-    expect_run(fixture, ["export", "--data", folder, "a b"], b"", 2, b"maildropd: bad value\n")
+    expect_run(fixture, ["export", "--data", folder, "a b"], b"", 2, b"maildropd: bad value\nmaildropd: NAME is 1 to 40 visible ASCII characters\n")
 
 
 @DATA.test
@@ -174,22 +189,25 @@ def folders_are_refused(fixture):
     expect_equal(service.ctl("put", "1", "alice", given=b"hi\n").status, 0, "put")
     expect_refused(fixture, folder, f"{folder} is in use")
     service.stop()
-    expect_run(fixture, ["begin", "--data", folder], b"", 1, f"maildropd: {folder} is not empty\n".encode())
+    text = f"maildropd: {folder} is not empty\nmaildropd: name a folder that is empty, or isn't there\n"
+    expect_run(fixture, ["begin", "--data", folder], b"", 1, text.encode())
     absent = fixture.path("absent")
     for word in ("check", "export"):
         words = [word, "--data", absent] + ["alice"] * (word == "export")
-        expect_run(fixture, words, b"", 1, f"maildropd: {absent} was not begun\n".encode())
+        text = f"maildropd: {absent} was not begun\nmaildropd: make it once: maildropd begin --data {absent}\n"
+        expect_run(fixture, words, b"", 1, text.encode())
     file = fixture.file("file", b"")
     for words in (["begin"], ["check"], ["export", "alice"]):
         expect_run(fixture, [words[0], "--data", file, *words[1:]], b"", 1, f"maildropd: {file} can't be read\n".encode())
     inside = f"{absent}/inside"
-    expect_run(fixture, ["begin", "--data", inside], b"", 1, f"maildropd: {inside} can't be written\n".encode())
+    text = f"maildropd: {inside} can't be written\nmaildropd: there is no folder {absent}\n"
+    expect_run(fixture, ["begin", "--data", inside], b"", 1, text.encode())
     changed(newest(folder), 0)
     damaged = f"{newest(folder)} is damaged at byte 0"
     ran = fixture.run("check", "--data", folder)
     expect_equal((ran.status, ran.errors), (1, f"maildropd: {damaged}\n".encode()), "check")
     expect_refused(fixture, folder, damaged)
-    expect_refused(fixture, absent, f"{absent} was not begun")
+    expect_refused(fixture, absent, f"{absent} was not begun\nmaildropd: make it once: maildropd begin --data {absent}")
 
 
 @DATA.test

@@ -1,12 +1,13 @@
 """Epochs: mail stays when new nodes take over, at an operator's request, at a bound, or without a majority."""
 
+import os
 import time
 
 from tests.expectations import expect, expect_equal, wait_until
 from tests.groups import Group
 from tests.rows import STOP, Asks, Connects, Ctl, Ends, Says, Stage, StatusHas, play, play_to_end
 from tests.services import ACCOUNTS, Service, serve
-from tests.texts import EMPTY, QUIT, SHORT
+from tests.texts import ALICE, BYE, EMPTY, QUIT, SHORT
 
 EPOCHS = Group("epochs")
 GROUPS = [EPOCHS]
@@ -84,29 +85,42 @@ def accounts_are_read_anew(fixture):
     service.expect_ctl("roll", "rolled\n")
     service.expect_ctl("users", "user alice messages 0 octets 0 next_id 1\nuser bob messages 1 octets 4 next_id 2\nend\n")
     service.write_accounts("alice\n")
-    service.expect_ctl("roll", "rolled\n")
+    service.expect_ctl("roll", "roll failed: accounts line 1\n", 3)
     service.expect_ctl(f"deliver 1 bob {mailbox}", "op bob 1/1 stored 2\nend\n")
-    with open(log, encoding="utf-8") as it:
-        text = it.read()
-    expect(" event=fault text=accounts line 1\n" in text, f"the log has no fault: {text}")
-    service.stop(b"epoch 1: audit ok\nepoch 2: audit ok\nepoch 3: audit ok\naudit ok\n")
+    wait_until(lambda: " event=roll_failed cause=accounts line 1\n" in logged(log), "the failure is in the log")
+    service.stop(b"epoch 1: audit ok\nepoch 2: audit ok\naudit ok\n")
 
 
 @EPOCHS.test
 def an_accounts_file_without_an_account_is_faulty(fixture):
-    """It may be one that is being written: the users of the last epoch stay, and their mail is taken."""
+    """It may be one that is being written: the users of the epoch stay, and their mail is taken. An operator's roll fails, and cuts nobody.
+    An epoch that ends by itself goes on with the old accounts."""
     log = fixture.path("log")
-    service = serve(fixture, log=log)
+    service = serve(fixture, log=log, epoch_sessions=2)
+    client = fixture.connect(service.node(1))
+    client.read_line()
+    for content in ("", "\n\n"):
+        service.write_accounts(content)
+        service.expect_ctl("roll", "roll failed: accounts: none\n", 3)
+    os.remove(service.accounts_path)
+    service.expect_ctl("roll", "roll failed: read failed\n", 3)
+    client.send((ALICE + QUIT).encode())
+    client.expect((EMPTY + BYE).encode())
     service.write_accounts("")
-    service.expect_ctl("roll", "rolled\n")
+    expect_served(fixture, service.node(1))
+    wait_until(lambda: epoch(service) == 2, "the second epoch begins")
     ran = service.ctl("put", "1", "bob", given=b"hi\n")
     expect_equal((ran.status, ran.output), (0, b"op bob 1/1 stored 1\nend\n"), "put")
-    service.write_accounts("\n\n")
+    for event, count in (("roll_failed cause=accounts: none", 2), ("roll_failed cause=read failed", 1), ("fault text=accounts: none", 1)):
+        wait_until(lambda: logged(log).count(f" event={event}\n") == count, f"the log has {event!r} {count} times")
+    service.write_accounts(ACCOUNTS)
     service.expect_ctl("roll", "rolled\n")
-    service.expect_ctl("users", "user alice messages 0 octets 0 next_id 1\nuser bob messages 1 octets 4 next_id 2\nend\n")
-    with open(log, encoding="utf-8") as it:
-        expect_equal(it.read().count(" event=fault text=accounts: none\n"), 2, "faults in the log")
     service.stop(b"epoch 1: audit ok\nepoch 2: audit ok\naudit ok\n")
+
+
+def logged(path):
+    with open(path, encoding="utf-8") as it:
+        return it.read()
 
 
 def expect_served(fixture, port):
@@ -136,9 +150,8 @@ def a_service_without_a_majority_goes_on_with_all_nodes(fixture):
     expect(time.monotonic() - crashed < SOON, "the second epoch begins too late")
     expect_served(fixture, first)
     service.expect_ctl("crash 1", "crashed\n")
-    with open(log, encoding="utf-8") as it:
-        text = it.read()
-    expect(" event=no_majority\n" in text and " event=roll epoch=2\n" in text, f"the log: {text}")
+    for event in (" event=no_majority\n", " event=roll epoch=2\n"):
+        wait_until(lambda event=event: event in logged(log), f"the log has {event!r}")
     service.stop(b"epoch 1: audit ok\naudit ok\n")
 
 

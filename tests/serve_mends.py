@@ -3,7 +3,9 @@
 What a segment has is read here as the documents describe it, without sums. The expected values follow from where the damage is."""
 
 import os
+import re
 import shutil
+import time
 
 from tests.expectations import expect, expect_equal
 from tests.groups import Group
@@ -19,6 +21,10 @@ STORED, OPENED = 2, 6
 # The fewest bytes that a stored message takes in a segment.
 SMALLEST = 28
 USERS = ("alice", "bob")
+# Without the opening of a segment next unique ids become first what earlier mends have raised them to, and if the segment just before
+# isn't whole either at least the seconds since the begin of 2020.
+LEAST = re.compile(rb"first next ids become at least (\d+)\n")
+BEGIN_OF_2020 = 1_577_836_800
 
 
 def number(segment, place, size=4):
@@ -117,6 +123,12 @@ class Scene:
         return {user: sorted(uid for uid in self.all[user] if (user, uid) not in gone) for user in USERS}
 
 
+def spoil_opening(path):
+    with open(path, "r+b") as it:
+        it.seek(HEAD + BEFORE)
+        it.write(b"\xff\xff")
+
+
 def started(fixture, folder):
     return serve(fixture, data=folder, messages=1000, octets=10_000_000)
 
@@ -141,21 +153,42 @@ def mend(fixture, folder, *words):
     return fixture.run("mend", "--data", folder, *words)
 
 
+def mend_for_users(fixture, folder, *words):
+    return mend(fixture, folder, *words, "--accounts", fixture.file("accounts", ACCOUNTS))
+
+
+def seconds():
+    return int(time.time()) - BEGIN_OF_2020
+
+
+def least_in(output):
+    """The least next unique id that `mend` has reported, or 0."""
+    found = LEAST.search(output)
+    return int(found[1]) if found else 0
+
+
+def expect_least_by_time(output, before):
+    """The least next unique id that `mend` has reported is the time since then. Returns it."""
+    expect(before <= least_in(output) <= seconds(), f"the least next id in {output!r}")
+    return least_in(output)
+
+
 def files_of(folder):
     return {name: content(os.path.join(folder, name)) for name in sorted(os.listdir(folder)) if name != "lock"}
 
 
-def expect_mended(fixture, folder, way, left, raised, *words):
+def expect_mended(fixture, folder, way, left, raised):
     """`mend` in this way: status 0, and a second run has nothing to do. Then a start has what is left, and each next unique id is
     raised by so many."""
     damaged = files_of(folder)
-    ran = mend(fixture, folder, way, *words)
+    ran = mend_for_users(fixture, folder, way)
     expect_equal((ran.status, ran.errors, ran.output.endswith(b"mended\n")), (0, b"", True), f"mend {way}: {ran.output!r} {ran.errors!r}")
     after = files_of(folder)
     old = damaged.get("00000003.log")
     expect_equal(after.get("00000003.log.damaged"), old, "the damaged segment stays")
     expect_equal(after["00000002.log"], damaged["00000002.log"], "the segment before")
-    expect_equal(sorted(after), sorted({"00000002.log", "00000003.log"} | ({"00000003.log.damaged"} if old is not None else set())), "files")
+    names = {"00000002.log", "00000003.log", "mended"} | ({"00000003.log.damaged"} if old is not None else set())
+    expect_equal(sorted(after), sorted(names), "files")
     expect_equal(mend(fixture, folder).output, b"nothing to mend\n", "mend again")
     service = started(fixture, folder)
     for user in USERS:
@@ -164,13 +197,13 @@ def expect_mended(fixture, folder, way, left, raised, *words):
     service.stop()
 
 
-def expect_told(fixture, folder, fault, lines):
+def expect_told(fixture, folder, fault, lines, accounts=", with --accounts FILE"):
     """Without a word `mend` reports this, changes nothing, and a start refuses the folder for the same."""
-    before = files_of(folder)
+    files = files_of(folder)
     ran = mend(fixture, folder)
-    text = f"maildropd: {folder}{fault}\nmaildropd: nothing was changed; say --cut or --salvage\n"
+    text = f"maildropd: {folder}{fault}\nmaildropd: nothing was changed; say --cut or --salvage{accounts}\n"
     expect_equal((ran.status, ran.errors, ran.output), (1, text.encode(), "".join(f"{line}\n" for line in lines).encode()), "mend")
-    expect_equal(files_of(folder), before, "the files after mend without a word")
+    expect_equal(files_of(folder), files, "the files after mend without a word")
 
 
 def told(scene, base, gaps, whole, users, cut, salvaged, refused=0):
@@ -305,10 +338,9 @@ def a_missing_tail_or_file(fixture):
     for way in ("--cut", "--salvage"):
         folder = scene.copy(f"short{way}", scene.bytes[:last.middle], note=True)
         expect_mended(fixture, folder, way, scene.without(scene.changes[5:]), (size - last.begin) // SMALLEST)
-        folder = scene.copy(f"missing{way}", None, note=True)
         # (nothing that can be read has the name of bob)
-        accounts = fixture.file("accounts", ACCOUNTS)
-        expect_mended(fixture, folder, way, scene.without(scene.changes), size // SMALLEST, "--accounts", accounts)
+        folder = scene.copy(f"missing{way}", None, note=True)
+        expect_mended(fixture, folder, way, scene.without(scene.changes), size // SMALLEST)
 
 
 @MENDS.long_test
@@ -321,12 +353,82 @@ def a_damaged_note(fixture):
     text[-1] ^= 1
     with open(note, "wb") as it:
         it.write(text)
-    expect_told(fixture, folder, "/clean is damaged", ["the newest segment is whole"])
+    expect_told(fixture, folder, "/clean is damaged", ["the newest segment is whole"], accounts="")
     expect_equal(mend(fixture, folder, "--cut").output, b"the newest segment is whole\nmended\n", "mend")
     expect_equal(sorted(files_of(folder)), ["00000002.log", "00000003.log"], "files")
     service = started(fixture, folder)
     expect_equal([listed(service, user) for user in USERS], [sorted(scene.all[user]) for user in USERS], "all mail")
     service.stop()
+
+
+@MENDS.long_test
+def a_mended_opening_is_damaged_again(fixture):
+    """After a mend, a start and a kill two openings are damaged. The segment that is taken knows nothing of the ids that were raised."""
+    scene = Scene(fixture)
+    folder = scene.copy("twice", scene.changed(scene.snapshot[0].middle))
+    ran = mend_for_users(fixture, folder, "--cut")
+    expect_equal((ran.status, least_in(ran.output)), (0, 0), "the first mend")
+    # Before any start: alice has the most, three messages in the segment before.
+    spoil_opening(os.path.join(folder, "00000003.log"))
+    os.remove(os.path.join(folder, "00000003.log.damaged"))
+    ran = mend_for_users(fixture, folder, "--cut")
+    expect_equal((ran.status, least_in(ran.output)), (0, 4 + len(scene.bytes) // SMALLEST), "the second mend")
+    service = serve(fixture, data=folder, messages=1000, octets=10_000_000, keep=3)
+    given = [put(service, user) for user in USERS for _ in range(3)]
+    service.process.kill()
+    service.process.wait()
+    for segment in (3, 4):
+        spoil_opening(os.path.join(folder, f"0000000{segment}.log"))
+    os.remove(os.path.join(folder, "00000003.log.damaged"))
+    before = seconds()
+    ran = mend_for_users(fixture, folder, "--cut")
+    expect(b"segment 4 has a damaged opening, so segment 2 is taken\n" in ran.output, f"mend: {ran.output!r} {ran.errors!r}")
+    expect_least_by_time(ran.output, before)
+    service = started(fixture, folder)
+    again = [put(service, user) for user in USERS]
+    expect(min(again) > max(given), f"unique ids after the first mend {given}, and after the second {again}")
+    service.stop()
+
+
+@MENDS.long_test
+def an_older_segment(fixture):
+    """Of three segments the newest has a damaged opening, and the one before it is missing: the oldest is taken."""
+    folder = fixture.path("three")
+    expect_equal(fixture.run("begin", "--data", folder).status, 0, "begin")
+    service = serve(fixture, data=folder, messages=1000, octets=10_000_000, keep=3)
+    for _ in range(2):
+        put(service, "alice")
+        service.expect_ctl("roll", "rolled\n")
+    service.stop(b"epoch 1: audit ok\nepoch 2: audit ok\naudit ok\n")
+    names = sorted(name for name in os.listdir(folder) if name.endswith(".log"))
+    os.remove(os.path.join(folder, names[-2]))
+    spoil_opening(os.path.join(folder, names[-1]))
+    before, size = seconds(), os.path.getsize(os.path.join(folder, names[-1]))
+    ran = mend_for_users(fixture, folder, "--cut")
+    least, oldest = expect_least_by_time(ran.output, before), int(names[-3][:8])
+    expect(f"so segment {oldest} is taken\n".encode() in ran.output, f"mend: {ran.output!r}")
+    service = started(fixture, folder)
+    expect_equal([put(service, user) for user in USERS], [least + size // SMALLEST] * 2, "the next unique ids")
+    service.stop()
+
+
+@MENDS.long_test
+def names_that_cannot_be_read(fixture):
+    """Without the accounts a user whose name can't be read would be given unique ids again."""
+    scene = Scene(fixture)
+    # A change, and all: of an empty file nobody can tell what it had.
+    for name, damaged, ways in (
+        ("nameless", scene.changed(scene.changes[3].middle), ("--cut", "--salvage")),
+        ("empty", b"", ("--cut",)),
+    ):
+        folder = scene.copy(name, damaged)
+        before = files_of(folder)
+        for way in ways:
+            ran = mend(fixture, folder, way)
+            text = f"maildropd: {folder}: say --accounts FILE: what can't be read may have names of users\n"
+            expect_equal((ran.status, ran.errors), (1, text.encode()), f"mend {way} of {name}")
+        expect_equal(files_of(folder), before, f"the files of {name}")
+    expect_mended(fixture, folder, "--cut", scene.without(scene.changes), 0)
 
 
 @MENDS.long_test
@@ -350,14 +452,15 @@ def mends_are_refused(fixture):
     service.stop()
     absent = fixture.path("absent")
     ran = mend(fixture, absent)
-    expect_equal((ran.status, ran.errors), (1, f"maildropd: {absent} was not begun\n".encode()), "no folder")
+    text = f"maildropd: {absent} was not begun\nmaildropd: make it once: maildropd begin --data {absent}\n"
+    expect_equal((ran.status, ran.errors), (1, text.encode()), "no folder")
     ran = mend(fixture, scene.folder, "--cut", "--salvage")
-    expect_equal((ran.status, ran.errors), (2, b"maildropd: bad value\n"), "both words")
+    expect_equal((ran.status, ran.errors), (2, b"maildropd: bad value\nmaildropd: say --cut or --salvage, not both\n"), "both words")
     folder = scene.copy("taken", scene.changed(scene.changes[0].middle))
     with open(os.path.join(folder, "00000003.log.damaged"), "wb") as it:
         it.write(b"another file")
     before = files_of(folder)
-    ran = mend(fixture, folder, "--cut")
+    ran = mend_for_users(fixture, folder, "--cut")
     expect_equal((ran.status, ran.errors), (1, f"maildropd: {folder}/00000003.log.damaged is in the way\n".encode()), "a name that is taken")
     expect(all(files_of(folder)[name] == text for name, text in before.items()), "the files after it")
     folder = scene.copy("alone", scene.changed(3))

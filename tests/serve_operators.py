@@ -1,6 +1,7 @@
 """What operators ask for and get, by `ctl` and by connections of their own."""
 
 import os
+import select
 import signal
 import socket
 import time
@@ -18,6 +19,8 @@ OPERATORS = Group("operators")
 GROUPS = [OPERATORS]
 
 ALICE_ALONE = "alice pass s3\n"
+# How long an operator has for a line, and a client.
+LINE_SECONDS, IDLE_SECONDS = 10, 5
 
 REQUESTS = [
     AsksAndShuts("", "bad request\n"),
@@ -278,6 +281,33 @@ def requests_outlast_a_process_that_was_stopped(fixture):
     client.expect(b"+OK send PASS\r\n")
     service.ctl("stop", "now")
     service.expect_end(b"audit ok\n")
+
+
+@OPERATORS.long_test
+def interruptions_lengthen_no_wait(fixture):
+    """An operator has ten seconds for a line, and a client its own time, however often the process is stopped meanwhile."""
+    service = serve(fixture, idle_seconds=IDLE_SECONDS)
+    client = fixture.connect(service.node(1))
+    client.read_line()
+    client.send(ALICE.encode())
+    client.expect(EMPTY.encode())
+    operator = fixture.connect(service.ctl_port)
+    operator.send(b"sta")
+    operator.expect_read()
+    since, ends = time.monotonic(), {}
+    bounds = {operator: LINE_SECONDS, client: IDLE_SECONDS}
+    while len(ends) < len(bounds):
+        waiting = {it.stream: it for it in bounds if it not in ends}
+        for stream in select.select(list(waiting), [], [], 0.4)[0]:
+            ends[waiting[stream]] = time.monotonic() - since
+        expect(time.monotonic() - since < LINE_SECONDS + 5, "somebody isn't cut")
+        service.process.send_signal(signal.SIGSTOP)
+        wait_until(lambda: os.waitid(os.P_PID, service.process.pid, os.WSTOPPED | os.WNOHANG), "the service is stopped")
+        service.process.send_signal(signal.SIGCONT)
+    for it, seconds in bounds.items():
+        expect(seconds - 1 <= ends[it] < seconds + 3, f"after {ends[it]:.1f} s of {seconds}")
+    operator.expect(b"bad request\n")
+    service.stop()
 
 
 @OPERATORS.test

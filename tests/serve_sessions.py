@@ -54,7 +54,7 @@ SILENCE = [
     Ends(2),
     HangsUp(0),
     STOP,
-    Gets(1, "bad request\n"),
+    Gets(1, "down\n"),
     Ends(1),
 ]
 

@@ -1,6 +1,7 @@
-"""How `serve` and `ctl` start or refuse to: options at the ends of their ranges, words, accounts, ports, and texts of faults."""
+"""How `serve` and `ctl` start or refuse to: options at the ends of their ranges, words, accounts, ports, and texts of faults. `mistakes`
+has the second lines of these texts."""
 
-from tests.expectations import expect_equal
+from tests.expectations import expect_equal, first_line
 from tests.groups import Group
 from tests.services import OPTIONS, Service
 
@@ -126,15 +127,16 @@ WORDS = [
     ("put/1/alice/k/k", 64),
 ]
 
+IN_USE = "cannot listen on 127.0.0.1:{port}\nmaildropd: the port is in use, given twice or forbidden, or this machine hasn't the address"
 # Accounts files, and the exit status and the text of a service that has one port twice: 1, or 2 if the file is malformed.
 ACCOUNTS_FILES = [
-    ("alice pass s3\n", 1, "cannot listen on 127.0.0.1:{port}"),
-    ("alice pass s3\n\nbob apop s4", 1, "cannot listen on 127.0.0.1:{port}"),
-    ("alice pass s3\r\n", 1, "cannot listen on 127.0.0.1:{port}"),
-    ("-x pass s3\n", 1, "cannot listen on 127.0.0.1:{port}"),
-    ("alice pass\n", 2, "accounts line 1"),
-    ("alice PASS s3\n", 2, "accounts line 1"),
-    ("alice pass s3\n\nbob  pass s4\n", 2, "accounts line 3"),
+    ("alice pass s3\n", 1, IN_USE),
+    ("alice pass s3\n\nbob apop s4", 1, IN_USE),
+    ("alice pass s3\r\n", 1, IN_USE),
+    ("-x pass s3\n", 1, IN_USE),
+    ("alice pass\n", 2, "accounts line 1\nmaildropd: accounts line 1: a line is NAME METHOD SECRET, with one space between"),
+    ("alice PASS s3\n", 2, "accounts line 1\nmaildropd: accounts line 1: the method is pass or apop"),
+    ("alice pass s3\n\nbob  pass s4\n", 2, "accounts line 3\nmaildropd: accounts line 3: a line is NAME METHOD SECRET, with one space between"),
     ("alice pass s3\nalice apop s4\n", 2, "accounts line 2: name twice"),
 ]
 
@@ -178,11 +180,11 @@ NODES = [
 
 
 def start_without_accounts(fixture, **options):
-    """The status of a service whose accounts file can't be read, and what it writes on standard error."""
+    """The status of a service whose accounts file can't be read, and the fault that it writes on standard error."""
     given = {**OPTIONS, "accounts": "absent", "pop-port": 10_000, "ctl-port": 10_009, **options}
     ran = fixture.run("serve", *[word for name, value in given.items() if value is not None for word in (f"--{name}", value)])
     expect_equal(ran.output, b"", "its standard output")
-    return ran.status, ran.errors
+    return ran.status, first_line(ran.errors)
 
 
 REASONS = {1: b"maildropd: read failed\n", 2: b"maildropd: bad value\n"}
@@ -231,7 +233,9 @@ def accounts_are_read(fixture):
 @STARTS.test
 def accounts_have_at_most_64_mebibytes(fixture):
     path = fixture.file("accounts", b"\n" * ((64 << 20) + 1))
-    expect_equal(start_without_accounts(fixture, accounts=path), (2, REASONS[2]), "an accounts file of 64 MiB and a byte")
+    ran = fixture.run("serve", "--accounts", path, "--pop-port", 10_000, "--ctl-port", 10_009)
+    wanted = REASONS[2] + b"maildropd: the accounts file has more than 64 MiB\n"
+    expect_equal((ran.status, ran.output, ran.errors), (2, b"", wanted), "an accounts file of 64 MiB and a byte")
 
 
 @STARTS.test
@@ -239,20 +243,25 @@ def a_port_is_in_use(fixture):
     first = fixture.ports()
     fixture.listen(first + 2)
     service = Service(fixture, pop_port=first, ctl_port=first + 10)
-    service.expect_end(b"", 1, b"maildropd: cannot listen on 127.0.0.1:%d\n" % (first + 2))
+    mistake = b"maildropd: the port is in use, given twice or forbidden, or this machine hasn't the address\n"
+    service.expect_end(b"", 1, b"maildropd: cannot listen on 127.0.0.1:%d\n" % (first + 2) + mistake)
 
 
 @STARTS.test
 def the_operators_socket_cannot_be_made(fixture):
-    service = Service(fixture, pop_port=fixture.ports(), ctl_port=None, ctl_socket=fixture.path("absent/ctl"))
-    service.expect_end(b"", 1, b"maildropd: cannot listen on the operator's socket\n")
+    path = fixture.path("absent/ctl")
+    service = Service(fixture, pop_port=fixture.ports(), ctl_port=None, ctl_socket=path)
+    mistake = f"maildropd: {path} can't be made: its folder is missing or forbidden, or somebody listens there\n"
+    service.expect_end(b"", 1, b"maildropd: cannot listen on the operator's socket\n" + mistake.encode())
 
 
 @STARTS.test
 def the_log_cannot_be_opened(fixture):
     first = fixture.ports()
-    service = Service(fixture, pop_port=first, ctl_port=first + 10, log=fixture.path("absent/log"))
-    service.expect_end(b"", 1, b"maildropd: cannot open the log\n")
+    path = fixture.path("absent/log")
+    service = Service(fixture, pop_port=first, ctl_port=first + 10, log=path)
+    mistake = f"maildropd: {path} can't be opened: its folder is missing or forbidden, or it is no file\n"
+    service.expect_end(b"", 1, b"maildropd: cannot open the log\n" + mistake.encode())
 
 
 @STARTS.test
@@ -264,9 +273,9 @@ def words_of_ctl_are_requests_or_refused(fixture):
         wanted = (status, b"bad request\n" if status == 3 else b"")
         expect_equal((ran.status, ran.output), wanted, words)
         if "absent" in words and status == 1:
-            expect_equal(ran.errors, b"maildropd: read failed\n", words)
+            expect_equal(first_line(ran.errors), b"maildropd: read failed\n", words)
         elif status in reasons:
-            expect_equal(ran.errors, reasons[status], words)
+            expect_equal(first_line(ran.errors), reasons[status], words)
 
 
 @STARTS.test
@@ -276,8 +285,8 @@ def ports_and_sockets_of_ctl(fixture):
         (0, 2, "bad value"), (nobody, 1, f"cannot reach 127.0.0.1:{nobody}"), (65_536, 2, "bad value"), (2**64 - 1, 2, "bad value"),
     ]:
         ran = fixture.run("ctl", "--port", port, "status")
-        expect_equal((ran.status, ran.output, ran.errors), (status, b"", f"maildropd: {text}\n".encode()), port)
+        expect_equal((ran.status, ran.output, first_line(ran.errors)), (status, b"", f"maildropd: {text}\n".encode()), port)
     ran = fixture.run("ctl", "--socket", "absent", "status")
-    expect_equal((ran.status, ran.errors), (1, b"maildropd: cannot reach the operator's socket\n"), "a socket that isn't there")
-    ran = fixture.run("ctl", "--port", nobody, "--wait", "status")
-    expect_equal((ran.status, ran.errors), (2, b"maildropd: bad value\n"), "--wait before another request than stop")
+    expect_equal((ran.status, first_line(ran.errors)), (1, b"maildropd: cannot reach the operator's socket\n"), "a socket that isn't there")
+    ran = fixture.run("ctl", "--port", nobody, "--wait", "locks")
+    expect_equal((ran.status, first_line(ran.errors)), (2, b"maildropd: bad value\n"), "--wait before another request than stop or status")

@@ -39,10 +39,14 @@ class Service:
             first = self.fixture.ports()
             given = {**given, "pop-port": given.get("pop-port", first), "ctl-port": given.get("ctl-port", first + 10)}
         self.pop, self.ctl_port, self.ctl_socket = given["pop-port"], given["ctl-port"], given.get("ctl-socket")
-        words = [word for name, value in given.items() if value is not None for word in (f"--{name}", value)]
+        words = self.words(given)
         self.fixture.transcript.add("$ maildropd serve", " ".join(map(str, words)))
         with open(self._path("stdout"), "wb") as output, open(self._path("stderr"), "wb") as errors:
             self.process = processes.start([self.fixture.program, "serve", *words], stdout=output, stderr=errors, umask=self.umask)
+
+    def words(self, given):
+        """What gives these options after the command `serve`."""
+        return [word for name, value in given.items() if value is not None for word in (f"--{name}", value)]
 
     def begin(self, node=1):
         """Waits until it answers its operator. If another program has one of its ports, it is started at others."""
@@ -105,6 +109,12 @@ class Service:
     def stop(self, output=b"audit ok\n"):
         self.expect_ctl("stop", "stopping\n")
         self.expect_end(output)
+
+    def work(self):
+        """How many seconds of a processor it has taken."""
+        with open(f"/proc/{self.process.pid}/stat", encoding="utf-8") as it:
+            fields = it.read().rpartition(")")[2].split()
+        return (int(fields[11]) + int(fields[12])) / os.sysconf("SC_CLK_TCK")
 
     def holds(self, what):
         """How many descriptors (`fd`) or threads (`task`) it has."""
