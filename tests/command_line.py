@@ -39,27 +39,27 @@ def help_and_version(fixture):
 
 
 def documented_options():
-    """The options of `serve` in the table of docs/OPERATING.md, each with its default, if that is one word."""
+    """The options of `serve` that headings of docs/OPERATING.md name, each with its default, or nothing if it has none."""
     page = _read(ROOT, "docs", "OPERATING.md").decode()
-    table = page.partition("| Option of `serve` |")[2].partition("\n\n")[0]
-    for row in table.split("\n")[2:]:
-        cells = [cell.strip() for cell in row.strip("|").split("|")]
-        names = re.findall(r"--([a-z-]+)", cells[0])
-        defaults = [default.strip("` ").replace(",", "") for default in cells[2].split(";")]
-        yield from zip(names, defaults if len(defaults) == len(names) else [""] * len(names))
+    for part in page.split("\n#### ")[1:]:
+        heading, _, text = part.partition("\n")
+        found = re.search(r"[Dd]efault:? `?([a-z0-9.,]+)", text.partition("\n#")[0])
+        default = found[1].rstrip(".,").replace(",", "") if found else "none"
+        for name in re.findall(r"`--([a-z-]+)", heading):
+            yield name, "" if default == "none" else default
 
 
 @COMMAND_LINE.test
 def help_shows_documented_options(fixture):
-    """`serve --help` has each option of the documentation's table, with its default."""
+    """`serve --help` has just the options of the documentation's headings, each with its default."""
     text = fixture.run("serve", "--help").output.decode()
     options = list(documented_options())
-    expect(len(options) > 20, f"the table has only {options}")
+    shown = re.findall(r"^ +--([a-z-]+)", text, re.MULTILINE)
+    expect_equal(sorted(name for name, _ in options), sorted(shown), "the headings, and the options of serve --help")
     for name, default in options:
-        line = re.search(rf"^ +--{name} <.*$", text, re.MULTILINE)
-        expect(line, f"serve --help has no --{name}")
-        if re.fullmatch(r"[0-9.]+|stop", default):
-            expect(f"[default: {default}]" in line[0], f"the default of --{name} is {default}, and serve --help has: {line[0]}")
+        line = re.search(rf"^ +--{name} .*$", text, re.MULTILINE)[0]
+        is_right = f"[default: {default}]" in line if default else "[default: " not in line
+        expect(is_right, f"the default of --{name} is {default or 'none'}, and serve --help has: {line}")
 
 
 @COMMAND_LINE.test
