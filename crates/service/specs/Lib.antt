@@ -15,10 +15,7 @@ pub mod Maildrops
 pub mod Locks
 pub mod OperatorExamples
 pub mod Paces
-pub mod Rolls
 pub mod Reserves
-pub mod Retries
-pub mod Wakes
 pub mod Stats
 pub mod Endings
 pub mod Epochs

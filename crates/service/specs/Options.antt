@@ -6,7 +6,7 @@ use Rattle.cluster.specs.Starts.{all_nodes}
 use Rattle.ports.specs.Ranges.{last_port, is_between, may_be_between}
 use Rattle.service.specs.declared.options.NodeOptions.{NodeOptions}
 use Rattle.service.specs.declared.options.ServeOptions.{ServeOptions}
-use Rattle.service.specs.declared.rolls.RollLimits.{RollLimits}
+use Rattle.rolls.specs.declared.rolls.RollLimits.{RollLimits}
 
 abbrev pub most_nodes : ℕ
 most_nodes = 9

@@ -1,7 +1,7 @@
 -- What an epoch needs of the system.
 use Rattle.std.specs.Prelude.{◌≡◌, refl, ℕ, ◌+◌, ◌*◌, min}
 use Rattle.service.specs.declared.reserve.Needs.{Needs}
-use Rattle.service.specs.Rolls.{highest}
+use Rattle.rolls.specs.Rolls.{highest}
 
 -- 256 bytes a message, a kilobyte a user, and 4 MiB; a descriptor each port and five; a thread each node and port, and six
 abbrev pub needs_of : (users messages nodes ports : ℕ) → Needs

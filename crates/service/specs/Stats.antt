@@ -1,7 +1,7 @@
 -- What an operator is told of the epochs.
 use Rattle.std.specs.Prelude.{ℕ, List, codes, Bool, true, false}
 use Rattle.session_log.specs.Stats.{with_line}
-use Rattle.service.specs.declared.rolls.EpochStats.{EpochStats}
+use Rattle.rolls.specs.declared.rolls.EpochStats.{EpochStats}
 
 abbrev pub number_of : Bool → ℕ
 number_of true = 1

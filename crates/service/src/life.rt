@@ -4,13 +4,13 @@ ghost use Rattle.pop3_wire.specs.Reply.{invalid_login};
 ghost use Rattle.service.specs.Stats as spec;
 
 use crate::announcements::Announcements;
-use crate::rolls::{EpochStats, RollLimits, Rolls};
 use crate::served_node::ServedNode;
 use crate::start_note::StartNote;
 use apop::{Stamp, stamp};
 use ballot::{Items, Memory};
 use pop3_wire::Reply;
 use ports::{Opening, Stages};
+use rolls::{EpochStats, RollLimits, Rolls};
 use session_log::{Counters, EventLog, OpenSessions, put, put_number_line};
 use std::alloc::Global;
 use std::random::RandomSource;

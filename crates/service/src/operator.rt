@@ -10,7 +10,6 @@ use crate::operator_limits::{
 };
 use crate::operator_requests::{EpochReader, Unheard, hear};
 use crate::pop::node_for;
-use crate::rolls::{Asked, RollEnd};
 use crate::served_node::{OperatorOp, ServedNode};
 use crate::standing::put_standing;
 use crate::state::ServiceState;
@@ -21,6 +20,7 @@ use ports::{
     Connection, DeliveryBudget, Fault, Handler, LONGEST_PAUSE_MS, OperatorConnection,
     OperatorStream, RequestPlaces, ServeEnd, say,
 };
+use rolls::{Asked, RollEnd};
 use script::{KeyPrefix, Request};
 use session_log::{put, put_number_line};
 use std::alloc::Global;

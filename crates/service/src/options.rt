@@ -3,12 +3,12 @@ ghost use Rattle.std.specs.Prelude.{◌≡◌, ◌≤◌, ◌↔◌, None, Some,
 ghost use Rattle.ports.specs.Ranges as ranges;
 ghost use Rattle.service.specs.Options as spec;
 
-use crate::rolls::RollLimits;
 use apop::stamp;
 use ballot::{Cluster, Items, LAST_NODE, NodeId};
 use maildrop::Limits;
 use node::WIDEST_WINDOW;
 use ports::Fault;
+use rolls::RollLimits;
 use std::alloc::Global;
 use std::net::IpAddr;
 use store::SyncMode;

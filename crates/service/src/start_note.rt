@@ -2,9 +2,9 @@
 
 use crate::furthest::furthest_up;
 use crate::options::{ServeOptions, Settings};
-use crate::progress::millis_since;
 use crate::served_node::ServedNode;
 use ballot::Memory;
+use rolls::millis_since;
 use session_log::{EventLog, StartLoad};
 use std::alloc::Global;
 use std::sync::Wait;

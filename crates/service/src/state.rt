@@ -1,6 +1,5 @@
 //! What all threads of an epoch share.
 
-use crate::deliveries::Deliveries;
 use crate::draining::Draining;
 use crate::epoch_journal::EpochJournal;
 use crate::hearing::HeardNodes;
@@ -8,6 +7,7 @@ use crate::life::ServiceLife;
 use crate::lock_breaker::LockBreaker;
 use apop::Accounts;
 use ports::Stages;
+use rolls::Deliveries;
 use std::alloc::Global;
 use std::sync::{Arc, Mutex, Wait};
 

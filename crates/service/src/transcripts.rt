@@ -8,9 +8,9 @@ ghost use Rattle.service.specs.Transcripts as spec;
 ghost use Rattle.service.specs.Transcripts.{AreEnded, KeepsServed};
 
 use crate::brand::Service;
-use crate::rolls::session_bytes;
 use apop::{Accounts, Stamp};
 use maildrop::{Op, Outcome};
+use rolls::session_bytes;
 use session::{Desk, End, Gate, Transcript, serve};
 use std::alloc::Global;
 use std::io::{Read, Write};

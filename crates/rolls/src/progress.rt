@@ -1,7 +1,7 @@
 //! How far the epochs of a service have come, and what is to be done for them.
 ghost use Rattle.std.specs.Prelude.{◌≡◌, ◌||◌, ℕ, true, false, None, if◌then◌else◌};
-ghost use Rattle.service.specs.Rolls.{highest, no_load};
-ghost use Rattle.service.specs.Wakes as spec;
+ghost use Rattle.rolls.specs.Rolls.{highest, no_load};
+ghost use Rattle.rolls.specs.Wakes as spec;
 
 use crate::rolls::{Due, EpochLoad, RollLimits, has_reached, when_due};
 use ports::Fault;
@@ -25,7 +25,7 @@ const LAST_RETRY_MS: u64 = 30_000;
 
 /// What wakes the thread that looks after the epochs.
 #[derive(Clone, Copy, Debug, PartialEq, Eq)]
-pub(crate) enum Wake {
+pub enum Wake {
     /// The service stops.
     Stop,
     /// The audit of the epoch before this one has ended.
@@ -76,8 +76,8 @@ pub(crate) struct Progress {
     pub has_ended: bool,
 }
 
-/// How many milliseconds have passed since then. 2^64 - 1 if there is no such moment, or the clock can't be read.
-pub(crate) fn millis_since<R: Clock>(rt: &R, since: &Option<Instant>) -> u64
+/// Returns how many milliseconds have passed since then: 2^64 - 1 if there is no such moment, or the clock can't be read.
+pub fn millis_since<R: Clock>(rt: &R, since: &Option<Instant>) -> u64
     ensures { since.now ≡ None → result ≡ highest }
 {
     match since {

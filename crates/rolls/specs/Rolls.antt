@@ -1,9 +1,9 @@
 -- When an epoch ends by what it has come to.
 use Rattle.std.specs.Prelude.{◌≡◌, refl, ℕ, ◌+◌, ◌*◌, ◌&&◌, ◌||◌, Bool, min, nat_lt, nat_le, if◌then◌else◌}
-use Rattle.service.specs.declared.rolls.Due.{Due}
-use Rattle.service.specs.declared.rolls.Due.TheVariants.{No, Quiet, Forced}
-use Rattle.service.specs.declared.rolls.EpochLoad.{EpochLoad}
-use Rattle.service.specs.declared.rolls.RollLimits.{RollLimits}
+use Rattle.rolls.specs.declared.rolls.Due.{Due}
+use Rattle.rolls.specs.declared.rolls.Due.TheVariants.{No, Quiet, Forced}
+use Rattle.rolls.specs.declared.rolls.EpochLoad.{EpochLoad}
+use Rattle.rolls.specs.declared.rolls.RollLimits.{RollLimits}
 
 -- the highest number of 64 bits, at which sums stay
 abbrev pub highest : ℕ

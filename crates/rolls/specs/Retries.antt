@@ -1,6 +1,6 @@
 -- When an epoch that couldn't end is tried to end again.
 use Rattle.std.specs.Prelude.{◌≡◌, refl, ℕ, ◌*◌, min, max}
-use Rattle.service.specs.Rolls.{highest}
+use Rattle.rolls.specs.Rolls.{highest}
 
 -- in milliseconds: a second, then twice as long each time, up to a minute
 abbrev pub next_wait_ms : ℕ → ℕ

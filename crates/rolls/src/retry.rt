@@ -1,6 +1,6 @@
 //! When what failed is tried again.
 ghost use Rattle.std.specs.Prelude.{◌≡◌};
-ghost use Rattle.service.specs.Retries.{next_wait_ms};
+ghost use Rattle.rolls.specs.Retries.{next_wait_ms};
 
 use crate::progress::millis_since;
 use std::time::{Clock, Instant};
@@ -14,7 +14,7 @@ const LAST_RETRY_MS: u64 = 60_000;
 
 /// When an epoch that is to end by itself is tried to end again.
 #[derive(Drop)]
-pub(crate) struct Retry {
+pub struct Retry {
     /// When it was tried last, unless it wasn't, or the clock couldn't be read.
     tried: Option<Instant>,
     /// How many milliseconds after that it is tried again.
@@ -22,21 +22,21 @@ pub(crate) struct Retry {
 }
 
 impl Retry {
-    /// Nothing was tried yet.
-    pub(crate) fn new() -> Self {
+    /// Before the first try, which is due at once.
+    pub fn new() -> Self {
         Retry {
             tried: None,
             wait_ms: 0,
         }
     }
 
-    /// Whether it is tried now.
-    pub(crate) fn is_due<R: Clock>(&self, rt: &R) -> bool {
+    /// Whether it is to be tried now.
+    pub fn is_due<R: Clock>(&self, rt: &R) -> bool {
         millis_since(rt, &self.tried) >= self.wait_ms
     }
 
-    /// It was tried in vain.
-    pub(crate) fn note<R: Clock>(&mut self, rt: &R) {
+    /// It was tried in vain now. The next try is due after 1 s, then after twice as long each time, up to a minute.
+    pub fn note<R: Clock>(&mut self, rt: &R) {
         self.tried = Instant::now(rt).ok();
         self.wait_ms = next_wait(self.wait_ms);
     }

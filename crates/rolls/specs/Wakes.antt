@@ -3,13 +3,13 @@ use Rattle.std.specs.Prelude.{◌≡◌, refl, ℕ, ◌+◌, ◌*◌, ◌==◌, 
 use Rattle.std.specs.declared.time.Instant.{Instant}
 use Rattle.ports.specs.declared.fault.Fault.{Fault}
 use Rattle.ports.specs.declared.fault.Fault.TheVariants.{Memory}
-use Rattle.service.specs.Rolls.{highest, no_load, has_reached, when_due}
-use Rattle.service.specs.declared.progress.Progress.{Progress}
-use Rattle.service.specs.declared.progress.Wake.{Wake}
-use Rattle.service.specs.declared.progress.Wake.TheVariants.{Stop, Audited, Behind, Roll, Quiet, Look}
-use Rattle.service.specs.declared.rolls.Due.{Due}
-use Rattle.service.specs.declared.rolls.Due.TheVariants as due
-use Rattle.service.specs.declared.rolls.RollLimits.{RollLimits}
+use Rattle.rolls.specs.Rolls.{highest, no_load, has_reached, when_due}
+use Rattle.rolls.specs.declared.progress.Progress.{Progress}
+use Rattle.rolls.specs.declared.progress.Wake.{Wake}
+use Rattle.rolls.specs.declared.progress.Wake.TheVariants.{Stop, Audited, Behind, Roll, Quiet, Look}
+use Rattle.rolls.specs.declared.rolls.Due.{Due}
+use Rattle.rolls.specs.declared.rolls.Due.TheVariants as due
+use Rattle.rolls.specs.declared.rolls.RollLimits.{RollLimits}
 
 abbrev pub next_epoch : ℕ → ℕ
 next_epoch epoch = min (epoch + 1) highest

@@ -1,10 +1,10 @@
 //! The deliveries of an epoch.
 ghost use Rattle.std.specs.Prelude.{◌≡◌, ◌+◌, ◌-◌, min, true, false};
-ghost use Rattle.service.specs.Rolls.{highest};
+ghost use Rattle.rolls.specs.Rolls.{highest};
 
-/// The deliveries of an epoch.
+/// The deliveries of an epoch: how many are under way, and whether more may begin.
 #[derive(Drop)]
-pub(crate) struct Deliveries {
+pub struct Deliveries {
     /// How many are under way.
     pub count: u64,
     /// Whether none begins any more.
@@ -12,8 +12,8 @@ pub(crate) struct Deliveries {
 }
 
 impl Deliveries {
-    /// Before the first.
-    pub(crate) fn new() -> Self
+    /// Before the first one: none is under way, and any may begin.
+    pub fn new() -> Self
         ensures none { result.count ≡ 0 }
         ensures open { result.are_closed ≡ false }
     {
@@ -24,7 +24,7 @@ impl Deliveries {
     }
 
     /// Counts one more, unless none begins any more. Returns whether it did.
-    pub(crate) fn begin(&mut self) -> bool
+    pub fn begin(&mut self) -> bool
         ensures counted { result ≡ true → self.new.count ≡ min (self.old.count + 1) highest }
         ensures open { result ≡ true → self.old.are_closed ≡ false }
         ensures refused { result ≡ false → self.old.are_closed ≡ true }
@@ -38,8 +38,8 @@ impl Deliveries {
         true
     }
 
-    /// Counts one less.
-    pub(crate) fn end(&mut self)
+    /// One has ended. Counts one less, down to 0.
+    pub fn end(&mut self)
         ensures counted { self.new.count ≡ self.old.count - 1 }
         ensures rest { self.new.are_closed ≡ self.old.are_closed }
     {

@@ -1,6 +1,6 @@
 //! When the epochs of a service end.
 ghost use Rattle.std.specs.Prelude.{◌≡◌};
-ghost use Rattle.service.specs.Rolls as spec;
+ghost use Rattle.rolls.specs.Rolls as spec;
 
 use crate::progress::{Progress, Wake, millis_since};
 use ports::Fault;
@@ -22,17 +22,21 @@ const LISTED_BYTES: u64 = 25;
 /// How many bytes are kept for a line of a session beside its own: four, and room for as many more.
 const LINE_BYTES: u64 = 8;
 
-/// From how many sessions on, and from how many bytes kept for its audit on, an epoch ends: 0 for any number.
+/// From how much on an epoch ends: at either limit. 0 is no limit.
 #[derive(Clone, Copy, Debug, PartialEq, Eq)]
-pub(crate) struct RollLimits {
+pub struct RollLimits {
+    /// How many sessions have ended that asked for something.
     pub sessions: u64,
+    /// How many bytes are kept for its audit, about.
     pub bytes: u64,
 }
 
-/// How many sessions of an epoch have ended that asked for something, and how many bytes are kept for its audit, about.
+/// What an epoch has come to. Neither number passes 2^64 - 1.
 #[derive(Clone, Copy, Debug, PartialEq, Eq)]
-pub(crate) struct EpochLoad {
+pub struct EpochLoad {
+    /// How many of its sessions have ended that asked for something.
     pub sessions: u64,
+    /// How many bytes are kept for its audit, about.
     pub bytes: u64,
 }
 
@@ -77,9 +81,9 @@ impl EpochLoad {
     }
 }
 
-/// How many bytes a session leaves that asked for so much, was listed so many messages, and sent so many lines, about, beside the bytes
-/// of these lines.
-pub(crate) fn session_bytes(asked: usize, listed: usize, lines: usize) -> u64
+/// Returns how many bytes a session leaves for the audit, about, beside the bytes of its lines: it asked for so many operations, its
+/// logins listed so many messages, and it sent so many lines. At most 2^64 - 1.
+pub fn session_bytes(asked: usize, listed: usize, lines: usize) -> u64
     ensures { result ≡ spec.session_bytes asked listed lines }
 {
     let commands = (asked as u64).saturating_mul(COMMAND_BYTES);
@@ -118,11 +122,12 @@ pub(crate) fn when_due(load: EpochLoad, limits: RollLimits, age_ms: u64) -> Due
 
 /// The numbers of the epochs, for operators.
 #[derive(Clone, Copy, Debug, PartialEq, Eq)]
-pub(crate) struct EpochStats {
+pub struct EpochStats {
     /// The number of this epoch.
     pub epoch: u64,
     /// How many seconds it runs.
     pub seconds: u64,
+    /// What it has come to.
     pub load: EpochLoad,
     /// Whether the audit of the one before it goes on.
     pub is_auditing: bool,
@@ -130,7 +135,7 @@ pub(crate) struct EpochStats {
 
 /// Whether an operator's request for the end of an epoch counts.
 #[derive(Clone, Copy, Debug, PartialEq, Eq)]
-pub(crate) enum Asked {
+pub enum Asked {
     /// There is only one epoch.
     Never,
     /// The epoch ends already, and what the next one opens with was looked at before the request.
@@ -141,7 +146,7 @@ pub(crate) enum Asked {
 
 /// What has become of an operator's request for the end of an epoch.
 #[derive(Clone, Copy, Debug, PartialEq, Eq)]
-pub(crate) enum RollEnd {
+pub enum RollEnd {
     /// A node of a later epoch leads.
     Rolled,
     /// What the next epoch needs couldn't be had, so this one goes on.
@@ -152,7 +157,7 @@ pub(crate) enum RollEnd {
 
 /// How far the epochs of a service have come, for all its threads.
 #[derive(Drop)]
-pub(crate) struct Rolls {
+pub struct Rolls {
     /// There are none if there is only one epoch, whose nodes have ports.
     limits: Option<RollLimits>,
     progress: Mutex<Progress>,
@@ -164,8 +169,8 @@ pub(crate) struct Rolls {
 }
 
 impl Rolls {
-    /// Of a service before its first epoch.
-    pub(crate) fn new(limits: Option<RollLimits>) -> Self {
+    /// The state before the first epoch. Without limits there is only one epoch.
+    pub fn new(limits: Option<RollLimits>) -> Self {
         Rolls {
             limits,
             progress: Mutex::new(Progress::new()),
@@ -175,30 +180,30 @@ impl Rolls {
         }
     }
 
-    /// This epoch is about to end: what the next one opens with is looked at from now on.
-    pub(crate) fn begin_end<R: Wait>(&self, rt: &R, epoch: u64) {
+    /// This epoch, counted from 1, is about to end: what the next one opens with is looked at from now on.
+    pub fn begin_end<R: Wait>(&self, rt: &R, epoch: u64) {
         *self.ending.lock(rt) = epoch;
     }
 
-    /// It goes on.
-    pub(crate) fn give_up_end<R: Wait>(&self, rt: &R) {
+    /// The epoch that was about to end goes on.
+    pub fn give_up_end<R: Wait>(&self, rt: &R) {
         let mut ending = self.ending.lock(rt);
         *ending = ending.saturating_sub(1);
         self.changes.notify_all();
     }
 
     /// The accounts file could be read, or not.
-    pub(crate) fn note_accounts<R: Wait>(&self, rt: &R, is_read: bool) {
+    pub fn note_accounts<R: Wait>(&self, rt: &R, is_read: bool) {
         *self.has_read_accounts.lock(rt) = is_read;
     }
 
-    /// Whether the accounts file could be read when that was tried last.
-    pub(crate) fn has_read_accounts<R: Wait>(&self, rt: &R) -> bool {
+    /// Whether the accounts file could be read when that was tried last. True before the first try.
+    pub fn has_read_accounts<R: Wait>(&self, rt: &R) -> bool {
         *self.has_read_accounts.lock(rt)
     }
 
     /// The next epoch begins. Returns its number.
-    pub(crate) fn begin<R: Wait + Clock>(&self, rt: &R) -> u64 {
+    pub fn begin<R: Wait + Clock>(&self, rt: &R) -> u64 {
         let mut guard = self.progress.lock(rt);
         let progress = &mut *guard;
         progress.begin(rt);
@@ -206,19 +211,19 @@ impl Rolls {
     }
 
     /// The epoch that has just begun couldn't be started: nobody was served in it.
-    pub(crate) fn withdraw<R: Wait>(&self, rt: &R) {
+    pub fn withdraw<R: Wait>(&self, rt: &R) {
         let mut guard = self.progress.lock(rt);
         let progress = &mut *guard;
         progress.epoch = progress.epoch.saturating_sub(1);
     }
 
-    /// The number of this epoch. One in which nobody was served doesn't count.
-    pub(crate) fn epoch<R: Wait>(&self, rt: &R) -> u64 {
+    /// The number of this epoch, counted from 1, or 0 before the first. One in which nobody was served doesn't count.
+    pub fn epoch<R: Wait>(&self, rt: &R) -> u64 {
         self.progress.lock(rt).epoch
     }
 
     /// A node of this epoch leads.
-    pub(crate) fn lead<R: Wait>(&self, rt: &R) {
+    pub fn lead<R: Wait>(&self, rt: &R) {
         let mut guard = self.progress.lock(rt);
         let progress = &mut *guard;
         progress.led = progress.epoch;
@@ -226,13 +231,13 @@ impl Rolls {
     }
 
     /// Whether a node of this epoch has led.
-    pub(crate) fn has_led<R: Wait>(&self, rt: &R) -> bool {
+    pub fn has_led<R: Wait>(&self, rt: &R) -> bool {
         let progress = self.progress.lock(rt);
         progress.led == progress.epoch
     }
 
     /// Asks for the end of this epoch for an operator.
-    pub(crate) fn ask<R: Wait>(&self, rt: &R, epoch: u64) -> Asked {
+    pub fn ask<R: Wait>(&self, rt: &R, epoch: u64) -> Asked {
         if self.limits.is_none() {
             return Asked::Never;
         }
@@ -248,7 +253,7 @@ impl Rolls {
     }
 
     /// Asks for the end of this epoch, unless it has ended, since a majority is wanting. Returns false if there is only one.
-    pub(crate) fn require<R: Wait>(&self, rt: &R, epoch: u64) -> bool {
+    pub fn require<R: Wait>(&self, rt: &R, epoch: u64) -> bool {
         if self.limits.is_none() {
             return false;
         }
@@ -261,7 +266,7 @@ impl Rolls {
     }
 
     /// Refuses the end of this epoch to the operators who ask for it, for this reason.
-    pub(crate) fn refuse<R: Wait>(&self, rt: &R, fault: Fault) {
+    pub fn refuse<R: Wait>(&self, rt: &R, fault: Fault) {
         let mut guard = self.progress.lock(rt);
         let progress = &mut *guard;
         let _asked = progress.refuse(fault);
@@ -270,7 +275,7 @@ impl Rolls {
 
     /// Waits until a node of a later epoch leads, two later ones have begun, the end of this one is refused once more than so many times,
     /// or the service stops or ends.
-    pub(crate) fn waits_for_next<R: Wait>(&self, rt: &R, epoch: u64, refusals: u64) -> RollEnd {
+    pub fn waits_for_next<R: Wait>(&self, rt: &R, epoch: u64, refusals: u64) -> RollEnd {
         let guard = self.progress.lock(rt);
         let progress = self.changes.wait_while(rt, guard, |progress| {
             progress.led <= epoch
@@ -287,7 +292,7 @@ impl Rolls {
     }
 
     /// Waits at most so long until a node of a later epoch leads. Returns whether one does.
-    pub(crate) fn follows_within<R: Wait + Clock>(
+    pub fn follows_within<R: Wait + Clock>(
         &self,
         rt: &R,
         epoch: u64,
@@ -303,18 +308,18 @@ impl Rolls {
     }
 
     /// Whether a node of a later epoch leads.
-    pub(crate) fn follows<R: Wait>(&self, rt: &R, epoch: u64) -> bool {
+    pub fn follows<R: Wait>(&self, rt: &R, epoch: u64) -> bool {
         self.progress.lock(rt).led > epoch
     }
 
     /// Whether an operator asks for the end of this epoch, and may be refused.
-    pub(crate) fn may_refuse<R: Wait>(&self, rt: &R) -> bool {
+    pub fn may_refuse<R: Wait>(&self, rt: &R) -> bool {
         let progress = self.progress.lock(rt);
         progress.is_asked && !progress.is_required
     }
 
     /// Waits so long, or until the service stops or ends. Returns whether it does.
-    pub(crate) fn pauses_unless_over<R: Wait + Clock>(&self, rt: &R, time: Duration) -> bool {
+    pub fn pauses_unless_over<R: Wait + Clock>(&self, rt: &R, time: Duration) -> bool {
         let guard = self.progress.lock(rt);
         let (progress, _) = self
             .changes
@@ -324,7 +329,7 @@ impl Rolls {
 
     /// Waits at most so long for the end of the service, or until the threads of this epoch's operators are to be joined.
     /// Returns whether either has happened.
-    pub(crate) fn pauses<R: Wait + Clock>(&self, rt: &R, epoch: u64, time: Duration) -> bool {
+    pub fn pauses<R: Wait + Clock>(&self, rt: &R, epoch: u64, time: Duration) -> bool {
         let guard = self.progress.lock(rt);
         let (progress, _) = self
             .changes
@@ -335,7 +340,7 @@ impl Rolls {
     }
 
     /// The threads of operators are to be joined, except those of the last two epochs: who still waits there stops waiting.
-    pub(crate) fn join_before_last<R: Wait>(&self, rt: &R) {
+    pub fn join_before_last<R: Wait>(&self, rt: &R) {
         let mut guard = self.progress.lock(rt);
         let progress = &mut *guard;
         progress.joined = progress.epoch.saturating_sub(2);
@@ -343,32 +348,32 @@ impl Rolls {
     }
 
     /// The service stops.
-    pub(crate) fn stop<R: Wait>(&self, rt: &R) {
+    pub fn stop<R: Wait>(&self, rt: &R) {
         self.progress.lock(rt).is_stopping = true;
         self.changes.notify_all();
     }
 
     /// Whether the service stops.
-    pub(crate) fn is_stopping<R: Wait>(&self, rt: &R) -> bool {
+    pub fn is_stopping<R: Wait>(&self, rt: &R) -> bool {
         self.progress.lock(rt).is_stopping
     }
 
     /// The service has ended.
-    pub(crate) fn end<R: Wait>(&self, rt: &R) {
+    pub fn end<R: Wait>(&self, rt: &R) {
         self.progress.lock(rt).has_ended = true;
         self.changes.notify_all();
     }
 
     /// The audit of an epoch that has ended begins.
-    pub(crate) fn begin_audit<R: Wait>(&self, rt: &R) {
+    pub fn begin_audit<R: Wait>(&self, rt: &R) {
         let mut guard = self.progress.lock(rt);
         let progress = &mut *guard;
         progress.is_auditing = true;
         progress.has_audited = false;
     }
 
-    /// It has ended.
-    pub(crate) fn end_audit<R: Wait>(&self, rt: &R) {
+    /// The audit has ended.
+    pub fn end_audit<R: Wait>(&self, rt: &R) {
         let mut guard = self.progress.lock(rt);
         let progress = &mut *guard;
         progress.is_auditing = false;
@@ -377,7 +382,7 @@ impl Rolls {
     }
 
     /// Waits at most so long for the end of the audit. Returns whether it goes on, and the service doesn't stop.
-    pub(crate) fn awaits_audit<R: Wait + Clock>(&self, rt: &R, time: Duration) -> bool {
+    pub fn awaits_audit<R: Wait + Clock>(&self, rt: &R, time: Duration) -> bool {
         let guard = self.progress.lock(rt);
         let (progress, _) = self
             .changes
@@ -396,7 +401,7 @@ impl Rolls {
     }
 
     /// A session that asked for something has ended, and left so many bytes.
-    pub(crate) fn end_session<R: Wait>(&self, rt: &R, bytes: u64) {
+    pub fn end_session<R: Wait>(&self, rt: &R, bytes: u64) {
         let mut guard = self.progress.lock(rt);
         let progress = &mut *guard;
         progress.load.end_session(bytes);
@@ -406,7 +411,7 @@ impl Rolls {
     }
 
     /// So many messages were stored or refused, of so many octets together.
-    pub(crate) fn store<R: Wait>(&self, rt: &R, messages: u64, octets: u64) {
+    pub fn store<R: Wait>(&self, rt: &R, messages: u64, octets: u64) {
         let mut guard = self.progress.lock(rt);
         let progress = &mut *guard;
         progress.load.store(messages, octets);
@@ -415,8 +420,8 @@ impl Rolls {
         }
     }
 
-    /// Waits until there is something to do for the epochs, or some time has passed.
-    pub(crate) fn wait<R: Wait + Clock>(&self, rt: &R) -> Wake {
+    /// Waits until there is something to do for the epochs, or 2 to 100 ms have passed. Returns what to do.
+    pub fn wait<R: Wait + Clock>(&self, rt: &R) -> Wake {
         let limits = self.limits();
         let guard = self.progress.lock(rt);
         let look = Duration::from_millis(guard.look_ms(limits));
@@ -428,7 +433,7 @@ impl Rolls {
     }
 
     /// The numbers of the epochs, for operators.
-    pub(crate) fn stats<R: Wait + Clock>(&self, rt: &R) -> EpochStats {
+    pub fn stats<R: Wait + Clock>(&self, rt: &R) -> EpochStats {
         let progress = self.progress.lock(rt);
         EpochStats {
             epoch: progress.epoch,

@@ -1,0 +1,3 @@
+pub mod Rolls
+pub mod Retries
+pub mod Wakes
