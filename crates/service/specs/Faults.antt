@@ -1,27 +1,13 @@
--- Why a service ends before it serves.
-use Rattle.std.specs.Prelude.{◌≡◌, ◌≤◌, ◌+◌, ◌⊎◌, ℕ, min, List, Option, Some, None, IfSome, Result, Ok, Err}
+-- Why a service gets no ports, and why its nodes don't start.
+use Rattle.std.specs.Prelude.{◌≡◌, ◌≤◌, ◌+◌, ◌⊎◌, ℕ, min, Option, Some, IfSome}
 use Rattle.std.specs.declared.net.ip_addr.IpAddr.{IpAddr}
-use Rattle.apop.specs.Accounts as accounts
-use Rattle.apop.specs.declared.error.AccountsError.{AccountsError}
-use Rattle.apop.specs.declared.error.AccountsError.TheVariants as error
 use Rattle.cluster.specs.declared.start_error.StartError.{StartError}
 use Rattle.cluster.specs.declared.start_error.StartError.TheVariants as start
 use Rattle.ports.specs.Faults.{IsCtlFault, IsLocal}
 use Rattle.ports.specs.Ranges.{last_port}
 use Rattle.ports.specs.declared.fault.Fault.{Fault}
-use Rattle.ports.specs.declared.fault.Fault.TheVariants.{Value, Account, NameTwice, Listen, StartedBefore, Mark, Memory}
-use Rattle.service.specs.declared.options.Settings.{Settings}
-
--- the fault of an accounts file that is malformed
-abbrev pub fault_of : AccountsError → Fault
-fault_of (error.Line line) = Account line
-fault_of (error.Twice line) = NameTwice line
-fault_of error.Memory = Memory
-
--- the fault of a file that holds these accounts, or is none
-abbrev pub fault_in : Result (List accounts.Account) AccountsError → Option Fault
-fault_in (Ok accounts) = None
-fault_in (Err error) = Some (fault_of error)
+use Rattle.ports.specs.declared.fault.Fault.TheVariants.{Value, Listen, Memory}
+use Rattle.settings.specs.declared.options.Settings.{Settings}
 
 -- why nodes don't start
 abbrev pub start_fault : StartError → Fault
@@ -56,13 +42,6 @@ abbrev pub IsPeerFault : Settings → Fault → Type 0
 IsPeerFault settings (Listen address port) = IsLocal address × IsNodePort settings.peer_port settings port
 IsPeerFault settings Memory = Unit {0}
 IsPeerFault settings fault = ⊥
-
--- what may be reported if a node isn't marked: it was started before, its mark can't be made, or out of memory
-abbrev pub IsMarkFault : ℕ → Fault → Type 0
-IsMarkFault node (StartedBefore number) = number ≡ node
-IsMarkFault node Mark = Unit {0}
-IsMarkFault node Memory = Unit {0}
-IsMarkFault node fault = ⊥
 
 -- what may be reported if a service gets no ports
 abbrev pub IsPortFault : Settings → Fault → Type 0

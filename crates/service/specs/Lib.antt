@@ -1,7 +1,6 @@
-pub mod Options
+pub mod Nodes
 pub mod Peers
 pub mod OperatorOps
-pub mod Agreements
 pub mod Faults
 pub mod Examples
 pub mod Verdicts

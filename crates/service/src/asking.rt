@@ -1,9 +1,9 @@
 //! Operations that a node is asked for on behalf of a client who may go.
 
-use crate::operator_limits::LOOK_MS;
 use crate::served_node::{OperatorOp, ServedNode};
 use maildrop::{Name, Outcome, Ticket};
 use ports::OperatorStream;
+use settings::LOOK_MS;
 use std::sync::Wait;
 use std::time::Duration;
 

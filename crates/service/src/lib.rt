@@ -1,9 +1,6 @@
 //! The command `maildropd serve`: a service of one to nine nodes.
 #![tactic(auto)]
 
-mod account_lines;
-mod accounts_file;
-mod agreement;
 mod announcement;
 mod announcements;
 mod asking;
@@ -23,11 +20,8 @@ mod lock_breaker;
 mod login_gate;
 mod maildrop_lines;
 mod majority;
-mod mark;
 mod operator;
-mod operator_limits;
 mod operator_requests;
-mod options;
 mod pace;
 mod past;
 mod peers;
@@ -48,9 +42,9 @@ mod transcripts;
 mod verdict;
 
 pub use laws::audited_epochs_are_a_life;
-pub use options::{NodeOptions, OnFault, ServeOptions};
 pub use serve::{ServiceEnd, serve_run};
 pub use serve_node::serve_node_run;
+pub use settings::{NodeOptions, OnFault, ServeOptions};
 pub use start_note::VERSION;
 pub use storage::fault_of_store;
 pub use verdict::{Verdict, verdict_of};

@@ -4,10 +4,6 @@ use crate::asking::{Absence, Unanswered, ask};
 use crate::delivery::{Delivered, Delivery, DeliveryError, message_in, texts_in, too_large_answer};
 use crate::furthest::{furthest_slot, furthest_up};
 use crate::maildrop_lines::{lock_lines, user_lines};
-use crate::operator_limits::{
-    BRIEF_LINE_MS, BROKEN_LOOK_MS, CUT_MS, END_LOOK_MS, ENDING_LOOK_MS, LINE_MS, LOOK_MS,
-    MOST_BROKEN_LOOKS, NEXT_EPOCH_MS,
-};
 use crate::operator_requests::{EpochReader, Unheard, hear};
 use crate::pop::node_for;
 use crate::served_node::{OperatorOp, ServedNode};
@@ -23,6 +19,10 @@ use ports::{
 use rolls::{Asked, RollEnd};
 use script::{KeyPrefix, Request};
 use session_log::{put, put_number_line};
+use settings::{
+    BRIEF_LINE_MS, BROKEN_LOOK_MS, CUT_MS, END_LOOK_MS, ENDING_LOOK_MS, LINE_MS, LOOK_MS,
+    MOST_BROKEN_LOOKS, NEXT_EPOCH_MS,
+};
 use std::alloc::Global;
 use std::net::{Shutdown, SocketAddr};
 use std::sync::{Arc, Wait};

@@ -6,7 +6,6 @@ ghost use Rattle.service.specs.Epochs as spec;
 ghost use Rattle.service.specs.Epochs.{TellsOn, WasLegalEpoch};
 ghost use Rattle.service.specs.declared.verdict.Verdict.TheVariants.{Legal};
 
-use crate::accounts_file::some_accounts_of;
 use crate::epoch::EndedEpoch;
 use crate::life::ServiceLife;
 use crate::reserve::{Needs, Reserve};
@@ -16,6 +15,7 @@ use ballot::Memory;
 use maildrop::{Kept, Shared};
 use ports::{Fault, System};
 use rolls::Retry;
+use settings::some_accounts_of;
 use std::alloc::Global;
 use std::fs::File;
 use std::marker::Model;

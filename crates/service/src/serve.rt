@@ -1,7 +1,7 @@
 //! `maildropd serve`: nodes, sessions and an operator's port in one process.
 ghost use Rattle.std.specs.Prelude.{◌≡◌, ◌≤◌, ◌++◌, ◌∷◌, [], None, Some, true, false, is_some, IsTrue, IsErrOf, IfOk, IfErr, IfSome, OnOk, map, if◌then◌else◌};
 ghost use Rattle.std.specs.Io.KnownBytes.{Appends};
-ghost use Rattle.service.specs.Options as spec;
+ghost use Rattle.settings.specs.Options as spec;
 ghost use Rattle.ports.specs.Faults.{status_at};
 ghost use Rattle.service.specs.Verdicts as verdicts;
 ghost use Rattle.service.specs.Epochs.{FoundLegal, WasLegalEpoch, epoch_lines};
@@ -9,13 +9,10 @@ ghost use Rattle.service.specs.declared.verdict.Verdict.TheVariants.{Legal};
 ghost use Rattle.apop.specs.Accounts.{name_of};
 ghost use Rattle.maildrop.specs.Name.{are_different};
 
-use crate::accounts_file::accounts_of;
-use crate::agreement::agreement_line;
 use crate::announcement::Announcement;
 use crate::epoch::{Left, left_by};
 use crate::epochs::{LastEpoch, PastOperators, run_epochs};
 use crate::life::ServiceLife;
-use crate::options::{ServeOptions, Settings, settings_of};
 use crate::past::Past;
 use crate::start_note::StartNote;
 use crate::storage::{OpenedStorage, Storage, Torn};
@@ -29,6 +26,7 @@ use node::NodeLog;
 use ports::{Fault, System, say};
 use session::Transcript;
 use session_log::EventLog;
+use settings::{ServeOptions, Settings, accounts_of, agreement_line, settings_of};
 use std::alloc::Global;
 use std::fs::File;
 use std::io::{Eprint, Write};

@@ -2,18 +2,15 @@
 ghost use Rattle.std.specs.Prelude.{◌≡◌, ◌≤◌, ◌<◌, ◌++◌, ◌∷◌, [], IsTrue, IsErrOf, OnOk, codes, map};
 ghost use Rattle.std.specs.Arc.{arc_value};
 ghost use Rattle.std.specs.Io.KnownBytes.{Appends};
-ghost use Rattle.service.specs.Options as spec;
+ghost use Rattle.settings.specs.Options as spec;
 ghost use Rattle.apop.specs.Accounts.{name_of};
 ghost use Rattle.maildrop.specs.Name.{are_different};
 
-use crate::accounts_file::accounts_of;
 use crate::announcement::Announcement;
 use crate::brand::Service;
 use crate::epoch_journal::EpochJournal;
 use crate::epoch_run::{Ending, end_threads, state_of};
 use crate::life::ServiceLife;
-use crate::mark::mark_start;
-use crate::options::{NodeOptions, Settings, node_settings_of};
 use crate::serve::{FIRST_LEADER, life_of, note_fault, setup_of};
 use crate::served_sessions::ServedSessions;
 use crate::service_nodes::ServiceNodes;
@@ -24,6 +21,7 @@ use ballot::NodeId;
 use cluster::Setup;
 use maildrop::{Kept, Shared};
 use ports::{Fault, System, say};
+use settings::{NodeOptions, Settings, accounts_of, mark_start, node_settings_of};
 use std::alloc::Global;
 use std::fs::File;
 use std::io::{Eprint, Write};

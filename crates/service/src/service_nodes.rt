@@ -7,7 +7,7 @@ ghost use Rattle.cluster.specs.Members.{IsLogOf};
 ghost use Rattle.cluster.specs.Starts.{all_nodes, has_window};
 ghost use Rattle.session.specs.Serve.{IsReadAndWritten};
 ghost use Rattle.service.specs.Faults as faults;
-ghost use Rattle.service.specs.Options.{nodes_here};
+ghost use Rattle.service.specs.Nodes.{nodes_here};
 
 use crate::brand::Service;
 use crate::epoch_journal::EpochJournal;

@@ -1,11 +1,11 @@
 //! How a service was started, for the line of the log about that.
 
 use crate::furthest::furthest_up;
-use crate::options::{ServeOptions, Settings};
 use crate::served_node::ServedNode;
 use ballot::Memory;
 use rolls::millis_since;
 use session_log::{EventLog, StartLoad};
+use settings::{ServeOptions, Settings};
 use std::alloc::Global;
 use std::sync::Wait;
 use std::time::{Clock, Instant};

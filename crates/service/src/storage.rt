@@ -4,11 +4,11 @@ ghost use Rattle.maildrop.specs.Name.{are_different};
 ghost use Rattle.service.specs.Storages as spec;
 
 use crate::epoch_journal::EpochJournal;
-use crate::options::ServeOptions;
 use cluster::Setup;
 use ledger::Ledger;
 use maildrop::{Kept, Shared};
 use ports::{Fault, System};
+use settings::ServeOptions;
 use std::alloc::Global;
 use std::fs::File;
 use std::random::RandomSource;

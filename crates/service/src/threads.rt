@@ -5,7 +5,6 @@ ghost use Rattle.service.specs.Faults.{IsFaultAt, IsLocalFaultAt, IsPeerFault, I
 use crate::brand::Service;
 use crate::life::ServiceLife;
 use crate::operator::OperatorHandler;
-use crate::options::Settings;
 use crate::peers::{PeerHandler, most_file};
 use crate::pop::PopHandler;
 use crate::served_node::ServedNode;
@@ -19,6 +18,7 @@ use ports::{
     Fault, Handler, OperatorConnection, OperatorListener, Port, System, listen_at, start_reserve,
     start_serving, start_taking,
 };
+use settings::Settings;
 use std::alloc::Global;
 use std::net::{IpAddr, Ipv4Addr, TcpListener, TcpStream};
 use std::rt::Files;

@@ -1,7 +1,7 @@
 use Rattle.std.specs.Prelude.{is_some}
 use Rattle.std.proofs.Common.{◌≡◌, true, Err, IfOk, ap, subst}
 use Rattle.ports.specs.declared.fault.Fault.TheVariants as fault
-use Rattle.service.specs.Options.{limits_of}
+use Rattle.settings.specs.Options.{limits_of}
 use Rattle.service.specs.Epochs.{FoundLegal}
 use Rattle.service.specs.declared.verdict.Verdict.TheVariants.{Legal}
 use Rattle.service.proofs.serve.run.Goals as goal

@@ -3,7 +3,7 @@ ghost use Rattle.std.specs.Arc.{arc_value};
 ghost use Rattle.std.specs.Prelude.{◌≡◌, ◌<◌, ◌⊎◌, Ok, Some, length, map, IfOk, IfErr};
 ghost use Rattle.apop.specs.Accounts as table;
 ghost use Rattle.apop.specs.Accounts.{name_of};
-ghost use Rattle.service.specs.Faults as faults;
+ghost use Rattle.settings.specs.Faults as faults;
 
 use crate::account_lines::{AccountLines, LARGEST_ACCOUNTS};
 use apop::{Accounts, AccountsError};
@@ -35,8 +35,9 @@ fn accounts_in(alloc: Global, bytes: &[u8]) -> Result<Accounts, Fault>
     }
 }
 
-/// The accounts of the file of this path. `Value` if it is too large. It is read up to the first line that is no account.
-pub(crate) fn accounts_of<R: Files>(rt: &R, alloc: Global, path: &str) -> Result<Accounts, Fault> {
+/// Returns the accounts of the file of this path. It is read up to the first line that is no account. `Account` or `NameTwice` has the
+/// first bad line, counted from 1. `Value` if the file has more than 64 MiB, `Read` if it can't be read, or `Memory`.
+pub fn accounts_of<R: Files>(rt: &R, alloc: Global, path: &str) -> Result<Accounts, Fault> {
     let mut lines = AccountLines::new();
     let bytes = read_file(rt, alloc, path, LARGEST_ACCOUNTS, &mut lines)?;
     if bytes.len() as u64 > LARGEST_ACCOUNTS {
@@ -45,8 +46,9 @@ pub(crate) fn accounts_of<R: Files>(rt: &R, alloc: Global, path: &str) -> Result
     accounts_in(alloc, bytes.as_slice())
 }
 
-/// The accounts of the file of this path. `NoAccounts` if it has none: it may be one that is being written.
-pub(crate) fn some_accounts_of<R: Files>(
+/// Returns the accounts of the file of this path, as `accounts_of` does. `NoAccounts` if it has none: it may be one that is being
+/// written.
+pub fn some_accounts_of<R: Files>(
     rt: &R,
     alloc: Global,
     path: &str,

@@ -1,6 +1,6 @@
 //! The mark of a node that was started.
 ghost use Rattle.std.specs.Prelude.{IfErr};
-ghost use Rattle.service.specs.Faults.{IsMarkFault};
+ghost use Rattle.settings.specs.Faults.{IsMarkFault};
 
 use ballot::NodeId;
 use ports::Fault;
@@ -11,8 +11,9 @@ use std::rt::Files;
 use std::{fs, io};
 
 /// Makes a file of the node's number in this folder, for good: it is there after a power failure too. If it is there
-/// already, the node was started before. A node that has forgotten what it promised may not come back.
-pub(crate) fn mark_start<R: Files<File = File>>(
+/// already, the node was started before: `StartedBefore`. A node that has forgotten what it promised may not come back. `Mark` if
+/// the file can't be made, or `Memory`.
+pub fn mark_start<R: Files<File = File>>(
     rt: &R,
     alloc: Global,
     folder: &str,

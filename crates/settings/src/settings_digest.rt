@@ -1,7 +1,7 @@
-//! What all nodes of a service must begin with alike.
+//! The digest of what all nodes of a service must begin with alike.
 ghost use Rattle.std.specs.Prelude.{◌≡◌, ◌++◌, take, IfOk, OnOk};
 ghost use Rattle.std.specs.List.{flat_map};
-ghost use Rattle.service.specs.Agreements as spec;
+ghost use Rattle.settings.specs.Digests as spec;
 
 use crate::options::ServeOptions;
 use ballot::Memory;
@@ -62,9 +62,9 @@ fn first_digits(digits: &[u8; 64]) -> &[u8]
     &digits[..DIGITS]
 }
 
-/// The line that reports it: `settings`, and the first digits of the text's SHA-256. It is the same in all processes of a
-/// service.
-pub(crate) fn agreement_line(
+/// Returns the line that reports it: `settings`, and the first 16 hexadecimal digits of the text's SHA-256. It is the same in all
+/// processes of a service. `Memory` if memory runs out.
+pub fn agreement_line(
     alloc: Global,
     options: &ServeOptions<'_>,
     names: &[Name],

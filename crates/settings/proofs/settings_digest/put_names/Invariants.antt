@@ -1,7 +1,7 @@
 use Rattle.std.proofs.Common.{◌≡◌, ◌++◌, take}
 use Rattle.std.specs.List.{flat_map}
-use Rattle.service.specs.Agreements.{name_line}
-use Rattle.service.proofs.agreement.put_names.Given as goal
+use Rattle.settings.specs.Digests.{name_line}
+use Rattle.settings.proofs.settings_digest.put_names.Given as goal
 
 -- the lines of the names so far
 abbrev pub invariant-loop-name : goal.invariant-loop-name

@@ -1,5 +1,5 @@
 use Rattle.std.proofs.Common.{length}
-use Rattle.service.proofs.account_lines.AccountLinesReadOn.reads_on.Given as goal
+use Rattle.settings.proofs.account_lines.AccountLinesReadOn.reads_on.Given as goal
 
 abbrev pub decreases-loop-end : goal.decreases-loop-end
 decreases-loop-end l = length l.rest

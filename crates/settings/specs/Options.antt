@@ -1,11 +1,10 @@
 -- The options of a service.
-use Rattle.std.specs.Prelude.{◌≡◌, refl, false, ℕ, ◌-◌, ◌^◌, ◌&&◌, ◌||◌, Bool, true, nat_eq, nat_le, List, [], ◌∷◌, Option, None, Some, is_some, is_none, IsTrue}
+use Rattle.std.specs.Prelude.{◌≡◌, refl, false, ℕ, ◌-◌, ◌^◌, ◌&&◌, ◌||◌, Bool, true, nat_eq, nat_le, Option, None, Some, is_some, is_none, IsTrue}
 use Rattle.maildrop.specs.Limits.{Limits, AreLimits}
 use Rattle.apop.specs.Stamp.{IsHost}
-use Rattle.cluster.specs.Starts.{all_nodes}
 use Rattle.ports.specs.Ranges.{last_port, is_between, may_be_between}
-use Rattle.service.specs.declared.options.NodeOptions.{NodeOptions}
-use Rattle.service.specs.declared.options.ServeOptions.{ServeOptions}
+use Rattle.settings.specs.declared.options.NodeOptions.{NodeOptions}
+use Rattle.settings.specs.declared.options.ServeOptions.{ServeOptions}
 use Rattle.rolls.specs.declared.rolls.RollLimits.{RollLimits}
 
 abbrev pub most_nodes : ℕ
@@ -71,12 +70,7 @@ limits_of o = record { messages = o.messages; octets = o.octets; ids = o.ids }
 abbrev pub AreGood : ServeOptions → Type 0
 AreGood o = IsTrue (are_in_range o) × AreLimits (limits_of o) × IsHost o.host.now
 
--- the nodes that run in a process: the one of this number, or all
-abbrev pub nodes_here : ℕ → Option ℕ → List ℕ
-nodes_here cluster None = all_nodes cluster
-nodes_here cluster (Some node) = node ∷ []
-
--- whether a node is one of them
+-- whether a node runs in a process: in one that runs the node of this number, or all
 abbrev pub runs : ℕ → Option ℕ → Bool
 runs node None = true
 runs node (Some only) = nat_eq only node
@@ -99,10 +93,7 @@ nine_nodes = refl
 no_room_for_nodes : may_be_between 0 (last_port - 1) (Some 65535) ≡ false
 no_room_for_nodes = refl
 
--- node 3 of three may run in a process of its own, and node 4 may not
-third_node : nodes_here 3 (Some 3) ≡ 3 ∷ []
-third_node = refl
-
+-- in the process of node 3 it runs, and node 4 does not
 third_runs : runs 3 (Some 3) ≡ true
 third_runs = refl
 

@@ -1,7 +1,7 @@
 //! What a service is started with.
 ghost use Rattle.std.specs.Prelude.{◌≡◌, ◌≤◌, ◌↔◌, None, Some, IfOk, IfSome, IsErrOf, IsTrue};
 ghost use Rattle.ports.specs.Ranges as ranges;
-ghost use Rattle.service.specs.Options as spec;
+ghost use Rattle.settings.specs.Options as spec;
 
 use apop::stamp;
 use ballot::{Cluster, Items, LAST_NODE, NodeId};
@@ -114,7 +114,7 @@ pub struct NodeOptions<'a> {
 
 /// What the options of a service say, once each is in its range.
 #[derive(Drop)]
-pub(crate) struct Settings {
+pub struct Settings {
     /// The nodes.
     pub cluster: Cluster,
     /// For how many slots a node proposes at a time: 1 to 1,000.
@@ -153,7 +153,7 @@ pub(crate) struct Settings {
 
 impl Settings {
     /// Whether a node runs in this process.
-    pub(crate) fn runs(&self, node: NodeId) -> bool
+    pub fn runs(&self, node: NodeId) -> bool
         ensures { result ≡ spec.runs node self.now.node }
     {
         match self.node {
@@ -235,8 +235,8 @@ fn port_of(number: Option<u64>) -> Option<u16>
     }
 }
 
-/// What the options say, or `Value` if one is out of its range.
-pub(crate) fn settings_of(alloc: Global, options: &ServeOptions<'_>) -> Result<Settings, Fault>
+/// Returns what the options say: `Value` if one is out of its range, or `Memory`.
+pub fn settings_of(alloc: Global, options: &ServeOptions<'_>) -> Result<Settings, Fault>
     ensures value { IsErrOf result Fault.Value ↔ ¬ spec.AreGood options.now }
     ensures cluster { IfOk result (λ settings. settings.cluster ≡ options.now.nodes) }
     ensures window { IfOk result (λ settings. settings.window ≡ options.now.window) }
@@ -301,8 +301,8 @@ fn may_be_alone(options: &NodeOptions<'_>) -> bool
         && options.service.data.is_none()
 }
 
-/// The settings of a process with one node, or `Value` if an option is out of its range.
-pub(crate) fn node_settings_of(alloc: Global, options: &NodeOptions<'_>) -> Result<Settings, Fault>
+/// Returns the settings of a process with one node: `Value` if an option is out of its range or the node can't be alone, or `Memory`.
+pub fn node_settings_of(alloc: Global, options: &NodeOptions<'_>) -> Result<Settings, Fault>
     ensures value { IsErrOf result Fault.Value ↔ ¬ spec.AreNodeGood options.now }
     ensures cluster { IfOk result (λ settings. settings.cluster ≡ options.now.service.nodes) }
     ensures window { IfOk result (λ settings. settings.window ≡ options.now.service.window) }

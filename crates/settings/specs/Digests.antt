@@ -1,10 +1,10 @@
--- What all nodes of a service must begin with alike.
+-- The digest of what all nodes of a service must begin with alike.
 use Rattle.std.specs.Prelude.{ℕ, List, [], ◌∷◌, ◌++◌, take, codes}
 use Rattle.std.specs.List.{flat_map}
 use Rattle.std.specs.Fmt.{decimal}
 use Rattle.hex.specs.Hex.{encode_lower}
 use Rattle.sha2.specs.Sha256.{sha256}
-use Rattle.service.specs.declared.options.ServeOptions.{ServeOptions}
+use Rattle.settings.specs.declared.options.ServeOptions.{ServeOptions}
 
 abbrev pub name_line : List ℕ → List ℕ
 name_line name = name ++ 10 ∷ []
