@@ -212,7 +212,7 @@ fn end_sessions<R: Wait + Clock, N: ServedNode>(
     unreachable!()
 }
 
-/// Notes in the log that nothing more is written for want of memory. The fault of a write is noted as the service ends.
+/// Notes in the log that nothing more is written after running out of memory. The fault of a write is noted as the service ends.
 fn note_want_of_memory<R: Wait + Clock>(rt: &R, state: &ServiceState) {
     if matches!(state.journal().failure(rt), Some(Fault::Memory)) {
         state.life().log().fault(rt, "no memory");

@@ -39,7 +39,7 @@ fn write_fault(is_in_use: bool) -> Fault
     }
 }
 
-/// The fault of a write, unless it is a want of memory.
+/// The fault of a write, unless it is out of memory.
 fn of_write(failure: Option<Fault>) -> Result<(), Fault>
     ensures write { failure ≡ Some Fault.Write → IsErr result }
     ensures in_use { failure ≡ Some Fault.InUse → IsErr result }
@@ -121,7 +121,7 @@ impl EpochJournal {
         }
     }
 
-    /// The fault of a write, if one has failed. The service ends because of it. After a want of memory alone the epoch ends, and
+    /// The fault of a write, if one has failed. The service ends because of it. After running out of memory only the epoch ends, and
     /// the next one has all that was answered.
     pub(crate) fn written<R: Wait>(&self, rt: &R) -> Result<(), Fault> {
         of_write(self.failure(rt))

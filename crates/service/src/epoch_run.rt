@@ -219,8 +219,8 @@ fn prepare<R: System + Files<File = File>, N: ServedNode>(
     Ok(prepared)
 }
 
-/// Prepares the end of the epoch, if it may be tried now. If what the next one needs can't be had, operators who asked for the end are told
-/// so, and the epoch goes on.
+/// Prepares the end of the epoch, if it may be tried now. If what the next one needs can't be had, operators who asked for the end get
+/// that answer, and the epoch goes on.
 fn prepared<R: System + Files<File = File>, N: ServedNode>(
     rt: &R,
     alloc: Global,
@@ -311,7 +311,7 @@ fn note_leader<R: Wait, N: ServedNode>(rt: &R, life: &ServiceLife, nodes: &[N]) 
 }
 
 /// Stops the nodes of an epoch whose changes can't be written any more. Returns whether the service ends: it does after a write that
-/// failed. After a want of memory the epoch alone ends, if there is a next one.
+/// failed. After running out of memory only the epoch ends, if there is a next one.
 fn ends_by_journal<R: Wait, N: ServedNode>(rt: &R, state: &ServiceState, nodes: &[N]) -> bool {
     crash_all(nodes);
     state.journal().written(rt).is_err() || !state.life().rolls().require(rt, state.epoch())

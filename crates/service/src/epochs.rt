@@ -209,7 +209,7 @@ fn may_be_had_later(fault: Fault) -> bool {
 }
 
 /// Runs epoch after epoch until the service is over, and returns the last one. It is judged by the caller, and all others are
-/// judged here. If one can't begin for want of memory, threads or descriptors, nothing is lost, and it is tried again for a
+/// judged here. If one can't begin since memory, threads or descriptors run out, nothing is lost, and it is tried again for a
 /// minute, after 1 s, 2 s and so on. After a fault the last of those that have ended may still be audited.
 pub(crate) fn run_epochs<R: System + Files<File = File>, W: Write>(
     rt: R,

@@ -97,8 +97,8 @@ impl Reserve {
         }
     }
 
-    /// Holds all that is needed, in place of what was held. If something can't be had nothing is held: `Memory` for want of memory or
-    /// threads, and `Read` for want of descriptors.
+    /// Holds all that is needed, in place of what was held. If something can't be had nothing is held: `Memory` if out of memory or
+    /// threads, and `Read` if out of descriptors.
     pub(crate) fn hold<R: System + Files<File = File>>(
         &mut self,
         rt: R,
