@@ -43,7 +43,7 @@ mod verdict;
 
 pub use laws::audited_epochs_are_a_life;
 pub use serve::{ServiceEnd, serve_run};
-pub use serve_node::serve_node_run;
+pub use serve_node::{NodeEnd, serve_node_run};
 pub use settings::{NodeOptions, OnFault, ServeOptions};
 pub use start_note::VERSION;
 pub use storage::fault_of_store;

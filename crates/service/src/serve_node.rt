@@ -1,8 +1,9 @@
 //! `maildropd serve --node`: one node of a service, with its sessions and an operator's port, in a process of its own.
-ghost use Rattle.std.specs.Prelude.{◌≡◌, ◌≤◌, ◌<◌, ◌++◌, ◌∷◌, [], IsTrue, IsErrOf, OnOk, codes, map};
+ghost use Rattle.std.specs.Prelude.{◌≡◌, ◌≤◌, ◌<◌, ◌++◌, ◌∷◌, [], IsTrue, IsErrOf, IfSome, OnOk, codes, map};
 ghost use Rattle.std.specs.Arc.{arc_value};
 ghost use Rattle.std.specs.Io.KnownBytes.{Appends};
 ghost use Rattle.settings.specs.Options as spec;
+ghost use Rattle.ports.specs.Faults.{status_at};
 ghost use Rattle.apop.specs.Accounts.{name_of};
 ghost use Rattle.maildrop.specs.Name.{are_different};
 
@@ -29,6 +30,15 @@ use std::marker::Brand;
 use std::rt::Files;
 use std::sync::Arc;
 use std::sync::ledger::{Blank, Share};
+
+/// How a node in a process of its own has ended.
+#[derive(Clone, Copy, Debug, PartialEq, Eq)]
+pub struct NodeEnd {
+    /// The exit status, 0 to 2.
+    pub status: u8,
+    /// Why it has ended, unless an operator stopped it. It was reported on standard error.
+    pub fault: Option<Fault>,
+}
 
 /// A node that runs alone in a process, and the port above which nodes have theirs.
 #[derive(Clone, Copy)]
@@ -219,7 +229,7 @@ where
 /// Serves POP3 (RFC 1939) at one node of a service, whose other nodes run in other processes, and an operator's requests at
 /// a port or socket of their own, until an operator stops it. Then no connection is taken any more, the sessions go on to
 /// their ends, the node stops for good, and `stopped` is written. The processes of a service must have the same accounts,
-/// limits, window and number of nodes, and no node may be started twice. Returns the exit status: 0 if that line was
+/// limits, window and number of nodes, and no node may be started twice. Returns why it has ended, and the exit status: 0 if that line was
 /// written, 1 after a fault of memory, reading, writing or the network, 2 for options out of range, a malformed accounts
 /// file, or a node that was started before. A fault is reported on standard error.
 pub fn serve_node_run<R: System + Files<File = File> + Eprint, W: Write>(
@@ -227,20 +237,27 @@ pub fn serve_node_run<R: System + Files<File = File> + Eprint, W: Write>(
     alloc: Global,
     writer: &mut W,
     options: &NodeOptions<'_>,
-) -> u8
+) -> NodeEnd
 where
     R::Dir: Send,
-    ensures values { (¬ spec.AreNodeGood options.now) → result ≡ 2 }
-    ensures statuses { result ≤ 2 }
+    ensures values { (¬ spec.AreNodeGood options.now) → result.status ≡ 2 }
+    ensures statuses { result.status ≤ 2 }
+    ensures fault { IfSome result.fault (λ fault. result.status ≡ status_at fault) }
 
     // The status 0 comes only after the line.
-    ensures told { result ≡ 0 → Appends (W.contents writer.old) (W.contents writer.new) (codes "stopped" ++ 10 ∷ []) }
+    ensures told { result.status ≡ 0 → Appends (W.contents writer.old) (W.contents writer.new) (codes "stopped" ++ 10 ∷ []) }
 {
     match run_and_tell(rt, alloc, writer, options) {
-        Ok(()) => 0,
+        Ok(()) => NodeEnd {
+            status: 0,
+            fault: None,
+        },
         Err(fault) => {
             let _untold = eprintln!(rt; "maildropd: {fault}");
-            fault.status()
+            NodeEnd {
+                status: fault.status(),
+                fault: Some(fault),
+            }
         }
     }
 }
