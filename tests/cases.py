@@ -129,7 +129,7 @@ def counting(case, output):
 def play_at_once(fixture, case, words):
     ran = fixture.run(*words, given=case.sent)
     got = (ran.status, ran.errors, counting(case, ran.output))
-    if words[0] == "lone" and case.status == 2:
+    if case.status == 2:
         # The program also names the mistake, in a line of its own.
         expect(ran.errors.count(b"\n") == case.told.count(b"\n") + 1, f"no line, or too many, below the fault: {ran.errors!r}")
         got = (ran.status, first_line(ran.errors), counting(case, ran.output))

@@ -73,7 +73,7 @@ pub fn run_case<'a, R: Read>(
     };
     let rt = (console, alloc);
     let status = if case.is_script {
-        sim_run(&rt, reader, &mut output)
+        sim_run(&rt, reader, &mut output).status
     } else if taking.gathers {
         match BufWriter::with_capacity(alloc, GATHERED, &mut output) {
             Ok(mut writer) => lone_run(&rt, reader, &mut writer, &case.settings.options()),

@@ -1,15 +1,14 @@
 //! `serve --check`: what a start would take and find. Nothing is made or changed.
 
-use crate::accounts::accounts_in;
-use crate::arguments::{Choice, Presence, optional_number_of, optional_text_of, text_of};
-use crate::config::Config;
-use crate::mistake::{Mistake, hint};
 use crate::serve_faults::mistake_behind;
 use crate::serve_mistakes::mistake_in_options;
 use crate::serve_options::OPTIONS;
-use crate::unread::Unread;
 use clap::ArgMatches;
 use clap::parser::ValueSource;
+use command_line::{
+    Choice, Config, Mistake, Presence, Unread, accounts_in, hint, optional_number_of,
+    optional_text_of, text_of,
+};
 use ports::{Fault, say};
 use service::{ServeOptions, fault_of_store};
 use std::fs::File;

@@ -1,42 +1,21 @@
-//! The program `maildropd`: its command line, over the libraries `server`, `simulator`, `service` and `ctl`.
+//! The program `maildropd`: `serve`, and which command is run.
 #![tactic(auto)]
 
-mod account_lines;
-mod accounts;
-mod arguments;
-mod config;
-mod ctl_place;
-mod data;
 mod dry_run;
-mod greeting_writer;
-mod lone;
-mod mending;
-mod mistake;
-mod noting_runtime;
-mod operator;
-mod put_words;
-mod range;
-mod requests;
 mod serve;
 mod serve_faults;
 mod serve_mistakes;
 mod serve_options;
-mod settings_file;
-mod sim;
-mod unread;
 
-use crate::config::{Config, config_of, words_of_serve};
-use crate::ctl_place::option_by_environment;
-use crate::data::{begin_command, check_command, export_command, run_begin, run_check, run_export};
-use crate::lone::{lone, run_lone};
-use crate::mending::{mend_command, run_mend};
-use crate::operator::{ctl, run_ctl};
-use crate::put_words::status_without_memory;
 use crate::serve::run_serve;
 use crate::serve_options::{OPTIONS, serve, serve_in_part};
-use crate::sim::{run_sim, sim};
 use clap::error::ErrorKind;
 use clap::{Command, Error};
+use command_line::{
+    Config, begin_command, check_command, config_of, ctl, export_command, lone, mend_command,
+    option_by_environment, run_begin, run_check, run_ctl, run_export, run_lone, run_mend, run_sim,
+    sim, status_without_memory, words_of_serve,
+};
 use service::VERSION;
 use std::alloc::Global;
 use std::env::Env;

@@ -1,13 +1,13 @@
 //! `maildropd serve`.
 
-use crate::arguments::{bytes_of, number_of, optional_number_of, optional_text_of, text_of};
-use crate::config::Config;
 use crate::dry_run::run_dry;
-use crate::mistake::{Mistake, hint};
 use crate::serve_faults::mistake_behind;
 use crate::serve_options::{on_fault_of, sync_of};
-use crate::unread::Unread;
 use clap::ArgMatches;
+use command_line::{
+    Config, Mistake, Unread, bytes_of, hint, number_of, optional_number_of, optional_text_of,
+    refuse, text_of,
+};
 use ports::Fault;
 use service::{NodeOptions, ServeOptions, serve_node_run, serve_run};
 use std::fs::File;
@@ -22,11 +22,6 @@ use store::SyncMode;
 
 /// How many segments stay in a data folder by default.
 const KEPT_SEGMENTS: u64 = 2;
-
-/// The status after a fault of the system, and after options or accounts that are none.
-const FAILED: u8 = 1;
-
-const BAD_VALUE: u8 = 2;
 
 /// How a data folder is used: when a change is answered, and how many segments stay. Nothing if a word is none, or is given
 /// without a folder: whoever forgets the folder would lose the mail.
@@ -77,14 +72,7 @@ fn options_of<'a>(matches: &ArgMatches<'a>) -> Option<ServeOptions<'a>> {
     })
 }
 
-/// Reports that an option is out of its range. Returns the status.
-fn refuse<R: Eprint>(rt: &R) -> u8 {
-    let fault = Fault::Value;
-    let _untold = eprintln!(rt; "maildropd: {fault}");
-    fault.status()
-}
-
-/// How a service has ended: its status, and the fault that led to it, if that is known.
+/// How a service or a node has ended: its status, and the fault that led to it, if one did.
 #[derive(Clone, Copy)]
 struct Ended {
     status: u8,
@@ -94,7 +82,7 @@ struct Ended {
 /// Reports that an option is out of its range.
 fn refused<R: Eprint>(rt: &R) -> Ended {
     Ended {
-        status: refuse(rt),
+        status: refuse(rt, Fault::Value),
         fault: Some(Fault::Value),
     }
 }
@@ -129,10 +117,10 @@ where
                 node,
                 mark,
             };
-            let status = serve_node_run(*rt, rt.alloc(), &mut io::writer(rt), &options);
+            let end = serve_node_run(*rt, rt.alloc(), &mut io::writer(rt), &options);
             Ended {
-                status,
-                fault: None,
+                status: end.status,
+                fault: end.fault,
             }
         }
         None if mark.is_some() => refused(rt),
@@ -154,12 +142,7 @@ fn mistake_after<'a, R: AllocGlobal + Files + Copy>(
     ended: Ended,
     unread: Option<Unread>,
 ) -> Option<Mistake<'a>> {
-    let fault = match (ended.fault, ended.status) {
-        (Some(fault), _) => fault,
-        (None, BAD_VALUE) => Fault::Value,
-        (None, FAILED) => Fault::Read,
-        (None, _) => return None,
-    };
+    let fault = ended.fault?;
     if fault != Fault::Read {
         return mistake_behind(rt, matches, fault);
     }
@@ -169,6 +152,7 @@ fn mistake_after<'a, R: AllocGlobal + Files + Copy>(
     is_unread.then_some(Mistake::CannotRead(path, cause))
 }
 
+/// Runs `serve`. Returns the exit status.
 pub(crate) fn run_serve<
     R: Net<Listener = TcpListener, Stream = TcpStream>
         + Threads

@@ -1,11 +1,8 @@
 //! Which mistake led to a fault of `serve`.
 
-use crate::account_lines::mistake_in_accounts;
-use crate::arguments::{optional_text_of, text_of};
-use crate::data::mistake_in_folder;
-use crate::mistake::Mistake;
 use crate::serve_mistakes::mistake_in_options;
 use clap::ArgMatches;
+use command_line::{Mistake, mistake_in_accounts, mistake_in_folder, optional_text_of, text_of};
 use ports::Fault;
 use std::rt::Files;
 

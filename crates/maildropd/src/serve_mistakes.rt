@@ -1,13 +1,12 @@
 //! What is wrong with the options of `serve`.
 
-use crate::arguments::{
-    Choice, Kind, bytes_of, number_of, optional_number_of, optional_text_of, text_of,
-};
-use crate::mistake::Mistake;
-use crate::range::{Bound, Range};
 use crate::serve_options::{OPTIONS, on_fault_of, sync_of};
 use apop::stamp;
 use clap::ArgMatches;
+use command_line::{
+    Bound, Choice, Kind, Mistake, Range, bytes_of, number_of, optional_number_of, optional_text_of,
+    text_of,
+};
 use std::net::IpAddr;
 
 /// A nonce that can stand before every host.

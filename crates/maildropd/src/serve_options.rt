@@ -1,9 +1,10 @@
 //! The options of `serve`, and what they may be.
 
-use crate::arguments::{Choice, Kind, Presence, with_optional, with_options};
-use crate::config::with_config;
-use crate::range::{LAST_PORT, Range, TWO_TO_40, TWO_TO_63};
 use clap::{Command, Error};
+use command_line::{
+    Choice, Kind, LAST_PORT, Presence, Range, TWO_TO_40, TWO_TO_63, with_config, with_optional,
+    with_options,
+};
 use service::OnFault;
 use std::alloc::Global;
 use store::SyncMode;
@@ -124,7 +125,7 @@ pub(crate) const OPTIONS: &[Choice] = &[
         value: "MILLISECONDS",
         kind: Kind::Number(Range::Between(1, 1_000_000)),
         presence: Presence::Default("200"),
-        help: "How much time lies at least between two ticks of a node, which sends again what is lost: 1 to 1000000",
+        help: "Time between two ticks, at which a node repeats what may be lost, 1 to 1000000",
     },
     Choice {
         name: "messages",

@@ -14,6 +14,13 @@ status_at fault.Memory = 1
 status_at fault.Read = 1
 status_at fault.Write = 1
 
+-- the number of the line that a fault is of
+abbrev pub line_at : Fault → Option ℕ
+line_at (fault.Line number) = Some number
+line_at fault.Memory = None
+line_at fault.Read = None
+line_at fault.Write = None
+
 -- the fault of the line of this number
 abbrev pub fault_at : ℕ → ScriptFault → Fault
 fault_at number Memory = fault.Memory

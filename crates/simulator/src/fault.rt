@@ -1,6 +1,6 @@
 //! Why a script isn't played to its end.
 ghost use Rattle.std.specs.Prelude.{◌≡◌};
-ghost use Rattle.simulator.specs.Statuses.{status_at};
+ghost use Rattle.simulator.specs.Statuses.{line_at, status_at};
 
 use ballot::Memory;
 use thiserror::Error;
@@ -38,6 +38,16 @@ impl Fault {
         match self {
             Fault::Line(_) => 2,
             Fault::Memory | Fault::Read | Fault::Write => 1,
+        }
+    }
+
+    /// The number of the line at fault, if one is.
+    pub(crate) fn line(self) -> Option<u64>
+        ensures { result ≡ line_at self }
+    {
+        match self {
+            Fault::Line(number) => Some(number),
+            Fault::Memory | Fault::Read | Fault::Write => None,
         }
     }
 }

@@ -15,4 +15,4 @@ mod sessions;
 mod sim;
 mod undelivered;
 
-pub use sim::sim_run;
+pub use sim::{SimEnd, sim_run};

@@ -17,6 +17,15 @@ use script::ScriptFault;
 use std::alloc::Global;
 use std::io::{BufReader, Read, Write};
 
+/// How a script has ended.
+#[derive(Clone, Copy, Debug, PartialEq, Eq)]
+pub struct SimEnd {
+    /// The exit status, 0 to 2.
+    pub status: u8,
+    /// The number of the line at fault, counted from 1, if the status is 2.
+    pub line: Option<u64>,
+}
+
 /// From so many bytes on output is written, even if the next line is there already.
 const GATHERED: usize = 65_536;
 
@@ -139,23 +148,30 @@ fn run<R: Read, W: Write>(alloc: Global, reader: &mut R, writer: &mut W) -> Resu
 /// are told, what its Mails and Breaks are answered, which commands are refused, and what nodes have performed, to a
 /// writer. What comes of a line is written before more input is awaited. Returns the exit status: 0 at the end of the
 /// input, 1 after a fault of memory, reading or writing, 2 at a line that is none of the language or may not come at its
-/// place. At 0 and 2 it has written what all lines say that come before a fault, one after another. A fault is reported on
-/// standard error, after the output of what ran before.
+/// place, with its number. At 0 and 2 it has written what all lines say that come before a fault, one after another. A fault is
+/// reported on standard error, after the output of what ran before.
 pub fn sim_run<H: AllocGlobal + Eprint, R: Read, W: Write>(
     rt: &H,
     reader: &mut R,
     writer: &mut W,
-) -> u8
-    ensures played { result ≡ 0 → IfSome (R.remaining reader.old) (λ input. spec.first_fault input ≡ None) }
-    ensures refused { result ≡ 2 → IfSome (R.remaining reader.old) (λ input. is_some (spec.first_fault input) ≡ true) }
-    ensures statuses { result ≤ 2 }
-    ensures written { (result ≡ 1 → ⊥) → IfSome (R.remaining reader.old) (λ input. Appends (W.contents writer.old) (W.contents writer.new) (output Global input)) }
+) -> SimEnd
+    ensures played { result.status ≡ 0 → IfSome (R.remaining reader.old) (λ input. spec.first_fault input ≡ None) }
+    ensures refused { result.status ≡ 2 → IfSome (R.remaining reader.old) (λ input. is_some (spec.first_fault input) ≡ true) }
+    ensures line { IfSome result.line (λ number. IfSome (R.remaining reader.old) (λ input. spec.first_fault input ≡ Some number)) }
+    ensures statuses { result.status ≤ 2 }
+    ensures written { (result.status ≡ 1 → ⊥) → IfSome (R.remaining reader.old) (λ input. Appends (W.contents writer.old) (W.contents writer.new) (output Global input)) }
 {
     match run(rt.alloc(), reader, writer) {
-        Ok(()) => 0,
+        Ok(()) => SimEnd {
+            status: 0,
+            line: None,
+        },
         Err(fault) => {
             let _ = eprintln!(rt; "maildropd: {fault}");
-            fault.status()
+            SimEnd {
+                status: fault.status(),
+                line: fault.line(),
+            }
         }
     }
 }

@@ -33,14 +33,14 @@ const FILE_OPTION: &[Choice] = &[Choice {
 
 /// The options that a file gives and the command line doesn't.
 #[derive(Drop)]
-pub(crate) struct Config<'a> {
+pub struct Config<'a> {
     path: &'a str,
     settings: Vec<Setting>,
 }
 
 /// Why the options of a file can't be taken.
 #[derive(Drop)]
-pub(crate) enum ConfigFault<'a> {
+pub enum ConfigFault<'a> {
     Memory,
     /// The file of this path can't be read, for this reason.
     Unreadable(&'a str, Option<Unread>),
@@ -51,7 +51,7 @@ pub(crate) enum ConfigFault<'a> {
 
 impl<'a> Config<'a> {
     /// No file is named.
-    pub(crate) fn none(alloc: Global) -> Self {
+    pub fn none(alloc: Global) -> Self {
         Config {
             path: "",
             settings: Vec::new(alloc),
@@ -59,12 +59,12 @@ impl<'a> Config<'a> {
     }
 
     /// The path of the file, as the command line has it.
-    pub(crate) fn path(&self) -> &'a str {
+    pub fn path(&self) -> &'a str {
         self.path
     }
 
     /// The number of the line that gives this option, if the option is the file's.
-    pub(crate) fn line_of(&self, name: &str) -> Option<usize> {
+    pub fn line_of(&self, name: &str) -> Option<usize> {
         for setting in &self.settings {
             if setting.name == name {
                 return Some(setting.line);
@@ -74,7 +74,7 @@ impl<'a> Config<'a> {
     }
 
     /// The words of the command line, with the options of the file, and one more if there is one, before its own.
-    pub(crate) fn joined<'b>(
+    pub fn joined<'b>(
         &'b self,
         alloc: Global,
         words: &'b [String],
@@ -109,7 +109,7 @@ impl ConfigFault<'_> {
     }
 
     /// Reports the fault, and on a second line what is to be mended. Returns the status.
-    pub(crate) fn report<R: Eprint>(&self, rt: &R) -> u8 {
+    pub fn report<R: Eprint>(&self, rt: &R) -> u8 {
         let status = refuse(rt, self.fault());
         match self {
             ConfigFault::Memory => {}
@@ -128,7 +128,7 @@ impl ConfigFault<'_> {
 }
 
 /// The command with the options that are no settings of a service.
-pub(crate) fn with_config<'a>(alloc: Global, command: Command<'a>) -> Result<Command<'a>, Error> {
+pub fn with_config<'a>(alloc: Global, command: Command<'a>) -> Result<Command<'a>, Error> {
     let check = Arg::new(alloc, "check")
         .long("check")
         .help(
@@ -139,7 +139,7 @@ pub(crate) fn with_config<'a>(alloc: Global, command: Command<'a>) -> Result<Com
 }
 
 /// The words from the command on, if it takes a file of options.
-pub(crate) fn words_of_serve(words: &[String]) -> Option<&[String]> {
+pub fn words_of_serve(words: &[String]) -> Option<&[String]> {
     let (_program, rest) = words.split_first()?;
     if rest.first()?.as_str() == SERVE {
         Some(rest)
@@ -189,7 +189,7 @@ fn first_look<'a>(
 
 /// The options of the file that the words of this command name. It is to need no option. Each option of the file is among the
 /// choices.
-pub(crate) fn config_of<'a, R: AllocGlobal + Files<File = File>>(
+pub fn config_of<'a, R: AllocGlobal + Files<File = File>>(
     rt: &R,
     command: Command<'a>,
     words: &'a [String],

@@ -43,7 +43,7 @@ fn places<'a>(alloc: Global) -> Result<(Arg<'a>, Arg<'a>), Error> {
 }
 
 /// The command `ctl` of the command line.
-pub(crate) fn ctl<'a>(alloc: Global) -> Result<Command<'a>, Error> {
+pub fn ctl<'a>(alloc: Global) -> Result<Command<'a>, Error> {
     let words = Arg::new(alloc, "words")
         .value_name("REQUEST")
         .help("The request, as below")
@@ -147,8 +147,8 @@ fn waits_for_verdict<R: Net<Listener = TcpListener, Stream = TcpStream> + Clock>
     false
 }
 
-/// Runs `ctl`.
-pub(crate) fn run_ctl<
+/// Runs `ctl`. Returns the exit status.
+pub fn run_ctl<
     R: Net<Listener = TcpListener, Stream = TcpStream>
         + Clock
         + AllocGlobal

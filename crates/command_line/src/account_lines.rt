@@ -16,7 +16,7 @@ const LONGEST_LINE: usize = 302;
 
 /// A rule for the lines of an accounts file.
 #[derive(Clone, Copy, Debug, PartialEq, Eq, Error)]
-pub(crate) enum LineRule {
+pub enum LineRule {
     #[error("a line can't be a comment")]
     NoComments,
     #[error("a line is NAME METHOD SECRET, with one space between")]
@@ -121,7 +121,7 @@ fn mistake_in<R: AllocGlobal>(rt: &R, bytes: &[u8]) -> Option<Mistake<'static>> 
 }
 
 /// Why a service refuses the accounts file of this path, if that is known. Only an ordinary file can be read twice.
-pub(crate) fn mistake_in_accounts<R: AllocGlobal + Files>(
+pub fn mistake_in_accounts<R: AllocGlobal + Files>(
     rt: &R,
     path: &str,
 ) -> Option<Mistake<'static>> {

@@ -59,6 +59,6 @@ fn status_of(asks_to_put: bool) -> u8
 }
 
 /// The exit status of a program that has no memory for its command line.
-pub(crate) fn status_without_memory<R: Env>(rt: &R) -> u8 {
+pub fn status_without_memory<R: Env>(rt: &R) -> u8 {
     status_of(asks_to_put(rt))
 }

@@ -8,7 +8,6 @@ use mboxrd::write;
 use mend::{is_of_files, read_damaged};
 use ports::{Fault, say};
 use records::Ending;
-use service::fault_of_store;
 use std::alloc::Global;
 use std::fs::File;
 use std::io::ErrorKind;
@@ -20,6 +19,9 @@ use store::{DataFolder, Found, Report, StoreFault, check, read_newest};
 
 /// The line that begins each exported message.
 const FROM_LINE: &[u8] = b"From maildropd Thu Jan  1 00:00:00 1970";
+
+/// The status after any fault of a folder.
+const FAILED: u8 = 1;
 
 /// The unique id of a user's first message.
 const FIRST_UID: u64 = 1;
@@ -34,7 +36,7 @@ const OPTIONS: &[Choice] = &[Choice {
 }];
 
 /// The command `begin` of the command line.
-pub(crate) fn begin_command<'a>(alloc: Global) -> Result<Command<'a>, Error> {
+pub fn begin_command<'a>(alloc: Global) -> Result<Command<'a>, Error> {
     let begin = Command::new(alloc, "begin").about(
         "Makes a data folder without mail, for `serve --data`. Refuses a folder that is not empty",
     );
@@ -42,7 +44,7 @@ pub(crate) fn begin_command<'a>(alloc: Global) -> Result<Command<'a>, Error> {
 }
 
 /// The command `check` of the command line.
-pub(crate) fn check_command<'a>(alloc: Global) -> Result<Command<'a>, Error> {
+pub fn check_command<'a>(alloc: Global) -> Result<Command<'a>, Error> {
     let check = Command::new(alloc, "check").about(
         "Reads all segments of a data folder, and prints a line for each. The status is 1 if one is damaged",
     );
@@ -50,7 +52,7 @@ pub(crate) fn check_command<'a>(alloc: Global) -> Result<Command<'a>, Error> {
 }
 
 /// The command `export` of the command line.
-pub(crate) fn export_command<'a>(alloc: Global) -> Result<Command<'a>, Error> {
+pub fn export_command<'a>(alloc: Global) -> Result<Command<'a>, Error> {
     let name = Arg::new(alloc, "name")
         .value_name("NAME")
         .help("The user")
@@ -64,7 +66,7 @@ pub(crate) fn export_command<'a>(alloc: Global) -> Result<Command<'a>, Error> {
 }
 
 /// Reports a fault. Returns the status.
-pub(crate) fn refuse<R: Eprint>(rt: &R, fault: Fault) -> u8 {
+pub fn refuse<R: Eprint>(rt: &R, fault: Fault) -> u8 {
     let _untold = eprintln!(rt; "maildropd: {fault}");
     fault.status()
 }
@@ -86,7 +88,7 @@ fn is_empty<R: AllocGlobal + Files + Copy>(rt: &R, path: &str) -> bool {
 }
 
 /// Why there is no mail in this folder, if it isn't there, or is empty.
-pub(crate) fn mistake_in_folder<'a, R: AllocGlobal + Files + Copy>(
+pub fn mistake_in_folder<'a, R: AllocGlobal + Files + Copy>(
     rt: &R,
     path: &'a str,
 ) -> Option<Mistake<'a>> {
@@ -126,10 +128,11 @@ pub(crate) fn refuse_folder<R: AllocGlobal + Files + Copy + Eprint>(
 ) -> u8 {
     let _untold = eprintln!(rt; "maildropd: {path}{fault}");
     hint(rt, mistake_in(rt, path, fault));
-    fault_of_store(fault).status()
+    FAILED
 }
 
-pub(crate) fn run_begin<R: AllocGlobal + Files<File = File> + RandomSource + Copy + Eprint>(
+/// Runs `begin`. Returns the exit status.
+pub fn run_begin<R: AllocGlobal + Files<File = File> + RandomSource + Copy + Eprint>(
     rt: &R,
     matches: &ArgMatches<'_>,
 ) -> u8 {
@@ -185,7 +188,8 @@ fn tell_dropped<R: Eprint>(rt: &R, path: &str, report: &Report) {
     }
 }
 
-pub(crate) fn run_check<R: AllocGlobal + Files<File = File> + Copy + Print + Eprint>(
+/// Runs `check`. Returns the exit status.
+pub fn run_check<R: AllocGlobal + Files<File = File> + Copy + Print + Eprint>(
     rt: &R,
     matches: &ArgMatches<'_>,
 ) -> u8 {
@@ -241,7 +245,8 @@ fn read_mail<R: AllocGlobal + Files<File = File> + Copy + Eprint>(
     }
 }
 
-pub(crate) fn run_export<R: AllocGlobal + Files<File = File> + Copy + Print + Eprint>(
+/// Runs `export`. Returns the exit status.
+pub fn run_export<R: AllocGlobal + Files<File = File> + Copy + Print + Eprint>(
     rt: &R,
     matches: &ArgMatches<'_>,
 ) -> u8 {
@@ -258,7 +263,7 @@ pub(crate) fn run_export<R: AllocGlobal + Files<File = File> + Copy + Print + Ep
     };
     if kept.next_uid(&name) == FIRST_UID {
         let _untold = eprintln!(rt; "maildropd: {path} never had mail for {word}");
-        return 1;
+        return FAILED;
     }
     match write_mailbox(rt, kept.messages(&name)) {
         Ok(()) => status,

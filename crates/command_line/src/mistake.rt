@@ -7,7 +7,8 @@ use thiserror::Error;
 
 /// Which mistake led to a fault. A mistake that isn't certain is none of these, and no second line is written.
 #[derive(Clone, Copy, Debug, Error)]
-pub(crate) enum Mistake<'a> {
+pub enum Mistake<'a> {
+    /// An option whose number isn't within these.
     #[error("--{0} is {1} to {2}")]
     OutOfRange(&'a str, u64, Bound),
     /// The last of the nodes would have no port.
@@ -71,6 +72,12 @@ pub(crate) enum Mistake<'a> {
     NoSuchRequest(&'a str),
     #[error("usage: {0}")]
     Usage(&'a str),
+    #[error("no such command: {0}; sim --help lists them")]
+    NoSuchCommand(&'a str),
+    #[error("a line is one command, with one space between two words")]
+    NoCommand,
+    #[error("usage: {0}, before the first command")]
+    Setting(&'a str),
     #[error("--wait is for stop, stop now and status")]
     NotWaitedFor,
     #[error("nobody listens there: is the service running, and is this its --ctl-port?")]
@@ -82,7 +89,7 @@ pub(crate) enum Mistake<'a> {
 }
 
 /// Says which mistake led to a fault, if that is known.
-pub(crate) fn hint<R: Eprint>(rt: &R, mistake: Option<Mistake<'_>>) {
+pub fn hint<R: Eprint>(rt: &R, mistake: Option<Mistake<'_>>) {
     if let Some(mistake) = mistake {
         let _untold = eprintln!(rt; "maildropd: {mistake}");
     }

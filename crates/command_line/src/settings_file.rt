@@ -18,7 +18,7 @@ pub(crate) struct Setting {
 
 /// What is wrong with a line. Its text follows the number of the line.
 #[derive(Debug, Drop, Error)]
-pub(crate) enum LineMistake {
+pub enum LineMistake {
     #[error("not TOML")]
     NotToml,
     #[error("no such option: {0}")]

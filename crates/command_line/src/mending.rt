@@ -35,7 +35,7 @@ const OPTIONS: &[Choice] = &[
 ];
 
 /// The command `mend` of the command line.
-pub(crate) fn mend_command<'a>(alloc: Global) -> Result<Command<'a>, Error> {
+pub fn mend_command<'a>(alloc: Global) -> Result<Command<'a>, Error> {
     let cut = Arg::new(alloc, "cut")
         .long("cut")
         .help("Drops all from the damage on")
@@ -280,7 +280,8 @@ fn apply<R: AllocGlobal + Files<File = File> + RandomSource + Clock + Copy + Pri
     }
 }
 
-pub(crate) fn run_mend<
+/// Runs `mend`. Returns the exit status.
+pub fn run_mend<
     R: AllocGlobal + Files<File = File> + RandomSource + Clock + Copy + Print + Eprint,
 >(rt: &R, matches: &ArgMatches<'_>) -> u8 {
     let path = text_of(matches, "data");

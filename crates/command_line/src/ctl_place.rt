@@ -53,7 +53,7 @@ fn lacks_place(words: &[String]) -> bool {
 
 /// The option that names the place by the value of the environment variable, if the words are of `ctl`, and no option of theirs names
 /// it. Digits are a port.
-pub(crate) fn option_by_environment<R: Env + AllocGlobal>(
+pub fn option_by_environment<R: Env + AllocGlobal>(
     rt: &R,
     words: &[String],
 ) -> Result<Option<String>, AllocError> {

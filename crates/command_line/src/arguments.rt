@@ -6,7 +6,7 @@ use std::alloc::Global;
 
 /// What the value of an option is.
 #[derive(Clone, Copy)]
-pub(crate) enum Kind {
+pub enum Kind {
     /// Any text. It may begin with a hyphen.
     Text,
     /// A number of 64 bits, which is to be in this range.
@@ -15,7 +15,7 @@ pub(crate) enum Kind {
 
 /// Whether an option must be given, and what it is if it isn't.
 #[derive(Clone, Copy)]
-pub(crate) enum Presence {
+pub enum Presence {
     Required,
     Optional,
     Default(&'static str),
@@ -25,7 +25,7 @@ pub(crate) enum Presence {
 
 /// An option of a command, with a value.
 #[derive(Clone, Copy)]
-pub(crate) struct Choice {
+pub struct Choice {
     /// Its name, without the two hyphens.
     pub name: &'static str,
     /// What `--help` shows for its value.
@@ -53,7 +53,7 @@ fn arg_of<'a>(alloc: Global, choice: Choice) -> Arg<'a> {
 }
 
 /// The command with these options.
-pub(crate) fn with_options<'a>(
+pub fn with_options<'a>(
     alloc: Global,
     mut command: Command<'a>,
     choices: &[Choice],
@@ -65,7 +65,7 @@ pub(crate) fn with_options<'a>(
 }
 
 /// The command with these options, none of which must be given or has a default.
-pub(crate) fn with_optional<'a>(
+pub fn with_optional<'a>(
     alloc: Global,
     mut command: Command<'a>,
     choices: &[Choice],
@@ -79,26 +79,26 @@ pub(crate) fn with_optional<'a>(
 }
 
 /// The text of an option, or none if it wasn't given.
-pub(crate) fn text_of<'a>(matches: &ArgMatches<'a>, name: &str) -> &'a str {
+pub fn text_of<'a>(matches: &ArgMatches<'a>, name: &str) -> &'a str {
     matches.get_str(name).unwrap_or("")
 }
 
 /// The text of an option, if it was given.
-pub(crate) fn optional_text_of<'a>(matches: &ArgMatches<'a>, name: &str) -> Option<&'a str> {
+pub fn optional_text_of<'a>(matches: &ArgMatches<'a>, name: &str) -> Option<&'a str> {
     matches.get_str(name)
 }
 
 /// The number of an option, if it was given.
-pub(crate) fn optional_number_of(matches: &ArgMatches<'_>, name: &str) -> Option<u64> {
+pub fn optional_number_of(matches: &ArgMatches<'_>, name: &str) -> Option<u64> {
     matches.get_one::<u64>(name)
 }
 
 /// The bytes of an option, or none if it wasn't given.
-pub(crate) fn bytes_of<'a>(matches: &ArgMatches<'a>, name: &str) -> &'a [u8] {
+pub fn bytes_of<'a>(matches: &ArgMatches<'a>, name: &str) -> &'a [u8] {
     text_of(matches, name).as_bytes()
 }
 
 /// The number of an option, which is required or has a default.
-pub(crate) fn number_of(matches: &ArgMatches<'_>, name: &str) -> u64 {
+pub fn number_of(matches: &ArgMatches<'_>, name: &str) -> u64 {
     matches.get_one::<u64>(name).unwrap_or(0)
 }

@@ -82,7 +82,7 @@ impl ReadOn for Mailbox {
 }
 
 /// The command `lone` of the command line.
-pub(crate) fn lone<'a>(alloc: Global) -> Result<Command<'a>, Error> {
+pub fn lone<'a>(alloc: Global) -> Result<Command<'a>, Error> {
     let lone = Command::new(alloc, "lone")
         .about("Serves one POP3 session over one user's maildrop on standard input and output")
         .after_help(EXAMPLE);
@@ -159,7 +159,8 @@ fn run_with<R: AllocGlobal + Input + Print + Eprint>(
     status
 }
 
-pub(crate) fn run_lone<R: AllocGlobal + Files + Input + Print + Eprint>(
+/// Runs `lone`. Returns the exit status.
+pub fn run_lone<R: AllocGlobal + Files + Input + Print + Eprint>(
     rt: &R,
     matches: &ArgMatches<'_>,
 ) -> u8 {

@@ -1,18 +1,20 @@
 //! The numbers that an option may have.
+ghost use Rattle.std.specs.Prelude.{◌≡◌};
+ghost use Rattle.command_line.specs.Ranges as spec;
 
 use std::fmt;
 
 /// The highest port.
-pub(crate) const LAST_PORT: u64 = 65_535;
+pub const LAST_PORT: u64 = 65_535;
 
 /// 2^40 and 2^63, which are written so.
-pub(crate) const TWO_TO_40: u64 = 1 << 40;
+pub const TWO_TO_40: u64 = 1 << 40;
 
-pub(crate) const TWO_TO_63: u64 = 1 << 63;
+pub const TWO_TO_63: u64 = 1 << 63;
 
 /// The numbers that an option may have.
 #[derive(Clone, Copy)]
-pub(crate) enum Range {
+pub enum Range {
     /// From the first of these to the second.
     Between(u64, u64),
     /// The ports below those of the nodes: node n's is the port n above it.
@@ -23,7 +25,9 @@ pub(crate) enum Range {
 
 impl Range {
     /// The lowest number and the highest one. Nothing if they depend on the number of nodes, which isn't given.
-    pub(crate) fn ends(self, nodes: Option<u64>) -> Option<(u64, u64)> {
+    pub fn ends(self, nodes: Option<u64>) -> Option<(u64, u64)>
+        ensures { result ≡ spec.ends self nodes }
+    {
         match (self, nodes) {
             (Range::Between(low, high), _) => Some((low, high)),
             (Range::BelowNodes, Some(nodes)) => Some((0, LAST_PORT.saturating_sub(nodes))),
@@ -35,7 +39,7 @@ impl Range {
 
 /// The highest number that an option may have, as it is written.
 #[derive(Clone, Copy, Debug)]
-pub(crate) struct Bound(pub u64);
+pub struct Bound(pub u64);
 
 impl fmt::Display for Bound {
     fn fmt<W: fmt::Write>(&self, f: &mut fmt::Formatter<W>) -> fmt::Result {

@@ -7,7 +7,7 @@ use thiserror::Error;
 
 /// Why a file can't be read.
 #[derive(Clone, Copy, Debug, PartialEq, Eq, Error)]
-pub(crate) enum Unread {
+pub enum Unread {
     #[error("no such file")]
     Absent,
     #[error("permission denied")]
@@ -28,7 +28,7 @@ impl Unread {
 
     /// Why the file of this path can't be read, if that is known. Only an ordinary file is opened: who opens a pipe has an effect on
     /// whoever writes to it.
-    pub(crate) fn look<R: Files>(rt: &R, path: &str) -> Option<Self> {
+    pub fn look<R: Files>(rt: &R, path: &str) -> Option<Self> {
         match fs::metadata(rt, path) {
             Ok(found) if found.is_dir() => Some(Unread::Folder),
             Ok(found) if found.is_file() => Self::open(rt, path),

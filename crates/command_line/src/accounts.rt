@@ -10,7 +10,7 @@ use std::rt::Files;
 const LARGEST_ACCOUNTS: u64 = 64 << 20;
 
 /// The accounts of this file. `Value` if it is too large.
-pub(crate) fn accounts_in<R: AllocGlobal + Files<File = File>>(
+pub fn accounts_in<R: AllocGlobal + Files<File = File>>(
     rt: &R,
     path: &str,
 ) -> Result<Accounts, Fault> {

@@ -1,5 +1,8 @@
 //! `maildropd sim`.
 
+use crate::kept_reader::KeptReader;
+use crate::mistake::hint;
+use crate::script_lines::mistake_in_line;
 use clap::{Command, Error};
 use simulator::sim_run;
 use std::alloc::Global;
@@ -35,7 +38,8 @@ prints
   node 1 performed 1
   slot 1 alice 1/1 mail";
 
-pub(crate) fn sim<'a>(alloc: Global) -> Result<Command<'a>, Error> {
+/// The command `sim` of the command line.
+pub fn sim<'a>(alloc: Global) -> Result<Command<'a>, Error> {
     let sim = Command::new(alloc, "sim")
         .about(
             "Plays a script of messages, crashes and mail clients against a service, from standard input",
@@ -44,6 +48,12 @@ pub(crate) fn sim<'a>(alloc: Global) -> Result<Command<'a>, Error> {
     Ok(sim)
 }
 
-pub(crate) fn run_sim<R: AllocGlobal + Input + Print + Eprint>(rt: &R) -> u8 {
-    sim_run(rt, &mut rt.reader(), &mut io::writer(rt))
+/// Runs `sim`. Returns the exit status.
+pub fn run_sim<R: AllocGlobal + Input + Print + Eprint>(rt: &R) -> u8 {
+    let mut reader = KeptReader::new(rt.alloc(), rt.reader());
+    let end = sim_run(rt, &mut reader, &mut io::writer(rt));
+    if let Some(number) = end.line {
+        hint(rt, reader.line(number).map(mistake_in_line));
+    }
+    end.status
 }
