@@ -313,6 +313,23 @@ def data_folders(fixture):
 
 
 @MISTAKES.test
+def a_data_folder_that_cannot_be_read(fixture):
+    """Only the newest segment is read."""
+    expect_equal(fixture.run("begin", "--data", "mail").status, 0, "begin")
+    os.mkdir(fixture.path("mail/00000009.log"))
+    fixture.file("accounts", "alice pass s\n")
+    words = ["serve", *words_of({**RIGHT, "accounts": "accounts", "data": "mail"})]
+    expect_mistake(fixture, words, 1, READ, "cannot read mail/00000009.log: it is a folder")
+    ran = fixture.run(*words, "--check")
+    expect_equal((ran.status, ran.errors), (1, lines(READ, "cannot read mail/00000009.log: it is a folder")), "a look only")
+    if os.geteuid() != 0:
+        os.rmdir(fixture.path("mail/00000009.log"))
+        os.chmod(fixture.path("mail"), 0)
+        expect_mistake(fixture, words, 1, READ, "cannot read mail: permission denied")
+        os.chmod(fixture.path("mail"), 0o700)
+
+
+@MISTAKES.test
 def a_port_of_clients(fixture):
     """`ctl` prints what it was sent, and says whose port it is."""
     service = serve(fixture)

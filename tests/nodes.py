@@ -13,6 +13,7 @@ NODES = Group("nodes")
 GROUPS = [NODES]
 
 MORE_ACCOUNTS = ACCOUNTS + "zoe pass s5\n"
+IN_USE = b"maildropd: the port is in use, given twice or forbidden, or this machine hasn't the address\n"
 # Unlike the default, so that a process that ignores it has other settings.
 WINDOW = 7
 # What a client sends that mistakes the port for another one.
@@ -179,7 +180,7 @@ def a_node_starts_once(fixture):
         nodes.start(number).expect_end(b"", 2, text)
     nodes = Nodes(fixture, all_with(ACCOUNTS, 3), mark)
     listener = fixture.listen(nodes.ctl + 3)
-    nodes.start(3).expect_end(b"", 1, b"maildropd: cannot listen on 127.0.0.1:%d\n" % (nodes.ctl + 3))
+    nodes.start(3).expect_end(b"", 1, b"maildropd: cannot listen on 127.0.0.1:%d\n" % (nodes.ctl + 3) + IN_USE)
     listener.close()
     nodes.begin()
     nodes.stop()

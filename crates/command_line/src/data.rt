@@ -2,6 +2,7 @@
 
 use crate::arguments::{Choice, Kind, Presence, text_of, with_options};
 use crate::mistake::{Mistake, hint};
+use crate::unread::Unread;
 use clap::{Arg, ArgAction, ArgMatches, Command, Error};
 use maildrop::{Kept, Message, Name};
 use mboxrd::write;
@@ -19,6 +20,9 @@ use store::{DataFolder, Found, Report, StoreFault, check, read_newest};
 
 /// The line that begins each exported message.
 const FROM_LINE: &[u8] = b"From maildropd Thu Jan  1 00:00:00 1970";
+
+/// What the name of a segment's file ends with.
+const SEGMENT_END: &str = ".log";
 
 /// The status after any fault of a folder.
 const FAILED: u8 = 1;
@@ -97,6 +101,37 @@ pub fn mistake_in_folder<'a, R: AllocGlobal + Files + Copy>(
     } else {
         None
     }
+}
+
+/// The number of the segment whose file has this name, if it is one.
+fn segment_of(name: &str) -> Option<u64> {
+    name.strip_suffix(SEGMENT_END)?.parse::<u64>().ok()
+}
+
+/// The number of the newest segment in the folder of this path, by its name. Nothing if there is none, or the folder can't be read.
+fn newest_in<R: AllocGlobal + Files + Copy>(rt: &R, path: &str) -> Option<u64> {
+    let mut newest = 0;
+    for entry in fs::read_dir(rt, path).ok()? {
+        let entry = entry.ok()?;
+        if let Some(number) = segment_of(entry.file_name()) {
+            newest = newest.max(number);
+        }
+    }
+    (newest > 0).then_some(newest)
+}
+
+/// Why the data folder of this path, or its newest segment, can't be read, if that is known.
+pub fn mistake_in_reading<'a, R: AllocGlobal + Files + Copy>(
+    rt: &R,
+    path: &'a str,
+) -> Option<Mistake<'a>> {
+    if let Err(error) = fs::read_dir(rt, path) {
+        return Some(Mistake::CannotRead(path, Unread::of(&error)?));
+    }
+    let number = newest_in(rt, path)?;
+    let file = format!(in rt.alloc(); "{path}/{number:08}{SEGMENT_END}").ok()?;
+    let cause = Unread::look(rt, file.as_str())?;
+    Some(Mistake::CannotReadSegment(path, number, cause))
 }
 
 /// Which mistake led to a fault of a data folder, if that is known.

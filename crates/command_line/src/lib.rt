@@ -31,8 +31,8 @@ pub use arguments::{
 pub use config::{Config, ConfigFault, config_of, with_config, words_of_serve};
 pub use ctl_place::option_by_environment;
 pub use data::{
-    begin_command, check_command, export_command, mistake_in_folder, refuse, run_begin, run_check,
-    run_export,
+    begin_command, check_command, export_command, mistake_in_folder, mistake_in_reading, refuse,
+    run_begin, run_check, run_export,
 };
 pub use lone::{lone, run_lone};
 pub use mending::{mend_command, run_mend};

@@ -52,6 +52,9 @@ pub enum Mistake<'a> {
     LargeAccounts,
     #[error("cannot read {0}: {1}")]
     CannotRead(&'a str, Unread),
+    /// The segment of this number, in this folder.
+    #[error("cannot read {0}/{1:08}.log: {2}")]
+    CannotReadSegment(&'a str, u64, Unread),
     #[error("{0} is no mailbox file: its first line doesn't begin with \"From \"")]
     NoMailbox(&'a str),
     #[error("make it once: maildropd begin --data {0}")]

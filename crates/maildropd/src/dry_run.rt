@@ -6,8 +6,8 @@ use crate::serve_options::OPTIONS;
 use clap::ArgMatches;
 use clap::parser::ValueSource;
 use command_line::{
-    Choice, Config, Mistake, Presence, Unread, accounts_in, hint, optional_number_of,
-    optional_text_of, text_of,
+    Choice, Config, Mistake, Presence, Unread, accounts_in, hint, mistake_in_reading,
+    optional_number_of, optional_text_of, text_of,
 };
 use ports::{Fault, say};
 use service::{ServeOptions, fault_of_store};
@@ -121,7 +121,10 @@ fn mistake_of<'a, R: AllocGlobal + Files + Copy>(
     match fault {
         Fault::Read => {
             let path = text_of(matches, "accounts");
-            Some(Mistake::CannotRead(path, Unread::look(rt, path)?))
+            match Unread::look(rt, path) {
+                Some(cause) => Some(Mistake::CannotRead(path, cause)),
+                None => mistake_in_reading(rt, optional_text_of(matches, "data")?),
+            }
         }
         _ => mistake_behind(rt, matches, fault),
     }

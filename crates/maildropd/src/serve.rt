@@ -5,8 +5,8 @@ use crate::serve_faults::mistake_behind;
 use crate::serve_options::{on_fault_of, sync_of};
 use clap::ArgMatches;
 use command_line::{
-    Config, Mistake, Unread, bytes_of, hint, number_of, optional_number_of, optional_text_of,
-    refuse, text_of,
+    Config, Mistake, Unread, bytes_of, hint, mistake_in_reading, number_of, optional_number_of,
+    optional_text_of, refuse, text_of,
 };
 use ports::Fault;
 use service::{NodeOptions, ServeOptions, serve_node_run, serve_run};
@@ -146,10 +146,13 @@ fn mistake_after<'a, R: AllocGlobal + Files + Copy>(
     if fault != Fault::Read {
         return mistake_behind(rt, matches, fault);
     }
-    let (path, cause) = (text_of(matches, "accounts"), unread?);
+    let path = text_of(matches, "accounts");
     // It may have come and gone meanwhile.
-    let is_unread = Unread::look(rt, path) == Some(cause);
-    is_unread.then_some(Mistake::CannotRead(path, cause))
+    match (unread, Unread::look(rt, path)) {
+        (Some(before), Some(now)) if before == now => Some(Mistake::CannotRead(path, now)),
+        (None, None) => mistake_in_reading(rt, optional_text_of(matches, "data")?),
+        _ => None,
+    }
 }
 
 /// Runs `serve`. Returns the exit status.
