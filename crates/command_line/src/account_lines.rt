@@ -121,10 +121,7 @@ fn mistake_in<R: AllocGlobal>(rt: &R, bytes: &[u8]) -> Option<Mistake<'static>> 
 }
 
 /// Why a service refuses the accounts file of this path, if that is known. Only an ordinary file can be read twice.
-pub fn mistake_in_accounts<R: AllocGlobal + Files>(
-    rt: &R,
-    path: &str,
-) -> Option<Mistake<'static>> {
+pub fn mistake_in_accounts<R: AllocGlobal + Files>(rt: &R, path: &str) -> Option<Mistake<'static>> {
     match fs::metadata(rt, path) {
         Ok(found) if found.is_file() => {}
         _ => return None,

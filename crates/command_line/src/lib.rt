@@ -7,6 +7,7 @@ mod arguments;
 mod config;
 mod ctl_place;
 mod data;
+mod form;
 mod greeting_writer;
 mod kept_reader;
 mod lone;

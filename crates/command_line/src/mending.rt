@@ -281,9 +281,10 @@ fn apply<R: AllocGlobal + Files<File = File> + RandomSource + Clock + Copy + Pri
 }
 
 /// Runs `mend`. Returns the exit status.
-pub fn run_mend<
-    R: AllocGlobal + Files<File = File> + RandomSource + Clock + Copy + Print + Eprint,
->(rt: &R, matches: &ArgMatches<'_>) -> u8 {
+pub fn run_mend<R: AllocGlobal + Files<File = File> + RandomSource + Clock + Copy + Print + Eprint>(
+    rt: &R,
+    matches: &ArgMatches<'_>,
+) -> u8 {
     let path = text_of(matches, "data");
     let mending = match Mending::open(rt, rt.alloc(), path) {
         Ok(mending) => mending,

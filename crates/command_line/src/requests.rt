@@ -1,5 +1,6 @@
 //! The requests of `maildropd ctl`.
 
+use crate::form::{Form, usage_of};
 use crate::mistake::Mistake;
 use script::{WordsFault, instruction_of};
 use std::alloc::Global;
@@ -42,13 +43,7 @@ Examples:
   maildropd ctl --port 11999 --wait stop
   maildropd ctl --socket /run/maildropd/ctl stop now";
 
-/// How a request is written, with the numbers that it takes.
-struct Form {
-    word: &'static str,
-    usage: &'static str,
-}
-
-/// The requests, in the order of the help text.
+/// The requests, with the numbers that they take, in the order of the help text.
 const FORMS: &[Form] = &[
     Form {
         word: "deliver",
@@ -106,12 +101,10 @@ const FORMS: &[Form] = &[
 
 /// What is wrong with words that are no request, by the first of them.
 fn mistake_by(word: &str) -> Mistake<'_> {
-    for form in FORMS {
-        if form.word == word {
-            return Mistake::Usage(form.usage);
-        }
+    match usage_of(FORMS, word) {
+        Some(usage) => Mistake::Usage(usage),
+        None => Mistake::NoSuchRequest(word),
     }
-    Mistake::NoSuchRequest(word)
 }
 
 /// What is wrong with the words of a request, if they are none.

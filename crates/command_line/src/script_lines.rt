@@ -1,54 +1,102 @@
 //! What is wrong with a line of a script.
 
+use crate::form::{Form, usage_of};
 use crate::mistake::Mistake;
 use std::str::from_utf8;
 
 /// The longest first word that is shown.
 const LONGEST_WORD: usize = 40;
 
-/// A statement of the language, as it is written.
-struct Statement {
-    word: &'static str,
-    usage: &'static str,
-    /// Whether it comes before the first command.
-    is_setting: bool,
-}
+/// The settings, in the order of `--help`.
+const SETTINGS: &[Form] = &[
+    Form {
+        word: "nodes",
+        usage: "nodes COUNT, COUNT 1 to 9",
+    },
+    Form {
+        word: "limits",
+        usage: "limits MESSAGES OCTETS IDS",
+    },
+    Form {
+        word: "window",
+        usage: "window COUNT, COUNT 1 to 1000",
+    },
+    Form {
+        word: "host",
+        usage: "host NAME",
+    },
+    Form {
+        word: "account",
+        usage: "account NAME METHOD SECRET, METHOD pass or apop, each NAME once",
+    },
+];
 
-const fn setting(word: &'static str, usage: &'static str) -> Statement {
-    Statement { word, usage, is_setting: true }
-}
-
-const fn command(word: &'static str, usage: &'static str) -> Statement {
-    Statement { word, usage, is_setting: false }
-}
-
-/// All statements, in the order of `--help`.
-const STATEMENTS: &[Statement] = &[
-    setting("nodes", "nodes COUNT, COUNT 1 to 9"),
-    setting("limits", "limits MESSAGES OCTETS IDS"),
-    setting("window", "window COUNT, COUNT 1 to 1000"),
-    setting("host", "host NAME"),
-    setting("account", "account NAME METHOD SECRET, METHOD pass or apop, each NAME once"),
-    command("mail", "mail NODE USER TEXT"),
-    command("keyed", "keyed NODE USER KEY TEXT"),
-    command("break", "break NODE USER"),
-    command("connect", "connect S NODE NONCE, S an s and a number"),
-    command("line", "line S TEXT, S an s and a number"),
-    command("hangup", "hangup S, S an s and a number"),
-    command("tick", "tick NODE"),
-    command("campaign", "campaign NODE"),
-    command("crash", "crash NODE"),
-    command("settle", "settle LIMIT"),
-    command("storm", "storm COPIES LIMIT"),
-    command("deliver", "deliver FROM TO KIND, KIND propose, p1a, p1b, p2a, p2b, decision or ask"),
-    command("lose", "lose"),
-    command("order", "order NODE"),
+/// The commands, in the order of `--help`.
+const COMMANDS: &[Form] = &[
+    Form {
+        word: "mail",
+        usage: "mail NODE USER TEXT",
+    },
+    Form {
+        word: "keyed",
+        usage: "keyed NODE USER KEY TEXT",
+    },
+    Form {
+        word: "break",
+        usage: "break NODE USER",
+    },
+    Form {
+        word: "connect",
+        usage: "connect S NODE NONCE, S an s and a number",
+    },
+    Form {
+        word: "line",
+        usage: "line S TEXT, S an s and a number",
+    },
+    Form {
+        word: "hangup",
+        usage: "hangup S, S an s and a number",
+    },
+    Form {
+        word: "tick",
+        usage: "tick NODE",
+    },
+    Form {
+        word: "campaign",
+        usage: "campaign NODE",
+    },
+    Form {
+        word: "crash",
+        usage: "crash NODE",
+    },
+    Form {
+        word: "settle",
+        usage: "settle LIMIT",
+    },
+    Form {
+        word: "storm",
+        usage: "storm COPIES LIMIT",
+    },
+    Form {
+        word: "deliver",
+        usage: "deliver FROM TO KIND, KIND propose, p1a, p1b, p2a, p2b, decision or ask",
+    },
+    Form {
+        word: "lose",
+        usage: "lose",
+    },
+    Form {
+        word: "order",
+        usage: "order NODE",
+    },
 ];
 
 /// The first word of a line, if it can be shown.
 fn word_of(line: &[u8]) -> Option<&str> {
     let word = line.split(|byte| *byte == b' ').next()?;
-    let is_shown = !word.is_empty() && word.len() <= LONGEST_WORD && word.iter().all(|byte| byte.is_ascii_graphic());
+    let is_shown = !word.is_empty()
+        && word.len() <= LONGEST_WORD
+        && word.iter().all(|byte| byte.is_ascii_graphic());
     if is_shown { from_utf8(word).ok() } else { None }
 }
 
@@ -57,9 +105,9 @@ pub(crate) fn mistake_in_line(line: &[u8]) -> Mistake<'_> {
     let Some(word) = word_of(line) else {
         return Mistake::NoCommand;
     };
-    match STATEMENTS.iter().find(|statement| statement.word == word) {
-        None => Mistake::NoSuchCommand(word),
-        Some(statement) if statement.is_setting => Mistake::Setting(statement.usage),
-        Some(statement) => Mistake::Usage(statement.usage),
+    match (usage_of(SETTINGS, word), usage_of(COMMANDS, word)) {
+        (Some(usage), _) => Mistake::Setting(usage),
+        (None, Some(usage)) => Mistake::Usage(usage),
+        (None, None) => Mistake::NoSuchCommand(word),
     }
 }

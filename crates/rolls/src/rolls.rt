@@ -292,12 +292,7 @@ impl Rolls {
     }
 
     /// Waits at most so long until a node of a later epoch leads. Returns whether one does.
-    pub fn follows_within<R: Wait + Clock>(
-        &self,
-        rt: &R,
-        epoch: u64,
-        time: Duration,
-    ) -> bool {
+    pub fn follows_within<R: Wait + Clock>(&self, rt: &R, epoch: u64, time: Duration) -> bool {
         let guard = self.progress.lock(rt);
         let (progress, _) = self
             .changes

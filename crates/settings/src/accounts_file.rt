@@ -48,11 +48,7 @@ pub fn accounts_of<R: Files>(rt: &R, alloc: Global, path: &str) -> Result<Accoun
 
 /// Returns the accounts of the file of this path, as `accounts_of` does. `NoAccounts` if it has none: it may be one that is being
 /// written.
-pub fn some_accounts_of<R: Files>(
-    rt: &R,
-    alloc: Global,
-    path: &str,
-) -> Result<Arc<Accounts>, Fault>
+pub fn some_accounts_of<R: Files>(rt: &R, alloc: Global, path: &str) -> Result<Arc<Accounts>, Fault>
     ensures { IfOk result (λ accounts. 0 < length (map name_of (arc_value accounts))) }
 {
     let accounts = accounts_of(rt, alloc, path)?;
