@@ -189,5 +189,7 @@ def a_node_starts_once(fixture):
 
 @NODES.test
 def a_mark_has_a_folder(fixture):
-    nodes = Nodes(fixture, [], fixture.path("absent"))
-    nodes.start(1).expect_end(b"", 1, b"maildropd: cannot make the node's mark\n")
+    absent = fixture.path("absent")
+    nodes = Nodes(fixture, [], absent)
+    mistake = f"maildropd: no file can be made in {absent}\n"
+    nodes.start(1).expect_end(b"", 1, b"maildropd: cannot make the node's mark\n" + mistake.encode())
