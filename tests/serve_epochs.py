@@ -189,6 +189,23 @@ def an_epoch_ends_after_its_bytes(fixture):
     service.stop(b"epoch 1: audit ok\naudit ok\n")
 
 
+def stat(service, name):
+    lines = service.ctl("stats").output.decode().split("\n")
+    return next(int(line.split()[1]) for line in lines if line.startswith(f"{name} "))
+
+
+@EPOCHS.test
+def short_lines_count_with_their_room(fixture):
+    """A line that a session sent is kept with 8 bytes beside its own."""
+    service = serve(fixture)
+    count = 20_000
+    fixture.answer(service.node(1), ALICE + "NOOP\r\n" * count + QUIT, shuts=False)
+    wait_until(lambda: stat(service, "sessions_served") == 1, "the session is counted")
+    kept = stat(service, "epoch_bytes")
+    expect(kept >= count * (len("NOOP") + 8), f"{kept} bytes for {count} lines")
+    service.stop()
+
+
 @EPOCHS.test
 def only_the_last_keys_stay(fixture):
     """Of two keys one stays at a new epoch, so what comes again under the other is stored again."""
