@@ -35,12 +35,12 @@ pub use data::{
     begin_command, check_command, export_command, mistake_in_folder, mistake_in_reading, refuse,
     run_begin, run_check, run_export,
 };
-pub use lone::{lone, run_lone};
+pub use lone::{lone_command, run_lone};
 pub use mending::{mend_command, run_mend};
 pub use mistake::{Mistake, hint};
-pub use operator::{ctl, run_ctl};
+pub use operator::{ctl_command, run_ctl};
 pub use put_words::status_without_memory;
 pub use range::{Bound, LAST_PORT, Range, TWO_TO_40, TWO_TO_63};
 pub use settings_file::LineMistake;
-pub use sim::{run_sim, sim};
+pub use sim::{run_sim, sim_command};
 pub use unread::Unread;

@@ -82,7 +82,7 @@ impl ReadOn for Mailbox {
 }
 
 /// The command `lone` of the command line.
-pub fn lone<'a>(alloc: Global) -> Result<Command<'a>, Error> {
+pub fn lone_command<'a>(alloc: Global) -> Result<Command<'a>, Error> {
     let lone = Command::new(alloc, "lone")
         .about("Serves one POP3 session over one user's maildrop on standard input and output")
         .after_help(EXAMPLE);

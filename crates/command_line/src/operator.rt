@@ -43,7 +43,7 @@ fn places<'a>(alloc: Global) -> Result<(Arg<'a>, Arg<'a>), Error> {
 }
 
 /// The command `ctl` of the command line.
-pub fn ctl<'a>(alloc: Global) -> Result<Command<'a>, Error> {
+pub fn ctl_command<'a>(alloc: Global) -> Result<Command<'a>, Error> {
     let words = Arg::new(alloc, "words")
         .value_name("REQUEST")
         .help("The request, as below")

@@ -39,7 +39,7 @@ prints
   slot 1 alice 1/1 mail";
 
 /// The command `sim` of the command line.
-pub fn sim<'a>(alloc: Global) -> Result<Command<'a>, Error> {
+pub fn sim_command<'a>(alloc: Global) -> Result<Command<'a>, Error> {
     let sim = Command::new(alloc, "sim")
         .about(
             "Plays a script of messages, crashes and mail clients against a service, from standard input",

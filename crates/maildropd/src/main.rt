@@ -12,9 +12,9 @@ use crate::serve_options::{OPTIONS, serve, serve_in_part};
 use clap::error::ErrorKind;
 use clap::{Command, Error};
 use command_line::{
-    Config, begin_command, check_command, config_of, ctl, export_command, lone, mend_command,
-    option_by_environment, run_begin, run_check, run_ctl, run_export, run_lone, run_mend, run_sim,
-    sim, status_without_memory, words_of_serve,
+    Config, begin_command, check_command, config_of, ctl_command, export_command, lone_command,
+    mend_command, option_by_environment, run_begin, run_check, run_ctl, run_export, run_lone,
+    run_mend, run_sim, sim_command, status_without_memory, words_of_serve,
 };
 use service::VERSION;
 use std::alloc::Global;
@@ -34,10 +34,10 @@ fn command<'a>(alloc: Global) -> Result<Command<'a>, Error> {
         .about("A POP3 server (RFC 1939), each function of which is proved to meet its contract")
         .version(VERSION)
         .subcommand_required(true)
-        .subcommand(lone(alloc)?)?
-        .subcommand(sim(alloc)?)?
+        .subcommand(lone_command(alloc)?)?
+        .subcommand(sim_command(alloc)?)?
         .subcommand(serve(alloc)?)?
-        .subcommand(ctl(alloc)?)?
+        .subcommand(ctl_command(alloc)?)?
         .subcommand(begin_command(alloc)?)?
         .subcommand(check_command(alloc)?)?
         .subcommand(export_command(alloc)?)?
