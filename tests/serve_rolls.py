@@ -4,8 +4,9 @@ import contextlib
 import itertools
 import os
 import resource
+import time
 
-from tests.expectations import expect, expect_equal, wait_until
+from tests.expectations import Failed, expect, expect_equal, wait_until
 from tests.groups import Group
 from tests.services import serve
 from tests.texts import ALICE, BYE, EMPTY, QUIT, SHORT
@@ -21,6 +22,8 @@ MEANWHILE = [
     ("locks\n", b"user alice node 1 ticket 2\nend\n"), ("stats\n", b"\nepoch 1\n"), ("status\n", b"node 3 up passive slot "),
     ("sessions\n", b" user alice seconds "), ("users\n", b"user alice messages 1 octets 900002 next_id 2\n"),
 ]
+# Within how many seconds an operator's line must come, and how often it is tried to be as fast with two rolls between its parts.
+LINE_SECONDS, TRIES = 10, 5
 # How a socket that listens is shown in /proc/net/tcp.
 LISTENS = "0A"
 
@@ -28,6 +31,19 @@ LISTENS = "0A"
 @ROLLS.test
 def lines_are_carried_over(fixture):
     """Who hasn't said all as an epoch ends says the rest in the next one, or in the one after that."""
+    for _ in range(TRIES):
+        begun = time.monotonic()
+        try:
+            carry_over(fixture)
+            return
+        except Failed:
+            # On a busy machine the rolls may take longer than a line may.
+            if time.monotonic() - begun < LINE_SECONDS:
+                raise
+    raise Failed(f"in {TRIES} tries two rolls took {LINE_SECONDS} s")
+
+
+def carry_over(fixture):
     service = serve(fixture)
     halves = [
         ("put 1 alice", " 2 monday\nhi", "op alice 1/1 stored 1\nend\n"),
